@@ -1,0 +1,60 @@
+-- Document 01, "Games with known results": games A to I, the changes made to them, and the lines printed. Assumes nothing.
+use Prim.Native.Nat.{ℕ, zero, suc, _+_, _^_}
+use mathlib.Core.List.{List, [], _∷_, map}
+use lib.ListN.{replicate}
+use Rattle.plain.specs.Refusals.{Load}
+use Rattle.plain.specs.Machine.{Change, add, cut, Call, Line, game, round, empty, no}
+
+-- a game, the changes made to it in turn, and the lines printed
+pub record Known : Type 0 where
+  pub load : Load
+  pub changes : List Change
+  pub lines : List Line
+
+-- the word that marks the states of the list, each below 64
+unfoldable pub wordOf : List ℕ → ℕ
+wordOf [] = 0
+wordOf (s ∷ ss) = 2 ^ s + wordOf ss
+
+-- N states, start 0, the paying states, the moves as numbers
+unfoldable pub known : ℕ → List ℕ → List ℕ → List Change → List Line → Known
+known n paying numbers cs ls = record {
+  load = record { size = n; start = 0; words = wordOf paying ∷ replicate 7 0; numbers = numbers };
+  changes = cs;
+  lines = ls;
+}
+
+-- the list lent for the walk is the box's own
+unfoldable pub lent : Change → Call
+lent c = record { change = c; room = 512 }
+
+unfoldable pub games : List Known
+games =
+    -- A
+    known 4 (2 ∷ []) (0 ∷ 1 ∷ 1 ∷ 2 ∷ []) (add (2, 1) ∷ add (2, 3) ∷ cut (1, 2) ∷ cut (1, 2) ∷ add (2, 0) ∷ [])
+    (game 4 2 1
+    ∷ empty 2 0
+    ∷ round 2 2 1 2 (0 ∷ 1 ∷ 2 ∷ [])
+    ∷ round 3 2 1 2 (0 ∷ 1 ∷ 2 ∷ [])
+    ∷ empty 0 1
+    ∷ no 10
+    ∷ empty 0 1
+    ∷ [])
+    -- B
+    ∷ known 1 [] [] [] (game 1 0 0 ∷ empty 0 0 ∷ [])
+    -- C
+    ∷ known 2 (1 ∷ []) (0 ∷ 1 ∷ 1 ∷ 0 ∷ []) [] (game 2 2 1 ∷ round 3 0 0 2 (0 ∷ 1 ∷ []) ∷ [])
+    -- D
+    ∷ known 2 (0 ∷ []) (0 ∷ 1 ∷ 1 ∷ 0 ∷ []) [] (game 2 2 1 ∷ round 4 0 0 2 (0 ∷ 1 ∷ []) ∷ [])
+    -- E
+    ∷ known 2 [] (0 ∷ 1 ∷ 1 ∷ 0 ∷ []) [] (game 2 2 0 ∷ empty 2 0 ∷ [])
+    -- F
+    ∷ known 3 (0 ∷ []) (0 ∷ 1 ∷ 1 ∷ 2 ∷ 2 ∷ 1 ∷ []) [] (game 3 3 1 ∷ empty 6 0 ∷ [])
+    -- G
+    ∷ known 3 (1 ∷ []) (1 ∷ 2 ∷ 2 ∷ 1 ∷ []) [] (game 3 2 1 ∷ empty 0 0 ∷ [])
+    -- H
+    ∷ known 3 (1 ∷ 2 ∷ []) (0 ∷ 1 ∷ 0 ∷ 2 ∷ 1 ∷ 0 ∷ 2 ∷ 0 ∷ []) (cut (0, 1) ∷ add (0, 1) ∷ [])
+    (game 3 4 2 ∷ round 3 0 0 2 (0 ∷ 1 ∷ []) ∷ round 3 0 0 2 (0 ∷ 2 ∷ []) ∷ round 3 0 0 2 (0 ∷ 2 ∷ []) ∷ [])
+    -- I
+    ∷ known 3 (0 ∷ 1 ∷ []) (0 ∷ 1 ∷ 1 ∷ 2 ∷ 2 ∷ 1 ∷ []) [] (game 3 3 2 ∷ round 5 0 1 2 (0 ∷ 1 ∷ 2 ∷ []) ∷ [])
+    ∷ []

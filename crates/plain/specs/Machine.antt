@@ -1,0 +1,119 @@
+-- Document 01, "The plain table" and "Load, add, cut": what each call answers, and what it leaves. Assumes nothing.
+use Prim.Native.Nat.{ℕ, zero, suc, _+_, _-_}
+use mathlib.Core.Bool.{Bool, true, false, not}
+use mathlib.Core.List.{List, [], _∷_, _++_}
+use lib.ListN.{length, drop}
+use Rattle.plain.specs.Lists.{filter}
+use Rattle.plain.specs.Search.{Edge, Config, Verdict, none, lasso, unfinished, verdict, count}
+use Rattle.plain.specs.Table.{Table, final, firstMeeting, acceptingCount}
+use Rattle.plain.specs.Refusals.{Trial, accepted, refused, Load, loadTrial, addTrial, cutTrial, pairs, sameEdge}
+
+-- A change of a session. Tickets of document 02 bring more kinds.
+pub data Change : Type 0 where
+  add : Edge → Change
+  cut : Edge → Change
+
+-- the states that it names: "the state that the move leaves"
+unfoldable pub named : Change → List ℕ
+named (add e) = e .0 ∷ []
+named (cut e) = e .0 ∷ []
+
+-- "An accepted load sets these as given, its moves in their order."
+unfoldable pub tableOf : Load → Table
+tableOf l = record { size = l .size; start = l .start; words = l .words; edges = pairs (l .numbers) }
+
+abbrev pub withEdges : Table → List Edge → Table
+withEdges t es = record { size = t .size; start = t .start; words = t .words; edges = es }
+
+-- "takes its move out; the others keep their order"
+unfoldable pub without : Edge → List Edge → List Edge
+without e es = filter (λ f. not (sameEdge e f)) es
+
+-- "An accepted add puts its move at the end. An accepted cut takes its move out"
+unfoldable pub apply : Change → Table → Table
+apply (add e) t = withEdges t (t .edges ++ (e ∷ []))
+apply (cut e) t = withEdges t (without e (t .edges))
+
+unfoldable pub changeTrial : Change → Table → ℕ → Trial
+changeTrial (add e) t room = addTrial t e room
+changeTrial (cut e) t room = cutTrial t e room
+
+-- "Each answers with a verdict, the looks spent and the looks kept"; a refused call with its number.
+pub data Answer : Type 0 where
+  refusal : ℕ → Answer
+  answer : Verdict → ℕ → ℕ → Answer
+
+-- "kept is the looks of the plain search on the new table before it first meets the state that the move leaves, or all its looks"
+unfoldable pub kept : List ℕ → Table → ℕ
+kept states t = count (firstMeeting states t)
+
+-- "After a load, kept is 0."
+unfoldable pub loadAnswer : Trial → Table → Answer
+loadAnswer accepted t = answer (verdict (final t)) (count (final t)) 0
+loadAnswer (refused n) t = refusal n
+
+-- "spent is the rest": t is the table as the change leaves it
+unfoldable pub changeAnswer : Trial → List ℕ → Table → Answer
+changeAnswer accepted states t = answer (verdict (final t)) (count (final t) - kept states t) (kept states t)
+changeAnswer (refused n) states t = refusal n
+
+-- "a refused call leaves it as it was"
+abbrev pub after : Trial → Table → Table → Table
+after accepted new old = new
+after (refused n) new old = old
+
+-- A call on a session: the change, and "of the list lent for the walk the length alone".
+pub record Call : Type 0 where
+  pub change : Change
+  pub room : ℕ
+
+unfoldable pub trialOf : Call → Table → Trial
+trialOf c t = changeTrial (c .change) t (c .room)
+
+unfoldable pub answerTo : Call → Table → Answer
+answerTo c t = changeAnswer (trialOf c t) (named (c .change)) (apply (c .change) t)
+
+unfoldable pub tableAfter : Call → Table → Table
+tableAfter c t = after (trialOf c t) (apply (c .change) t) t
+
+-- a list of calls, any number of them
+unfoldable pub answers : List Call → Table → List Answer
+answers [] t = []
+answers (c ∷ cs) t = answerTo c t ∷ answers cs (tableAfter c t)
+
+-- What the list lent for the walk then holds: "the stem first, and the round .. behind the stem. Entries after the walk keep their values;
+-- for "none" all do", and no lent list changes on a refusal.
+unfoldable pub written : Answer → List ℕ → List ℕ
+written (refusal n) lent = lent
+written (answer none spent kept) lent = lent
+written (answer (lasso stem cycle) spent kept) lent = stem ++ (cycle ++ drop (length stem + length cycle) lent)
+written (answer unfinished spent kept) lent = lent
+
+-- The output lines of document 01, their fields in the order printed.
+pub data Line : Type 0 where
+  -- N, the count of moves, the count of paying states
+  game : ℕ → ℕ → ℕ → Line
+  -- spent, kept, stem length, round length, the walk
+  round : ℕ → ℕ → ℕ → ℕ → List ℕ → Line
+  -- spent, kept
+  empty : ℕ → ℕ → Line
+  -- the refusal's number
+  no : ℕ → Line
+
+unfoldable pub answerLine : Answer → List Line
+answerLine (refusal n) = no n ∷ []
+answerLine (answer none spent kept) = empty spent kept ∷ []
+answerLine (answer (lasso stem cycle) spent kept) = round spent kept (length stem) (length cycle) (stem ++ cycle) ∷ []
+answerLine (answer unfinished spent kept) = []
+
+unfoldable pub answerLines : List Answer → List Line
+answerLines [] = []
+answerLines (a ∷ rest) = answerLine a ++ answerLines rest
+
+-- the lines of a load and the calls after it; a refused load ends the session
+unfoldable pub transcript : Load → ℕ → List Call → List Line
+transcript l room cs = elim (loadTrial l room) [
+  | accepted ↦ game (l .size) (length (pairs (l .numbers))) (acceptingCount (l .words))
+      ∷ answerLines (loadAnswer accepted (tableOf l) ∷ answers cs (tableOf l))
+  | refused n ↦ no n ∷ []
+]

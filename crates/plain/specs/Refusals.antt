@@ -1,0 +1,106 @@
+-- Document 01, "Turned back": the conditions, each with its sentence, and the order in which they are tried. Assumes nothing.
+use Prim.Native.Nat.{ℕ, zero, suc, _+_, _%_}
+use mathlib.Core.Bool.{Bool, true, false, _&&_, _||_, not}
+use mathlib.Core.List.{List, [], _∷_}
+use lib.Dec.{eqb, ltb, leb}
+use lib.ListN.{length}
+use Rattle.plain.specs.Lists.{any, anyBelow}
+use Rattle.plain.specs.Search.{Edge}
+use Rattle.plain.specs.Table.{Table, accepts}
+
+pub data Trial : Type 0 where
+  accepted : Trial
+  refused : ℕ → Trial
+
+-- "Tried in this order": the number of the first condition that holds
+unfoldable pub firstHeld : List (ℕ × Bool) → Trial
+firstHeld [] = accepted
+firstHeld (c ∷ cs) = elim (c .1) [ true ↦ refused (c .0) | false ↦ firstHeld cs ]
+
+-- the moves of a list of numbers: two numbers each, from and to
+unfoldable pub pairs : List ℕ → List Edge
+pairs [] = []
+pairs (a ∷ []) = []
+pairs (a ∷ b ∷ ns) = (a, b) ∷ pairs ns
+
+unfoldable pub sameEdge : Edge → Edge → Bool
+sameEdge e f = eqb (e .0) (f .0) && eqb (e .1) (f .1)
+
+unfoldable pub present : List Edge → Edge → Bool
+present es e = any (sameEdge e) es
+
+-- 2. "The count of states is 0 or above 512."
+unfoldable pub badSize : ℕ → Bool
+badSize n = eqb n 0 || ltb 512 n
+
+-- 3. "The start state is not below the count of states."
+unfoldable pub badStart : ℕ → ℕ → Bool
+badStart n s = leb n s
+
+-- 4. "A paying mark is set for a number not below the count of states."
+unfoldable pub badMarks : ℕ → List ℕ → Bool
+badMarks n words = anyBelow 512 (λ s. leb n s && accepts words s)
+
+-- 5. "The loaded list has an odd count of numbers or more than 4,096 of them."
+unfoldable pub badCount : List ℕ → Bool
+badCount ns = eqb (length ns % 2) 1 || ltb 4096 (length ns)
+
+-- 6. "A move names a number that is not below the count of states."
+unfoldable pub outside : ℕ → Edge → Bool
+outside n e = leb n (e .0) || leb n (e .1)
+
+-- 7. "A move leads from a state to itself."
+unfoldable pub selfLoop : Edge → Bool
+selfLoop e = eqb (e .0) (e .1)
+
+-- 8. "A move to be loaded .. stands twice in the loaded list."
+unfoldable pub repeated : List Edge → Bool
+repeated [] = false
+repeated (e ∷ es) = present es e || repeated es
+
+-- 9. "An add finds 2,048 moves present."
+unfoldable pub full : List Edge → Bool
+full es = leb 2048 (length es)
+
+-- 11. "The lent list for the walk has fewer entries than the game has states."
+unfoldable pub shortRoom : ℕ → ℕ → Bool
+shortRoom n room = ltb room n
+
+-- the arguments of a load: the count of states, the start state, the paying words, the moves as a list of numbers
+pub record Load : Type 0 where
+  pub size : ℕ
+  pub start : ℕ
+  pub words : List ℕ
+  pub numbers : List ℕ
+
+-- "A load tries 2 to 8 and 11", "each over the whole list before the next"; room is the length of the list lent for the walk
+unfoldable pub loadTrial : Load → ℕ → Trial
+loadTrial l room = firstHeld (
+    (2, badSize (l .size))
+    ∷ (3, badStart (l .size) (l .start))
+    ∷ (4, badMarks (l .size) (l .words))
+    ∷ (5, badCount (l .numbers))
+    ∷ (6, any (outside (l .size)) (pairs (l .numbers)))
+    ∷ (7, any selfLoop (pairs (l .numbers)))
+    ∷ (8, repeated (pairs (l .numbers)))
+    ∷ (11, shortRoom (l .size) room)
+    ∷ [])
+
+-- "an add 6 to 9 and 11"
+unfoldable pub addTrial : Table → Edge → ℕ → Trial
+addTrial t e room = firstHeld (
+    (6, outside (t .size) e)
+    ∷ (7, selfLoop e)
+    ∷ (8, present (t .edges) e)
+    ∷ (9, full (t .edges))
+    ∷ (11, shortRoom (t .size) room)
+    ∷ [])
+
+-- "a cut 6, 7, 10 and 11": 10. "A cut names a move that is not present."
+unfoldable pub cutTrial : Table → Edge → ℕ → Trial
+cutTrial t e room = firstHeld (
+    (6, outside (t .size) e)
+    ∷ (7, selfLoop e)
+    ∷ (10, not (present (t .edges) e))
+    ∷ (11, shortRoom (t .size) room)
+    ∷ [])
