@@ -1,0 +1,81 @@
+-- Runs of edges: joined, split, and kept inside a set that the edges do not leave. Assumes nothing.
+use mathlib.Core.Path.{_≡_, refl, sym, _∙_}
+use mathlib.Core.Logic.{_⊎_, inl, inr, ⊎-elim}
+use mathlib.Core.Bool.{Bool, true, false}
+use mathlib.Core.List.{List, [], _∷_, _++_}
+use Prim.Native.Nat.{ℕ}
+use native.Mathlib.Omega.{arith}
+use Rattle.plain.specs.Lists.{elem, In}
+use Rattle.plain.specs.Search.{Graph}
+use Rattle.plain.specs.Cycles.{Run, AcceptingCycle, Reachable, FreeRound, Lasso}
+use Rattle.plain.proofs.Tests.{in-nil, in-head, in-tail, in-cases, in-left, in-right}
+
+module _ (g : Graph) where
+  pub run-join : (xs ys : List ℕ) (a b c : ℕ) → Run g a xs b → Run g b ys c → Run g a (xs ++ ys) c
+  run-join [] ys a b c r q = rw r q
+  run-join (x ∷ xs) ys a b c r q = (r .0, run-join xs ys x b c (r .1) q)
+
+  pub run-snoc : (xs : List ℕ) (a b c : ℕ) → Run g a xs b → In c (g .successors b) → Run g a (xs ++ (c ∷ [])) c
+  run-snoc xs a b c r i = run-join xs (c ∷ []) a b c r (i, refl)
+
+  -- some run leads from a to b
+  abbrev pub Reach : ℕ → ℕ → Type 0
+  Reach a b = (xs : List ℕ) × Run g a xs b
+
+  pub reach-join : (a b c : ℕ) → Reach a b → Reach b c → Reach a c
+  reach-join a b c r q = (r .0 ++ q .0, run-join (r .0) (q .0) a b c (r .1) (q .1))
+
+  -- a run of one or more edges from a back to a, by its last edge
+  abbrev pub Returns : ℕ → Type 0
+  Returns a = (b : ℕ) × Reach a b × In a (g .successors b)
+
+  last-edge : (xs : List ℕ) (a x b : ℕ) → Run g a (x ∷ xs) b → (c : ℕ) × Reach a c × In b (g .successors c)
+  last-edge [] a x b r = (a, ([], refl), rw (r .1) at (r .0))
+  last-edge (y ∷ xs) a x b r =
+      let q = last-edge xs x y b (r .1) in
+      (q .0, (x ∷ q .1 .0, (r .0, q .1 .1)), q .2)
+
+  -- at a state that a run comes to, it splits into a run of one or more edges, and the rest
+  run-split : (xs : List ℕ) (a b c : ℕ) → Run g a xs b → In c xs → ((y : ℕ) × (ys : List ℕ) × Run g a (y ∷ ys) c) × Reach c b
+  run-split [] a b c r i = absurd (in-nil c i)
+  run-split (x ∷ xs) a b c r i = ⊎-elim
+      (λ e. ((x, [], (r .0, sym e)), (xs, rw e (r .1))))
+      (λ j. let q = run-split xs x b c (r .1) j in ((x, (q .0 .0 ∷ q .0 .1), (r .0, q .0 .2)), q .1))
+      (in-cases c x xs i)
+
+  -- a set that no edge leaves keeps every run inside
+  pub run-inside : (k : List ℕ) → ((x y : ℕ) → In x k → In y (g .successors x) → In y k) → (xs : List ℕ) (a b : ℕ) → Run g a xs b → In a k → In b k
+  run-inside k stays [] a b r i = rw r at i
+  run-inside k stays (x ∷ xs) a b r i = run-inside k stays xs x b (r .1) (stays a x i (r .0))
+
+  pub states-inside : (k : List ℕ) → ((x y : ℕ) → In x k → In y (g .successors x) → In y k) → (xs : List ℕ) (a b : ℕ) → Run g a xs b → In a k
+      → (c : ℕ) → In c (a ∷ xs) → In c k
+  states-inside k stays [] a b r i c j = ⊎-elim (λ e. rw e i) (λ n. absurd (in-nil c n)) (in-cases c a [] j)
+  states-inside k stays (x ∷ xs) a b r i c j =
+      ⊎-elim (λ e. rw e i) (λ n. states-inside k stays xs x b (r .1) (stays a x i (r .0)) c n) (in-cases c a (x ∷ xs) j)
+
+  -- A reachable free round: its accepting state is reachable, and a run leads from it back to it.
+  pub free-payer : (f : FreeRound g) → Reach (g .start) (f .0 .payer) × Returns (f .0 .payer)
+  free-payer (c, r) =
+      let p = run-split (c .first ∷ c .others) (c .origin) (c .origin) (c .payer) (c .closed) (c .passes) in
+      let e = run-split (c .first ∷ c .others) (c .origin) (c .origin) (r .entry) (c .closed) (r .enters) in
+      let l = last-edge (p .0 .1) (c .origin) (p .0 .0) (c .payer) (p .0 .2) in (
+        reach-join (g .start) (c .origin) (c .payer) (reach-join (g .start) (r .entry) (c .origin) (r .way, r .leads) (e .1)) (p .0 .0 ∷ p .0 .1, p .0 .2),
+        (l .0, reach-join (c .payer) (c .origin) (l .0) (p .1) (l .1), l .2),
+      )
+
+  -- the walk of an answer is a reachable free round
+  pub lasso-free : (stem cycle : List ℕ) → Lasso g stem cycle → FreeRound g
+  lasso-free stem cycle w = ahead (w .others) (w .closes) (⊎-elim
+      (λ e. in-right (w .payer) (w .others) (w .entry ∷ []) (rw e (in-head (w .entry) [])))
+      (in-left (w .payer) (w .others) (w .entry ∷ [])) (in-cases (w .payer) (w .entry) (w .others) (rw (w .cycle-is) at (w .passes))))
+    where
+      round : (x : ℕ) (xs : List ℕ) → Run g (w .entry) (x ∷ xs) (w .entry) → In (w .payer) (x ∷ xs) → In (w .entry) (x ∷ xs) → FreeRound g
+      round x xs r i j = (
+        record { origin = w .entry; first = x; others = xs; closed = r; payer = w .payer; pays = w .pays; passes = i },
+        record { way = w .way; entry = w .entry; leads = w .leads; enters = j },
+      )
+
+      ahead : (xs : List ℕ) → Run g (w .entry) (xs ++ (w .entry ∷ [])) (w .entry) → In (w .payer) (xs ++ (w .entry ∷ [])) → FreeRound g
+      ahead [] r i = round (w .entry) [] r i (in-head (w .entry) [])
+      ahead (x ∷ xs) r i = round x (xs ++ (w .entry ∷ [])) r i (in-right (w .entry) (x ∷ xs) (w .entry ∷ []) (in-head (w .entry) []))
