@@ -3,4 +3,7 @@ pub mod Paths
 pub mod Runs
 pub mod Invariant
 pub mod Lassos
+pub mod Bounds
+pub mod Prefix
+pub mod Restore
 pub mod Games
