@@ -136,7 +136,7 @@ module _ (g : Graph) where
       let whole : before h (statesOf (frame s us ∷ p)) ++ (from h (statesOf (frame s us ∷ p)) ++ drop 1 (statesOf (frame x ts ∷ q))) ≡ g .start ∷ (w .0 ++ v .0) = rw (← append-assoc, before-from, w .1, tail) in
       let c : from h (statesOf (frame s us ∷ p)) ++ drop 1 (statesOf (frame x ts ∷ q)) ≡ h ∷ (r .0 ++ v .0) = rw (r .1, tail) in
       let y = run-at (before h (statesOf (frame s us ∷ p))) (g .start) x h (w .0 ++ v .0) (r .0 ++ v .0)
-          (sym whole ∙ ap (λ (z : List ℕ). before h (statesOf (frame s us ∷ p)) ++ z) c) (run-join g (w .0) (v .0) (g .start) s x (w .2) (v .2)) in
+      (sym whole ∙ ap (λ (z : List ℕ). before h (statesOf (frame s us ∷ p)) ++ z) c) (run-join g (w .0) (v .0) (g .start) s x (w .2) (v .2)) in
       record {
         entry = h;
         others = r .0 ++ v .0;

@@ -6,4 +6,5 @@ pub mod Lassos
 pub mod Bounds
 pub mod Prefix
 pub mod Restore
+pub mod Resume
 pub mod Games

@@ -102,7 +102,7 @@ pub record Agree (named : List ℕ) (g h : Graph) : Type 0 where
 
 module _ (named : List ℕ) (g h : Graph) (a : Agree named g h) where
   -- a discovered state is not named, where no named one is discovered
-  not-named : (x : ℕ) (c : Config) → In x (discoveredOf c) → meets named c ≡ false → elem x named ≡ false
+  pub not-named : (x : ℕ) (c : Config) → In x (discoveredOf c) → meets named c ≡ false → elem x named ≡ false
   not-named x c i f = not-true (elem x named) (λ j. contra (any-in (λ s. elem s (discoveredOf c)) x named j i) f)
 
   visit-same : (b : Bool) (s t : ℕ) (ts : List ℕ) (p : List Frame) (d k : List ℕ) (l : List Edge) → meets named (visit g b s t ts p d k l) ≡ false
@@ -202,6 +202,7 @@ module _ (named : List ℕ) (g h : Graph) (a : Agree named g h) where
     pub here-stops : until g named n (begin g) ≡ run g at
     pub there-stops : until h named at (begin h) ≡ run h at
     pub in-time : at ≤ n
+    pub unmet : (m : ℕ) → at ≡ suc m → meets named (run g m) ≡ false
     -- it is the first meeting of that state alone
     pub discovered : meets (state ∷ []) (run g n) ≡ true
     pub alone : until g (state ∷ []) n (begin g) ≡ run g at
@@ -224,6 +225,7 @@ module _ (named : List ℕ) (g h : Graph) (a : Agree named g h) where
         here-stops = refl;
         there-stops = refl;
         in-time = omega arith;
+        unmet = λ m e. absurd (omega arith);
         discovered = any-head (λ s. elem s (g .start ∷ [])) (g .start) [] (in-head (g .start) []);
         alone = refl;
       }
@@ -244,6 +246,7 @@ module _ (named : List ℕ) (g h : Graph) (a : Agree named g h) where
         here-stops = until-met g named n (begin g) e ∙ w .here-stops;
         there-stops = w .there-stops;
         in-time = omega (arith, w .in-time);
+        unmet = w .unmet;
         discovered = meets-step g (w .state ∷ []) (run g n) (w .discovered);
         alone = until-met g (w .state ∷ []) n (begin g) (w .discovered) ∙ w .alone;
       }
@@ -266,6 +269,7 @@ module _ (named : List ℕ) (g h : Graph) (a : Agree named g h) where
             here-stops = until-unmet g named n (begin g) f;
             there-stops = until-unmet h named n (begin h) (rw (← e) f);
             in-time = omega arith;
+            unmet = λ j z. let y : j ≡ n = omega arith in rw y f;
             discovered = any-head (λ s. elem s (discoveredOf (step g (run g n)))) (w .state) [] (rw (w .here) (in-head (w .state) (w .earlier)));
             alone = until-unmet g (w .state ∷ []) n (begin g) (not-true (meets (w .state ∷ []) (run g n)) (λ o.
                 let v = any-some (λ s. elem s (discoveredOf (run g n))) (w .state ∷ []) o in

@@ -34,7 +34,7 @@ le-test a b h = from-T (le→leb a b h)
 pub gt-test : (a b : ℕ) → b < a → leb a b ≡ false
 gt-test a b h = not-true (leb a b) (λ e. absurd (omega (arith, leb→le a b (to-T e))))
 
-filter-same : (f f′ : ℕ → ℕ) (m : ℕ) (xs : List ℕ) → ((x : ℕ) → In x xs → f′ x ≡ f x) → filter (λ x. leb (f′ x) m) xs ≡ filter (λ x. leb (f x) m) xs
+pub filter-same : (f f′ : ℕ → ℕ) (m : ℕ) (xs : List ℕ) → ((x : ℕ) → In x xs → f′ x ≡ f x) → filter (λ x. leb (f′ x) m) xs ≡ filter (λ x. leb (f x) m) xs
 unfolding filter
 filter-same f f′ m [] e = refl
 filter-same f f′ m (x ∷ xs) e =
@@ -103,15 +103,17 @@ module _ (g : Graph) where
   -- ---- one step
 
   -- From c to c′ the notes of what is discovered and marked stay, and what is new has numbers and stamps that no earlier configuration counts.
-  record Grows (r r′ : Notes) (c c′ : Config) : Type 0 where
-    notes-stay : (x : ℕ) → In x (discoveredOf c) → r′ .of x ≡ r .of x
-    stays : (x : ℕ) → In x (discoveredOf c) → In x (discoveredOf c′)
-    numbers : (m : ℕ) → m < length (discoveredOf c)
+  pub record Grows (r r′ : Notes) (c c′ : Config) : Type 0 where
+    pub notes-stay : (x : ℕ) → In x (discoveredOf c) → r′ .of x ≡ r .of x
+    pub stays : (x : ℕ) → In x (discoveredOf c) → In x (discoveredOf c′)
+    pub stamps-stay : (x : ℕ) → In x (markedOf c) → r′ .stamp x ≡ r .stamp x
+    pub marks-stay : (x : ℕ) → In x (markedOf c) → In x (markedOf c′)
+    pub numbers : (m : ℕ) → m < length (discoveredOf c)
         → filter (λ x. leb (r′ .of x .number) m) (discoveredOf c′) ≡ filter (λ x. leb (r .of x .number) m) (discoveredOf c)
-    stamps : (m : ℕ) → m < length (discoveredOf c)
+    pub stamps : (m : ℕ) → m < length (discoveredOf c)
         → filter (λ x. leb (r′ .stamp x) m) (markedOf c′) ≡ filter (λ x. leb (r .stamp x) m) (markedOf c)
-    new : List Edge
-    probed : probesOf c′ ≡ new ++ probesOf c
+    pub new : List Edge
+    pub probed : probesOf c′ ≡ new ++ probesOf c
 
   -- numbers count the states discovered before, stamps those discovered by then
   abbrev pub Counted : Notes → Config → Type 0
@@ -136,7 +138,7 @@ module _ (g : Graph) where
     pub later : List Edge
     pub probed : probesOf c ≡ later ++ probes
 
-  restored-later : (r r′ : Notes) (s : ℕ) (u v c c′ : Config) → v ≡ u → In s (discoveredOf c) → Counted r c → Grows r r′ c c′ → Restored r s u c → Restored r′ s v c′
+  pub restored-later : (r r′ : Notes) (s : ℕ) (u v c c′ : Config) → v ≡ u → In s (discoveredOf c) → Counted r c → Grows r r′ c c′ → Restored r s u c → Restored r′ s v c′
   restored-later r r′ s u v c c′ e i n w z =
       let f : length (z .earlier) < length (discoveredOf c) = omega (arith, z .number, n .0 s i) in
       record {
@@ -172,6 +174,8 @@ module _ (g : Graph) where
     grows = record {
       notes-stay = λ x i. refl;
       stays = λ x i. rw e i;
+      stamps-stay = λ x i. refl;
+      marks-stay = λ x i. rw f i;
       numbers = λ m b. rw e;
       stamps = λ m b. rw f;
       new = new;
@@ -186,12 +190,17 @@ module _ (g : Graph) where
       → Stepped r (record { of = r .of; stamp = put t (length (discoveredOf c)) (r .stamp) }) c c′
   marks r c c′ t new e f p u n h = record {
     shape = h;
-    counted = (rw e (n .0), λ x i. ⊎-elim
-        (λ z. omega (arith, put-hit t (length (discoveredOf c)) (r .stamp) x z, ap length e))
-        (λ j. omega (arith, others x j, n .1 x j, ap length e)) (in-cases x t (markedOf c) (rw f at i)));
+    counted = (
+      rw e (n .0),
+      λ x i. ⊎-elim
+          (λ z. omega (arith, put-hit t (length (discoveredOf c)) (r .stamp) x z, ap length e))
+          (λ j. omega (arith, others x j, n .1 x j, ap length e)) (in-cases x t (markedOf c) (rw f at i)),
+    );
     grows = record {
       notes-stay = λ x i. refl;
       stays = λ x i. rw e i;
+      stamps-stay = others;
+      marks-stay = λ x i. rw f (in-tail x t (markedOf c) i);
       numbers = λ m b. rw e;
       stamps = λ m b. rw f (filter-new (r .stamp) (put t (length (discoveredOf c)) (r .stamp)) m t (markedOf c)
           (rw (put-same t (length (discoveredOf c)) (r .stamp)) b) others);
@@ -259,6 +268,8 @@ module _ (g : Graph) where
       grows = record {
         notes-stay = others;
         stays = λ x i. in-tail x t d i;
+        stamps-stay = λ x i. refl;
+        marks-stay = λ x i. i;
         numbers = λ m b. filter-new (λ x. r .of x .number) (λ x. put t note (r .of) x .number) m t d (omega (arith, number-of-t)) (λ x i. ap (λ (m : Note). m .number) (others x i));
         stamps = λ m b. refl;
         new = (s, t) ∷ [];
@@ -354,7 +365,12 @@ module _ (g : Graph) where
         counted = w .counted;
         restored = λ s i. ⊎-elim
             (λ j. restored-later (notes g n) (notes g (suc n)) s (until g (s ∷ []) n (begin g)) (until g (s ∷ []) (suc n) (begin g)) (run g n) (run g (suc n))
-                (until-met g (s ∷ []) n (begin g) (meets-one s (run g n) j)) j (m .counted) (w .grows) (m .restored s j))
+            (until-met g (s ∷ []) n (begin g) (meets-one s (run g n) j)) j (m .counted) (w .grows) (m .restored s j))
             (λ f. rw (until-unmet g (s ∷ []) n (begin g) (unmet-one s (run g n) f)) (w .fresh s i f))
             (either (elem s (discoveredOf (run g n))));
       }
+
+  -- each step keeps what was noted
+  pub noted-grows : (n : ℕ) → Grows (notes g n) (notes g (suc n)) (run g n) (run g (suc n))
+  unfolding notes steps
+  noted-grows n = let m = noted-run n in stepped (run g n) (notes g n) (inv-run g n) (m .counted) (m .shape) .grows
