@@ -7,4 +7,6 @@ pub mod Bounds
 pub mod Prefix
 pub mod Restore
 pub mod Resume
+pub mod Edges
+pub mod OuterProbes
 pub mod Games

@@ -4,5 +4,6 @@ pub mod Cycles
 pub mod Table
 pub mod Refusals
 pub mod Machine
+pub mod Claims
 pub mod Games
 pub mod Notes
