@@ -9,4 +9,5 @@ pub mod Restore
 pub mod Resume
 pub mod Edges
 pub mod OuterProbes
+pub mod Rows
 pub mod Games

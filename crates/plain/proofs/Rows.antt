@@ -1,0 +1,132 @@
+-- The rows of a table: an edge is present exactly when its target is in its row; a change alters one row. Assumes nothing.
+use mathlib.Core.Path.{_≡_, refl, sym, ap, _∙_}
+use mathlib.Core.Logic.{_⊎_, inl, inr, ⊎-elim}
+use mathlib.Core.Bool.{Bool, true, false, _&&_, _||_, not}
+use mathlib.Core.List.{List, [], _∷_, _++_, map}
+use Prim.Native.Nat.{ℕ, zero, suc}
+use lib.Dec.{eqb}
+use Rattle.plain.specs.Lists.{any, filter, elem, In}
+use Rattle.plain.specs.Search.{Graph, Edge}
+use Rattle.plain.specs.Table.{Table, row, graphOf}
+use Rattle.plain.specs.Refusals.{sameEdge, present}
+use Rattle.plain.specs.Machine.{Change, add, cut, named, without, apply}
+use Rattle.plain.proofs.Tests.{contra, either, not-true, same, self, differ, apart, in-nil, in-head, in-tail, in-cases, filter-yes, filter-no}
+use Rattle.plain.proofs.Edges.{Has, has-head, has-tail, has-cases, has-nil, same-edge, same-self}
+use Rattle.plain.proofs.Prefix.{Agree}
+
+pub row-yes : (e : Edge) (es : List Edge) (s : ℕ) → eqb (e .0) s ≡ true → row (e ∷ es) s ≡ e .1 ∷ row es s
+unfolding row
+row-yes e es s h = rw (filter-yes (λ (f : Edge). eqb (f .0) s) e es h)
+
+pub row-no : (e : Edge) (es : List Edge) (s : ℕ) → eqb (e .0) s ≡ false → row (e ∷ es) s ≡ row es s
+unfolding row
+row-no e es s h = rw (filter-no (λ (f : Edge). eqb (f .0) s) e es h)
+
+pub row-nil : (s : ℕ) → row [] s ≡ []
+unfolding row filter
+row-nil s = refl
+
+-- ---- an edge is present exactly when its target is in the row of its source
+
+pub row-has : (es : List Edge) (x y : ℕ) → In y (row es x) → Has es (x, y)
+row-has [] x y i = absurd (in-nil y (rw (row-nil x) at i))
+row-has (e ∷ es) x y i = ⊎-elim
+    (λ h. ⊎-elim
+        (λ z. let w : x ≡ e .0 = sym (same h) in let f : (x, y) ≡ e = λ j. (w j, z j) in rw f (has-head e es))
+        (λ j. has-tail (x, y) e es (row-has es x y j)) (in-cases y (e .1) (row es x) (rw (row-yes e es x h) at i)))
+    (λ h. has-tail (x, y) e es (row-has es x y (rw (row-no e es x h) at i))) (either (eqb (e .0) x))
+
+pub has-row : (es : List Edge) (x y : ℕ) → Has es (x, y) → In y (row es x)
+has-row [] x y h = has-nil (x, y) h
+has-row (e ∷ es) x y h = ⊎-elim
+    (λ z. ⊎-elim
+        (λ t. rw (row-yes e es x t) (let w : y ≡ e .1 = ap (λ (f : Edge). f .1) z in rw w (in-head (e .1) (row es x))))
+        (λ f. absurd (apart (e .0) x f (ap (λ (f : Edge). f .0) (sym z)))) (either (eqb (e .0) x)))
+    (λ j. ⊎-elim
+        (λ t. rw (row-yes e es x t) (in-tail y (e .1) (row es x) (has-row es x y j)))
+        (λ f. rw (row-no e es x f) (has-row es x y j)) (either (eqb (e .0) x))) (has-cases (x, y) e es h)
+
+-- ---- an added edge is the newest of its row, and the other rows stay
+
+pub row-add : (es : List Edge) (e : Edge) → row (es ++ (e ∷ [])) (e .0) ≡ row es (e .0) ++ (e .1 ∷ [])
+row-add [] e = row-yes e [] (e .0) (self (e .0)) ∙ rw row-nil
+row-add (f ∷ es) e = ⊎-elim
+    (λ h. row-yes f (es ++ (e ∷ [])) (e .0) h ∙ rw (row-add es e, row-yes f es (e .0) h))
+    (λ h. row-no f (es ++ (e ∷ [])) (e .0) h ∙ rw (row-add es e, row-no f es (e .0) h)) (either (eqb (f .0) (e .0)))
+
+pub row-add-other : (es : List Edge) (e : Edge) (x : ℕ) → eqb (e .0) x ≡ false → row (es ++ (e ∷ [])) x ≡ row es x
+row-add-other [] e x n = row-no e [] x n
+row-add-other (f ∷ es) e x n = ⊎-elim
+    (λ h. row-yes f (es ++ (e ∷ [])) x h ∙ rw (row-add-other es e x n, row-yes f es x h))
+    (λ h. row-no f (es ++ (e ∷ [])) x h ∙ rw (row-add-other es e x n, row-no f es x h)) (either (eqb (f .0) x))
+
+-- ---- a cut edge leaves its row, the others of the row keep their order, and the other rows stay
+
+cut-yes : (e f : Edge) (es : List Edge) → sameEdge e f ≡ true → without e (f ∷ es) ≡ without e es
+unfolding without
+cut-yes e f es h = filter-no (λ x. not (sameEdge e x)) f es (rw h)
+
+cut-no : (e f : Edge) (es : List Edge) → sameEdge e f ≡ false → without e (f ∷ es) ≡ f ∷ without e es
+unfolding without
+cut-no e f es h = filter-yes (λ x. not (sameEdge e x)) f es (rw h)
+
+-- the targets of a row but for y
+abbrev pub but : ℕ → List ℕ → List ℕ
+but y ys = filter (λ x. not (eqb y x)) ys
+
+but-yes : (y x : ℕ) (xs : List ℕ) → eqb y x ≡ true → but y (x ∷ xs) ≡ but y xs
+but-yes y x xs h = filter-no (λ z. not (eqb y z)) x xs (rw h)
+
+but-no : (y x : ℕ) (xs : List ℕ) → eqb y x ≡ false → but y (x ∷ xs) ≡ x ∷ but y xs
+but-no y x xs h = filter-yes (λ z. not (eqb y z)) x xs (rw h)
+
+cut-gone : (es : List Edge) (e f : Edge) → sameEdge e f ≡ true → row (without e es) (e .0) ≡ but (e .1) (row es (e .0))
+    → row (without e (f ∷ es)) (e .0) ≡ but (e .1) (row (f ∷ es) (e .0))
+cut-gone es e f h below =
+    let z : e ≡ f = same-edge e f h in
+    let a : eqb (f .0) (e .0) ≡ true = rw z (self (f .0)) in
+    let b : eqb (e .1) (f .1) ≡ true = rw z (self (f .1)) in
+    ap (λ (l : List Edge). row l (e .0)) (cut-yes e f es h) ∙ below
+    ∙ sym (ap (λ (l : List ℕ). but (e .1) l) (row-yes f es (e .0) a) ∙ but-yes (e .1) (f .1) (row es (e .0)) b)
+
+-- an edge of the same row that is not e has another target
+other-target : (e f : Edge) → sameEdge e f ≡ false → eqb (f .0) (e .0) ≡ true → eqb (e .1) (f .1) ≡ false
+unfolding sameEdge
+other-target e f h a = not-true (eqb (e .1) (f .1)) (λ b. let z : f .0 ≡ e .0 = same a in contra (rw (z, self (e .0)) b) h)
+
+cut-stays : (es : List Edge) (e f : Edge) → sameEdge e f ≡ false → row (without e es) (e .0) ≡ but (e .1) (row es (e .0))
+    → row (without e (f ∷ es)) (e .0) ≡ but (e .1) (row (f ∷ es) (e .0))
+cut-stays es e f h below = ap (λ (l : List Edge). row l (e .0)) (cut-no e f es h) ∙ ⊎-elim
+    (λ a. row-yes f (without e es) (e .0) a ∙ ap (λ (l : List ℕ). f .1 ∷ l) below
+        ∙ sym (ap (λ (l : List ℕ). but (e .1) l) (row-yes f es (e .0) a) ∙ but-no (e .1) (f .1) (row es (e .0)) (other-target e f h a)))
+    (λ a. row-no f (without e es) (e .0) a ∙ below ∙ sym (ap (λ (l : List ℕ). but (e .1) l) (row-no f es (e .0) a))) (either (eqb (f .0) (e .0)))
+
+pub row-cut : (es : List Edge) (e : Edge) → row (without e es) (e .0) ≡ but (e .1) (row es (e .0))
+unfolding without filter row
+row-cut [] e = refl
+row-cut (f ∷ es) e = ⊎-elim (λ h. cut-gone es e f h (row-cut es e)) (λ h. cut-stays es e f h (row-cut es e)) (either (sameEdge e f))
+
+pub row-cut-other : (es : List Edge) (e : Edge) (x : ℕ) → eqb (e .0) x ≡ false → row (without e es) x ≡ row es x
+unfolding without filter
+row-cut-other [] e x n = refl
+row-cut-other (f ∷ es) e x n = ⊎-elim
+    (λ h. let z : e ≡ f = same-edge e f h in
+        ap (λ (l : List Edge). row l x) (cut-yes e f es h) ∙ row-cut-other es e x n ∙ sym (row-no f es x (rw z at n)))
+    (λ h. ap (λ (l : List Edge). row l x) (cut-no e f es h) ∙ ⊎-elim
+        (λ a. row-yes f (without e es) x a ∙ rw (row-cut-other es e x n, row-yes f es x a))
+        (λ a. row-no f (without e es) x a ∙ rw (row-cut-other es e x n, row-no f es x a)) (either (eqb (f .0) x)))
+    (either (sameEdge e f))
+
+-- an edge that is cut and added again is the newest of its row
+pub row-again : (es : List Edge) (e : Edge) → row (without e es ++ (e ∷ [])) (e .0) ≡ but (e .1) (row es (e .0)) ++ (e .1 ∷ [])
+row-again es e = row-add (without e es) e ∙ ap (λ (l : List ℕ). l ++ (e .1 ∷ [])) (row-cut es e)
+
+-- ---- so the graphs before and after a change agree but for the state that it names
+
+other-source : (e : Edge) (x : ℕ) → elem x (e .0 ∷ []) ≡ false → eqb (e .0) x ≡ false
+other-source e x o = not-true (eqb (e .0) x) (λ h. let z : e .0 ≡ x = same h in contra (rw z (in-head x [])) o)
+
+pub agree : (c : Change) (t : Table) → Agree (named c) (graphOf t) (graphOf (apply c t))
+unfolding named apply
+agree (add e) t = record { start = refl; edges = λ x o. sym (row-add-other (t .edges) e x (other-source e x o)); acceptance = λ x o. refl }
+agree (cut e) t = record { start = refl; edges = λ x o. sym (row-cut-other (t .edges) e x (other-source e x o)); acceptance = λ x o. refl }
