@@ -7,9 +7,10 @@ use Prim.Native.Nat.{ℕ, zero, suc, _+_, _*_, _-_, _≤_, _<_}
 use native.Mathlib.Omega.{arith}
 use lib.Dec.{eqb}
 use lib.ListN.{length}
+use borrow.Author.Tests.{eqb-false}
 use Rattle.plain.specs.Lists.{elem, In, Once}
 use Rattle.plain.specs.Search.{Graph, Edge, Frame, frame, onPath, Config, outer, nested, exhausted, found, discoveredOf, probesOf, count, begin, visit, finish, probe, step, steps, run, Verdict, none, lasso, unfinished, verdict}
-use Rattle.plain.proofs.Tests.{contra, either, not-true, same, apart, in-nil, out-nil, in-head, in-tail, in-cases, in-one}
+use Rattle.plain.proofs.Tests.{contra, either, not-true, same, in-nil, out-nil, in-head, in-tail, in-cases, in-one}
 use Rattle.plain.proofs.Paths.{on-head, pending-here}
 use Rattle.plain.proofs.Invariant.{Outer, Marks, Nested, Inv, next-known, inv-run}
 
@@ -56,7 +57,7 @@ left-drop w t d (u ∷ us) f i = ⊎-elim hit (λ e. miss e (left-drop w t d us 
     miss : eqb u t ≡ false → (In t us → left w (t ∷ d) us + w t ≤ left w d us) → Goal
     miss e below =
         let a : unless (elem u (t ∷ d)) (w u) ≡ unless (elem u d) (w u) = rw e in
-        omega (arith, below (⊎-elim (λ z. absurd (apart u t e (sym z))) (λ j. j) (in-cases t u us i)))
+        omega (arith, below (⊎-elim (λ z. absurd (eqb-false u t e (sym z))) (λ j. j) (in-cases t u us i)))
 
 -- us: states among which the search stays
 module _ (g : Graph) (us : List ℕ) (start-in : In (g .start) us) (stays : (x y : ℕ) → In x us → In y (g .successors x) → In y us) where

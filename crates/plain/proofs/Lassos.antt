@@ -8,10 +8,11 @@ use Prim.Native.Nat.{ℕ, zero, suc}
 use native.Mathlib.Omega.{arith}
 use lib.Dec.{eqb}
 use lib.ListN.{drop}
+use borrow.Author.Tests.{eqb-false}
 use Rattle.plain.specs.Lists.{elem, In, Once, before, from}
 use Rattle.plain.specs.Search.{Graph, Edge, Frame, frame, onPath, Config, outer, nested, exhausted, found, run, statesOf, stemOf, cycleOf, Verdict, none, lasso, unfinished, verdict}
 use Rattle.plain.specs.Cycles.{Run, FreeRound, Lasso}
-use Rattle.plain.proofs.Tests.{contra, either, same, self, apart, in-nil, in-head, in-tail, in-cases, in-one, not-in, in-append, in-left, in-right}
+use Rattle.plain.proofs.Tests.{contra, either, same, self, in-nil, in-head, in-tail, in-cases, in-one, not-in, in-append, in-left, in-right}
 use Rattle.plain.proofs.Paths.{On, Off, Distinct, on-head, on-tail, on-cases, off-tail}
 use Rattle.plain.proofs.Runs.{run-join, run-snoc}
 use Rattle.plain.proofs.Invariant.{Linked, Inv, Found, inv-run, complete}
@@ -44,7 +45,7 @@ from-head : (h : ℕ) (xs : List ℕ) → In h xs → (r : List ℕ) × (from h 
 from-head h [] i = absurd (in-nil h i)
 from-head h (x ∷ xs) i = ⊎-elim
     (λ e. let z : h ≡ x = same e in (xs, rw (from-hit h x xs e, z)))
-    (λ e. let r = from-head h xs (⊎-elim (λ z. absurd (apart h x e z)) (λ j. j) (in-cases h x xs i)) in (r .0, rw (from-miss h x xs e) (r .1)))
+    (λ e. let r = from-head h xs (⊎-elim (λ z. absurd (eqb-false h x e z)) (λ j. j) (in-cases h x xs i)) in (r .0, rw (from-miss h x xs e) (r .1)))
     (either (eqb h x))
 
 -- and holds the last state
@@ -52,7 +53,7 @@ from-last : (h s : ℕ) (xs : List ℕ) → In h (xs ++ (s ∷ [])) → In s (fr
 from-last h s [] i = let z : h ≡ s = in-one h s i in rw (from-hit h s [] (rw z (self s))) (in-head s [])
 from-last h s (x ∷ xs) i = ⊎-elim
     (λ e. rw (from-hit h x (xs ++ (s ∷ [])) e) (in-right s (x ∷ xs) (s ∷ []) (in-head s [])))
-    (λ e. rw (from-miss h x (xs ++ (s ∷ [])) e) (from-last h s xs (⊎-elim (λ z. absurd (apart h x e z)) (λ j. j) (in-cases h x (xs ++ (s ∷ [])) i))))
+    (λ e. rw (from-miss h x (xs ++ (s ∷ [])) e) (from-last h s xs (⊎-elim (λ z. absurd (eqb-false h x e z)) (λ j. j) (in-cases h x (xs ++ (s ∷ [])) i))))
     (either (eqb h x))
 
 -- ---- the states of a path are those on it, each once

@@ -10,4 +10,6 @@ pub mod Resume
 pub mod Edges
 pub mod OuterProbes
 pub mod Rows
+pub mod Tables
+pub mod Demands
 pub mod Games

@@ -5,9 +5,10 @@ use mathlib.Core.Bool.{Bool, true, false, _&&_, _||_, true≢false}
 use mathlib.Core.List.{List, [], _∷_, _++_}
 use Prim.Native.Nat.{ℕ}
 use lib.Dec.{eqb}
+use borrow.Author.Tests.{ne-eqb}
 use Rattle.plain.specs.Lists.{elem, In}
 use Rattle.plain.specs.Search.{Frame, frame, onPath}
-use Rattle.plain.proofs.Tests.{contra, not-true, or-true, or-first, or-second, or-false, or-neither, and-true, same, self, differ, in-head, in-tail, in-cases}
+use Rattle.plain.proofs.Tests.{contra, not-true, or-true, or-first, or-second, or-false, or-neither, and-true, same, self, in-head, in-tail, in-cases}
 
 abbrev pub On : ℕ → List Frame → Type 0
 On x p = onPath x p ≡ true
@@ -42,7 +43,7 @@ off-tail x s ts p h = or-false (eqb x s) (onPath x p) h .1
 
 pub off-cons : (x s : ℕ) (ts : List ℕ) (p : List Frame) → (x ≡ s → ⊥) → Off x p → Off x (frame s ts ∷ p)
 unfolding onPath
-off-cons x s ts p ne h = or-neither (eqb x s) (onPath x p) (differ x s ne) h
+off-cons x s ts p ne h = or-neither (eqb x s) (onPath x p) (ne-eqb x s ne) h
 
 -- on a path it does not matter what is left of a frame
 pub on-rest : (x s : ℕ) (ts us : List ℕ) (p : List Frame) → onPath x (frame s ts ∷ p) ≡ onPath x (frame s us ∷ p)

@@ -5,12 +5,13 @@ use mathlib.Core.Bool.{Bool, true, false}
 use mathlib.Core.List.{List, [], _∷_, _++_, append-assoc}
 use Prim.Native.Nat.{ℕ, zero, suc, _+_, _-_, _≤_, _<_}
 use native.Mathlib.Omega.{arith}
-use lib.Dec.{eqb, leb, leb→le, le→leb}
+use lib.Dec.{eqb, leb}
 use lib.ListN.{length, drop, length-append}
+use borrow.Author.Tests.{ne-eqb, le-leb, lt-leb}
 use Rattle.plain.specs.Lists.{filter, elem, In}
 use Rattle.plain.specs.Search.{Graph, Edge, Frame, frame, onPath, Config, outer, nested, exhausted, found, discoveredOf, markedOf, probesOf, meets, begin, visit, finish, probe, step, steps, run, until}
 use Rattle.plain.specs.Notes.{Note, Notes, put, noteVisit, noteMark, noteProbe, noteOf, noted, notes, Below}
-use Rattle.plain.proofs.Tests.{contra, either, not-true, to-T, from-T, same, self, differ, in-nil, in-head, in-tail, in-cases, in-one, in-out, filter-yes, filter-no, any-in, any-some, any-head}
+use Rattle.plain.proofs.Tests.{contra, either, not-true, same, self, in-nil, in-head, in-tail, in-cases, in-one, in-out, filter-yes, filter-no, any-in, any-some, any-head}
 use Rattle.plain.proofs.Paths.{On, on-head, on-tail, on-rest, off-nil}
 use Rattle.plain.proofs.Invariant.{Outer, Marks, Nested, Inv, inv-run}
 use Rattle.plain.proofs.Prefix.{discovery, finish-discovered, probe-discovered, step-keeps, until-met, until-unmet}
@@ -24,15 +25,9 @@ put-hit t a f x e = rw e (put-same t a f)
 
 pub put-other : {A : Type 0} (t : ℕ) (a : A) (f : ℕ → A) (x : ℕ) → (x ≡ t → ⊥) → put t a f x ≡ f x
 unfolding put
-put-other t a f x ne = rw (differ x t ne, put)
+put-other t a f x ne = rw (ne-eqb x t ne, put)
 
 -- ---- the part of a list that is numbered up to m
-
-pub le-test : (a b : ℕ) → a ≤ b → leb a b ≡ true
-le-test a b h = from-T (le→leb a b h)
-
-pub gt-test : (a b : ℕ) → b < a → leb a b ≡ false
-gt-test a b h = not-true (leb a b) (λ e. absurd (omega (arith, leb→le a b (to-T e))))
 
 pub filter-same : (f f′ : ℕ → ℕ) (m : ℕ) (xs : List ℕ) → ((x : ℕ) → In x xs → f′ x ≡ f x) → filter (λ x. leb (f′ x) m) xs ≡ filter (λ x. leb (f x) m) xs
 unfolding filter
@@ -47,13 +42,13 @@ filter-same f f′ m (x ∷ xs) e =
 -- a new element with a higher number does not count
 filter-new : (f f′ : ℕ → ℕ) (m t : ℕ) (xs : List ℕ) → m < f′ t → ((x : ℕ) → In x xs → f′ x ≡ f x)
     → filter (λ x. leb (f′ x) m) (t ∷ xs) ≡ filter (λ x. leb (f x) m) xs
-filter-new f f′ m t xs h e = filter-no (λ x. leb (f′ x) m) t xs (gt-test (f′ t) m h) ∙ filter-same f f′ m xs e
+filter-new f f′ m t xs h e = filter-no (λ x. leb (f′ x) m) t xs (lt-leb (f′ t) m h) ∙ filter-same f f′ m xs e
 
 filter-all : (f : ℕ → ℕ) (m : ℕ) (xs : List ℕ) → ((x : ℕ) → In x xs → f x ≤ m) → xs ≡ filter (λ x. leb (f x) m) xs
 unfolding filter
 filter-all f m [] h = refl
 filter-all f m (x ∷ xs) h =
-    ap (λ (ys : List ℕ). x ∷ ys) (filter-all f m xs (λ y i. h y (in-tail y x xs i))) ∙ sym (filter-yes (λ x. leb (f x) m) x xs (le-test (f x) m (h x (in-head x xs))))
+    ap (λ (ys : List ℕ). x ∷ ys) (filter-all f m xs (λ y i. h y (in-tail y x xs i))) ∙ sym (filter-yes (λ x. leb (f x) m) x xs (le-leb (f x) m (h x (in-head x xs))))
 
 -- ---- what is left of a row behind one of its edges
 

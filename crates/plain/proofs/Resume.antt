@@ -75,6 +75,14 @@ module _ (g : Graph) where
   until-end named zero f = refl
   until-end named (suc n) f = until-unmet g named n (begin g) (unmet-before g named (run g n) f)
 
+  -- it stops at some step
+  pub until-at : (named : List ℕ) (n : ℕ) → (j : ℕ) × (j ≤ n) × (until g named n (begin g) ≡ run g j)
+  unfolding steps until
+  until-at named zero = (0, omega arith, refl)
+  until-at named (suc n) = ⊎-elim
+      (λ m. let r = until-at named n in (r .0, omega (arith, r .1), until-met g named n (begin g) m ∙ r .2))
+      (λ f. (suc n, omega arith, until-unmet g named n (begin g) f)) (either (meets named (run g n)))
+
   -- probes are only added
   probes-more : (j n : ℕ) → (new : List Edge) × (probesOf (run g (n + j)) ≡ new ++ probesOf (run g n))
   unfolding steps
@@ -92,6 +100,9 @@ module _ (g : Graph) where
   pub record Holds (r : Notes) (n : ℕ) : Type 0 where
     pub notes-right : (x : ℕ) → In x (discoveredOf (run g n)) → r .of x ≡ notes g n .of x
     pub stamps-right : (x : ℕ) → In x (markedOf (run g n)) → r .stamp x ≡ notes g n .stamp x
+
+  pub holds-notes : (n : ℕ) → Holds (notes g n) n
+  holds-notes n = record { notes-right = λ x i. refl; stamps-right = λ x i. refl }
 
   holds-before : (r : Notes) (n : ℕ) → Holds r (suc n) → Holds r n
   holds-before r n h =

@@ -5,12 +5,13 @@ use mathlib.Core.Bool.{Bool, true, false, _&&_, _||_, not}
 use mathlib.Core.List.{List, [], _∷_, _++_, map}
 use Prim.Native.Nat.{ℕ, zero, suc}
 use lib.Dec.{eqb}
+use borrow.Author.Tests.{eqb-false, ne-eqb}
 use Rattle.plain.specs.Lists.{any, filter, elem, In}
 use Rattle.plain.specs.Search.{Graph, Edge}
 use Rattle.plain.specs.Table.{Table, row, graphOf}
 use Rattle.plain.specs.Refusals.{sameEdge, present}
 use Rattle.plain.specs.Machine.{Change, add, cut, named, without, apply}
-use Rattle.plain.proofs.Tests.{contra, either, not-true, same, self, differ, apart, in-nil, in-head, in-tail, in-cases, filter-yes, filter-no}
+use Rattle.plain.proofs.Tests.{contra, either, not-true, same, self, in-nil, in-head, in-tail, in-cases, filter-yes, filter-no}
 use Rattle.plain.proofs.Edges.{Has, has-head, has-tail, has-cases, has-nil, same-edge, same-self}
 use Rattle.plain.proofs.Prefix.{Agree}
 
@@ -41,7 +42,7 @@ has-row [] x y h = has-nil (x, y) h
 has-row (e ∷ es) x y h = ⊎-elim
     (λ z. ⊎-elim
         (λ t. rw (row-yes e es x t) (let w : y ≡ e .1 = ap (λ (f : Edge). f .1) z in rw w (in-head (e .1) (row es x))))
-        (λ f. absurd (apart (e .0) x f (ap (λ (f : Edge). f .0) (sym z)))) (either (eqb (e .0) x)))
+        (λ f. absurd (eqb-false (e .0) x f (ap (λ (f : Edge). f .0) (sym z)))) (either (eqb (e .0) x)))
     (λ j. ⊎-elim
         (λ t. rw (row-yes e es x t) (in-tail y (e .1) (row es x) (has-row es x y j)))
         (λ f. rw (row-no e es x f) (has-row es x y j)) (either (eqb (e .0) x))) (has-cases (x, y) e es h)

@@ -8,7 +8,7 @@ use native.Mathlib.Omega.{arith}
 use Rattle.plain.specs.Lists.{elem, In}
 use Rattle.plain.specs.Search.{Graph}
 use Rattle.plain.specs.Cycles.{Run, AcceptingCycle, Reachable, FreeRound, Lasso}
-use Rattle.plain.proofs.Tests.{in-nil, in-head, in-tail, in-cases, in-left, in-right}
+use Rattle.plain.proofs.Tests.{in-nil, in-head, in-tail, in-cases, in-append, in-left, in-right}
 
 module _ (g : Graph) where
   pub run-join : (xs ys : List ℕ) (a b c : ℕ) → Run g a xs b → Run g b ys c → Run g a (xs ++ ys) c
@@ -48,7 +48,7 @@ module _ (g : Graph) where
   run-inside k stays [] a b r i = rw r at i
   run-inside k stays (x ∷ xs) a b r i = run-inside k stays xs x b (r .1) (stays a x i (r .0))
 
-  pub states-inside : (k : List ℕ) → ((x y : ℕ) → In x k → In y (g .successors x) → In y k) → (xs : List ℕ) (a b : ℕ) → Run g a xs b → In a k
+  states-inside : (k : List ℕ) → ((x y : ℕ) → In x k → In y (g .successors x) → In y k) → (xs : List ℕ) (a b : ℕ) → Run g a xs b → In a k
       → (c : ℕ) → In c (a ∷ xs) → In c k
   states-inside k stays [] a b r i c j = ⊎-elim (λ e. rw e i) (λ n. absurd (in-nil c n)) (in-cases c a [] j)
   states-inside k stays (x ∷ xs) a b r i c j =
@@ -79,3 +79,12 @@ module _ (g : Graph) where
       ahead : (xs : List ℕ) → Run g (w .entry) (xs ++ (w .entry ∷ [])) (w .entry) → In (w .payer) (xs ++ (w .entry ∷ [])) → FreeRound g
       ahead [] r i = round (w .entry) [] r i (in-head (w .entry) [])
       ahead (x ∷ xs) r i = round x (xs ++ (w .entry ∷ [])) r i (in-right (w .entry) (x ∷ xs) (w .entry ∷ []) (in-head (w .entry) []))
+
+  -- and keeps inside a set that holds the start state and that no edge leaves
+  pub lasso-inside : (k : List ℕ) → ((x y : ℕ) → In x k → In y (g .successors x) → In y k) → In (g .start) k
+      → (stem cycle : List ℕ) → Lasso g stem cycle → (x : ℕ) → In x (stem ++ cycle) → In x k
+  lasso-inside k stays i stem cycle w x j = ⊎-elim
+      (λ h. states-inside k stays (w .way) (g .start) (w .entry) (w .leads) i x (rw (w .begins) at (in-left x stem (w .entry ∷ []) h)))
+      (λ h. states-inside k stays (w .others ++ (w .entry ∷ [])) (w .entry) (w .entry) (w .closes) (run-inside k stays (w .way) (g .start) (w .entry) (w .leads) i) x
+          (in-left x (w .entry ∷ w .others) (w .entry ∷ []) (rw (w .cycle-is) at h)))
+      (in-append x stem cycle j)

@@ -4,7 +4,8 @@ use mathlib.Core.Logic.{_⊎_, inl, inr, ⊎-elim}
 use mathlib.Core.Bool.{Bool, true, false, _&&_, _||_, not, true≢false}
 use mathlib.Core.List.{List, [], _∷_, _++_}
 use Prim.Native.Nat.{ℕ}
-use lib.Dec.{T, eqb, eqb→eq, eqb-refl}
+use lib.Dec.{eqb}
+use borrow.Author.Tests.{eqb-true, eq-eqb, ne-eqb}
 use Rattle.plain.specs.Lists.{any, filter, elem, In}
 
 pub contra : {b : Bool} → b ≡ true → b ≡ false → ⊥
@@ -41,24 +42,11 @@ pub and-true : (a b : Bool) → a && b ≡ true → (a ≡ true) × (b ≡ true)
 and-true true b h = (refl, h)
 and-true false b h = absurd (true≢false (sym h))
 
-pub to-T : {b : Bool} → b ≡ true → T b
-to-T e = rw e tt
-
-pub from-T : {b : Bool} → T b → b ≡ true
-from-T {b = true} t = refl
-from-T {b = false} t = absurd t
-
 pub same : {x y : ℕ} → eqb x y ≡ true → x ≡ y
-same {x} {y} e = eqb→eq x y (to-T e)
+same {x} {y} e = eqb-true x y e
 
 pub self : (x : ℕ) → eqb x x ≡ true
-self x = from-T (eqb-refl x)
-
-pub differ : (x y : ℕ) → (x ≡ y → ⊥) → eqb x y ≡ false
-differ x y ne = not-true (eqb x y) (λ e. ne (same e))
-
-pub apart : (x y : ℕ) → eqb x y ≡ false → x ≡ y → ⊥
-apart x y f e = contra (rw e (self y)) f
+self x = eq-eqb x x refl
 
 -- ---- membership
 
@@ -91,7 +79,7 @@ out-tail x y xs o = or-false (eqb x y) (elem x xs) o .1
 
 pub out-cons : (x y : ℕ) (xs : List ℕ) → (x ≡ y → ⊥) → elem x xs ≡ false → elem x (y ∷ xs) ≡ false
 unfolding elem
-out-cons x y xs ne o = or-neither (eqb x y) (elem x xs) (differ x y ne) o
+out-cons x y xs ne o = or-neither (eqb x y) (elem x xs) (ne-eqb x y ne) o
 
 pub not-in : (x : ℕ) (xs : List ℕ) → (In x xs → ⊥) → elem x xs ≡ false
 not-in x xs n = not-true (elem x xs) n

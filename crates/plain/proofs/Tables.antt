@@ -1,0 +1,152 @@
+-- The tables that a session can hold keep the limits of document 01. Assumes nothing.
+use mathlib.Core.Path.{_≡_, refl, sym, ap, _∙_}
+use mathlib.Core.Logic.{_≢_, _⊎_, inl, inr, ⊎-elim}
+use mathlib.Core.Bool.{Bool, true, false, _&&_, _||_, not}
+use mathlib.Core.List.{List, [], _∷_, _++_}
+use Prim.Native.Nat.{ℕ, zero, suc, _+_, _*_, _%_, _≤_, _<_}
+use native.Mathlib.Omega.{arith}
+use lib.Dec.{eqb, leb, ltb}
+use lib.ListN.{length, length-append}
+use borrow.Author.Tests.{ltb-false, leb-false}
+use Rattle.plain.specs.Lists.{any, filter}
+use Rattle.plain.specs.Search.{Edge}
+use Rattle.plain.specs.Table.{Table}
+use Rattle.plain.specs.Refusals.{Trial, accepted, refused, firstHeld, pairs, sameEdge, present, badSize, badStart, badMarks, badCount, outside, selfLoop, repeated, full, Load, loadTrial, addTrial, cutTrial}
+use Rattle.plain.specs.Machine.{Change, add, cut, tableOf, without, apply, changeTrial, Call, trialOf}
+use Rattle.plain.specs.Claims.{Arises, loaded, changed}
+use Rattle.plain.proofs.Tests.{contra, either, not-true, or-true, or-false, or-neither, any-head, any-tail, any-cases, any-nil, none-cons, filter-yes, filter-no}
+use Rattle.plain.proofs.Edges.{same-edge, same-self}
+
+-- what every table of a session keeps: none of the conditions for a refusal holds of it
+pub record Valid (t : Table) : Type 0 where
+  pub size-ok : badSize (t .size) ≡ false
+  pub start-ok : badStart (t .size) (t .start) ≡ false
+  pub marks-ok : badMarks (t .size) (t .words) ≡ false
+  pub count-ok : length (t .edges) ≤ 2048
+  pub inside : any (outside (t .size)) (t .edges) ≡ false
+  pub no-loop : any selfLoop (t .edges) ≡ false
+  pub once : repeated (t .edges) ≡ false
+
+-- ---- trials
+
+accepted-not : (n : ℕ) → refused n ≡ accepted → ⊥
+accepted-not n e = let z : _≡_ {A = ℕ} 0 1 = cc in omega arith
+
+-- where a call is accepted, no condition holds
+pub passed : (n : ℕ) (b : Bool) (cs : List (ℕ × Bool)) → firstHeld ((n, b) ∷ cs) ≡ accepted → (b ≡ false) × (firstHeld cs ≡ accepted)
+unfolding firstHeld
+passed n true cs e = absurd (accepted-not n e)
+passed n false cs e = (refl, e)
+
+-- ---- lists of edges
+
+any-append : (p : Edge → Bool) (es : List Edge) (e : Edge) → any p es ≡ false → p e ≡ false → any p (es ++ (e ∷ [])) ≡ false
+unfolding any
+any-append p [] e f h = or-neither (p e) false h refl
+any-append p (x ∷ es) e f h =
+    let w = or-false (p x) (any p es) f in
+    or-neither (p x) (any p (es ++ (e ∷ []))) (w .0) (any-append p es e (w .1) h)
+
+any-filter : (p q : Edge → Bool) (es : List Edge) → any p es ≡ false → any p (filter q es) ≡ false
+unfolding filter
+any-filter p q [] f = f
+any-filter p q (x ∷ es) f =
+    let w = none-cons p x es f in
+    ⊎-elim
+    (λ h. rw (filter-yes q x es h) (not-true (any p (x ∷ filter q es)) (λ a. ⊎-elim (λ z. contra z (w .0)) (λ z. contra z (any-filter p q es (w .1))) (any-cases p x (filter q es) a))))
+    (λ h. rw (filter-no q x es h) (any-filter p q es (w .1))) (either (q x))
+
+length-filter : (q : Edge → Bool) (es : List Edge) → length (filter q es) ≤ length es
+unfolding filter
+length-filter q [] = omega arith
+length-filter q (x ∷ es) = ⊎-elim
+    (λ h. omega (arith, ap length (filter-yes q x es h), length-filter q es))
+    (λ h. omega (arith, ap length (filter-no q x es h), length-filter q es)) (either (q x))
+
+same-sym : (e f : Edge) → sameEdge e f ≡ false → sameEdge f e ≡ false
+same-sym e f n = not-true (sameEdge f e) (λ h. let z : f ≡ e = same-edge f e h in contra (rw z (same-self e)) n)
+
+repeated-add : (es : List Edge) (e : Edge) → repeated es ≡ false → present es e ≡ false → repeated (es ++ (e ∷ [])) ≡ false
+unfolding repeated present
+repeated-add [] e r n = or-neither (any (sameEdge e) []) false n refl
+repeated-add (x ∷ es) e r n =
+    let w = or-false (any (sameEdge x) es) (repeated es) r in
+    let v = none-cons (sameEdge e) x es n in
+    or-neither (any (sameEdge x) (es ++ (e ∷ []))) (repeated (es ++ (e ∷ [])))
+    (any-append (sameEdge x) es e (w .0) (same-sym e x (v .0))) (repeated-add es e (w .1) (v .1))
+
+repeated-filter : (q : Edge → Bool) (es : List Edge) → repeated es ≡ false → repeated (filter q es) ≡ false
+unfolding repeated present filter
+repeated-filter q [] r = refl
+repeated-filter q (x ∷ es) r =
+    let w = or-false (any (sameEdge x) es) (repeated es) r in
+    ⊎-elim
+    (λ h. rw (filter-yes q x es h) (or-neither (any (sameEdge x) (filter q es)) (repeated (filter q es)) (any-filter (sameEdge x) q es (w .0)) (repeated-filter q es (w .1))))
+    (λ h. rw (filter-no q x es h) (repeated-filter q es (w .1))) (either (q x))
+
+length-pairs : (ns : List ℕ) → 2 * length (pairs ns) ≤ length ns
+unfolding pairs
+length-pairs [] = omega arith
+length-pairs (a ∷ []) = omega arith
+length-pairs (a ∷ b ∷ ns) = omega (arith, length-pairs ns)
+
+-- ---- every table of a session is valid
+
+valid-load : (l : Load) (room : ℕ) → loadTrial l room ≡ accepted → Valid (tableOf l)
+unfolding loadTrial tableOf badCount
+valid-load l room e =
+    let p2 = passed 2 _ _ e in
+    let p3 = passed 3 _ _ (p2 .1) in
+    let p4 = passed 4 _ _ (p3 .1) in
+    let p5 = passed 5 _ _ (p4 .1) in
+    let p6 = passed 6 _ _ (p5 .1) in
+    let p7 = passed 7 _ _ (p6 .1) in
+    let p8 = passed 8 _ _ (p7 .1) in
+    record {
+      size-ok = p2 .0;
+      start-ok = p3 .0;
+      marks-ok = p4 .0;
+      count-ok = omega (arith, length-pairs (l .numbers), ltb-false 4096 (length (l .numbers)) (or-false (eqb (length (l .numbers) % 2) 1) (ltb 4096 (length (l .numbers))) (p5 .0) .1));
+      inside = p6 .0;
+      no-loop = p7 .0;
+      once = p8 .0;
+    }
+
+valid-add : (t : Table) (e : Edge) (room : ℕ) → Valid t → addTrial t e room ≡ accepted → Valid (apply (add e) t)
+unfolding addTrial apply full
+valid-add t e room v a =
+    let p6 = passed 6 _ _ a in
+    let p7 = passed 7 _ _ (p6 .1) in
+    let p8 = passed 8 _ _ (p7 .1) in
+    let p9 = passed 9 _ _ (p8 .1) in
+    record {
+      size-ok = v .size-ok;
+      start-ok = v .start-ok;
+      marks-ok = v .marks-ok;
+      count-ok = omega (arith, length-append (t .edges) (e ∷ []), leb-false 2048 (length (t .edges)) (p9 .0));
+      inside = any-append (outside (t .size)) (t .edges) e (v .inside) (p6 .0);
+      no-loop = any-append selfLoop (t .edges) e (v .no-loop) (p7 .0);
+      once = repeated-add (t .edges) e (v .once) (p8 .0);
+    }
+
+valid-cut : (t : Table) (e : Edge) → Valid t → Valid (apply (cut e) t)
+unfolding apply without
+valid-cut t e v = record {
+  size-ok = v .size-ok;
+  start-ok = v .start-ok;
+  marks-ok = v .marks-ok;
+  count-ok = omega (arith, length-filter (λ f. not (sameEdge e f)) (t .edges), v .count-ok);
+  inside = any-filter (outside (t .size)) (λ f. not (sameEdge e f)) (t .edges) (v .inside);
+  no-loop = any-filter selfLoop (λ f. not (sameEdge e f)) (t .edges) (v .no-loop);
+  once = repeated-filter (λ f. not (sameEdge e f)) (t .edges) (v .once);
+}
+
+pub valid-change : (c : Change) (t : Table) (room : ℕ) → Valid t → changeTrial c t room ≡ accepted → Valid (apply c t)
+unfolding changeTrial
+valid-change (add e) t room v a = valid-add t e room v a
+valid-change (cut e) t room v a = valid-cut t e v
+
+pub valid : (t : Table) → Arises t → Valid t
+unfolding trialOf
+valid t (loaded l room e) = valid-load l room e
+valid t (changed u c a e) = valid-change (c .change) u (c .room) (valid u a) e
