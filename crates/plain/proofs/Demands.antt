@@ -278,7 +278,7 @@ kept-right c t v v′ =
       new-run = n .1;
       others = b .0;
       run-before = b .1;
-      within = omega (arith, ap length (p .1), length-append (p .0) (probesOf (firstMeeting (named c) (apply c t))));
+      adds-up = omega (arith, ap length (p .1), length-append (p .0) (probesOf (firstMeeting (named c) (apply c t))));
     }
 
 -- what demand 3 says of "kept", for every accepted change of a table that a session can hold

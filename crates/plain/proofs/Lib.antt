@@ -10,6 +10,7 @@ pub mod Resume
 pub mod Edges
 pub mod OuterProbes
 pub mod Rows
+pub mod Trials
 pub mod Tables
 pub mod Demands
 pub mod Games

@@ -15,6 +15,7 @@ use Rattle.plain.specs.Refusals.{Trial, accepted, refused, firstHeld, pa
 use Rattle.plain.specs.Machine.{Change, add, cut, tableOf, without, apply, changeTrial, Call, trialOf}
 use Rattle.plain.specs.Claims.{Arises, loaded, changed}
 use Rattle.plain.proofs.Tests.{contra, either, not-true, or-true, or-false, or-neither, any-head, any-tail, any-cases, any-nil, none-cons, filter-yes, filter-no}
+use Rattle.plain.proofs.Trials.{passed}
 use Rattle.plain.proofs.Edges.{same-edge, same-self}
 
 -- what every table of a session keeps: none of the conditions for a refusal holds of it
@@ -26,17 +27,6 @@ pub record Valid (t : Table) : Type 0 where
   pub inside : any (outside (t .size)) (t .edges) ≡ false
   pub no-loop : any selfLoop (t .edges) ≡ false
   pub once : repeated (t .edges) ≡ false
-
--- ---- trials
-
-accepted-not : (n : ℕ) → refused n ≡ accepted → ⊥
-accepted-not n e = let z : _≡_ {A = ℕ} 0 1 = cc in omega arith
-
--- where a call is accepted, no condition holds
-pub passed : (n : ℕ) (b : Bool) (cs : List (ℕ × Bool)) → firstHeld ((n, b) ∷ cs) ≡ accepted → (b ≡ false) × (firstHeld cs ≡ accepted)
-unfolding firstHeld
-passed n true cs e = absurd (accepted-not n e)
-passed n false cs e = (refl, e)
 
 -- ---- lists of edges
 
@@ -95,13 +85,13 @@ length-pairs (a ∷ b ∷ ns) = omega (arith, length-pairs ns)
 valid-load : (l : Load) (room : ℕ) → loadTrial l room ≡ accepted → Valid (tableOf l)
 unfolding loadTrial tableOf badCount
 valid-load l room e =
-    let p2 = passed 2 _ _ e in
-    let p3 = passed 3 _ _ (p2 .1) in
-    let p4 = passed 4 _ _ (p3 .1) in
-    let p5 = passed 5 _ _ (p4 .1) in
-    let p6 = passed 6 _ _ (p5 .1) in
-    let p7 = passed 7 _ _ (p6 .1) in
-    let p8 = passed 8 _ _ (p7 .1) in
+    let p2 = passed _ _ _ e in
+    let p3 = passed _ _ _ (p2 .1) in
+    let p4 = passed _ _ _ (p3 .1) in
+    let p5 = passed _ _ _ (p4 .1) in
+    let p6 = passed _ _ _ (p5 .1) in
+    let p7 = passed _ _ _ (p6 .1) in
+    let p8 = passed _ _ _ (p7 .1) in
     record {
       size-ok = p2 .0;
       start-ok = p3 .0;
@@ -115,10 +105,10 @@ valid-load l room e =
 valid-add : (t : Table) (e : Edge) (room : ℕ) → Valid t → addTrial t e room ≡ accepted → Valid (apply (add e) t)
 unfolding addTrial apply full
 valid-add t e room v a =
-    let p6 = passed 6 _ _ a in
-    let p7 = passed 7 _ _ (p6 .1) in
-    let p8 = passed 8 _ _ (p7 .1) in
-    let p9 = passed 9 _ _ (p8 .1) in
+    let p6 = passed _ _ _ a in
+    let p7 = passed _ _ _ (p6 .1) in
+    let p8 = passed _ _ _ (p7 .1) in
+    let p9 = passed _ _ _ (p8 .1) in
     record {
       size-ok = v .size-ok;
       start-ok = v .start-ok;

@@ -1,10 +1,11 @@
 -- What is promised of the plain answers: demand 2, and what "kept" means (demand 3). proofs/Demands.antt proves it. Assumes nothing.
-use Prim.Native.Nat.{ℕ, _+_, _*_, _≤_}
+use Prim.Native.Nat.{ℕ, _+_, _*_, _-_, _≤_}
 use mathlib.Core.Path.{_≡_}
 use mathlib.Core.Logic.{_≢_}
 use mathlib.Core.Bool.{Bool, true, false}
 use mathlib.Core.List.{List, [], _∷_, _++_}
 use lib.ListN.{length}
+use Rattle.plain.specs.Lists.{any}
 use Rattle.plain.specs.Search.{Edge, Verdict, none, lasso, unfinished, verdict, count, taken}
 use Rattle.plain.specs.Cycles.{FreeRound, Lasso}
 use Rattle.plain.specs.Table.{Table, graphOf, final, firstMeeting}
@@ -32,4 +33,13 @@ pub record KeptRight (c : Change) (t : Table) : Type 0 where
   pub new-run : taken (final (apply c t)) ≡ taken (firstMeeting (named c) (apply c t)) ++ rest
   pub others : List Edge
   pub run-before : taken (final t) ≡ taken (firstMeeting (named c) (apply c t)) ++ others
-  pub within : kept (named c) (apply c t) ≤ count (final (apply c t))
+  -- "Kept + spent = that search's full count"
+  pub adds-up : kept (named c) (apply c t) + (count (final (apply c t)) - kept (named c) (apply c t)) ≡ count (final (apply c t))
+
+-- "a number is handed back when its condition holds and no earlier one that is tried there does, and only then": cs are the conditions, in the
+-- order tried, each with its number
+pub record Handed (n : ℕ) (cs : List (ℕ × Bool)) : Type 0 where
+  pub earlier : List (ℕ × Bool)
+  pub later : List (ℕ × Bool)
+  pub tried : cs ≡ earlier ++ ((n, true) ∷ later)
+  pub none-earlier : any (λ (c : ℕ × Bool). c .1) earlier ≡ false

@@ -1,0 +1,99 @@
+-- Refusals: the number handed back is the first whose condition holds, and only that. Assumes nothing.
+use mathlib.Core.Path.{_≡_, refl, sym, ap, _∙_}
+use mathlib.Core.Logic.{_⊎_, inl, inr, ⊎-elim}
+use mathlib.Core.Bool.{Bool, true, false, not}
+use mathlib.Core.List.{List, [], _∷_, _++_}
+use Prim.Native.Nat.{ℕ}
+use native.Mathlib.Omega.{arith}
+use Rattle.plain.specs.Lists.{any}
+use Rattle.plain.specs.Search.{Edge}
+use Rattle.plain.specs.Table.{Table}
+use Rattle.plain.specs.Refusals.{Trial, accepted, refused, firstHeld, pairs, present, badSize, badStart, badMarks, badCount, outside, selfLoop, full, Load, loadTrial, addTrial, cutTrial}
+use Rattle.plain.specs.Claims.{Handed}
+use Rattle.plain.proofs.Tests.{contra, either, or-neither, none-cons, any-nil}
+
+-- a condition of a trial
+abbrev Condition : Type 0
+Condition = ℕ × Bool
+
+abbrev holds : Condition → Bool
+holds c = c .1
+
+held-first : (c : Condition) (cs : List Condition) → c .1 ≡ true → firstHeld (c ∷ cs) ≡ refused (c .0)
+unfolding firstHeld
+held-first c cs e = rw (e, firstHeld)
+
+held-later : (c : Condition) (cs : List Condition) → c .1 ≡ false → firstHeld (c ∷ cs) ≡ firstHeld cs
+unfolding firstHeld
+held-later c cs e = rw (e, firstHeld)
+
+refused-not : (n : ℕ) → refused n ≡ accepted → ⊥
+refused-not n e = let z : _≡_ {A = ℕ} 0 1 = cc in omega arith
+
+-- where a call is accepted, no condition holds
+pub passed : (n : ℕ) (b : Bool) (cs : List Condition) → firstHeld ((n, b) ∷ cs) ≡ accepted → (b ≡ false) × (firstHeld cs ≡ accepted)
+passed n b cs e = ⊎-elim
+    (λ h. absurd (refused-not n (sym (held-first (n, b) cs h) ∙ e)))
+    (λ h. (h, sym (held-later (n, b) cs h) ∙ e)) (either b)
+
+-- "a number is handed back when its condition holds and no earlier one .. does"
+pub handed-when : (n : ℕ) (cs : List Condition) → Handed n cs → firstHeld cs ≡ refused n
+handed-when n cs w = ap firstHeld (w .tried) ∙ skip (w .earlier) (w .none-earlier)
+  where
+    skip : (before : List Condition) → any holds before ≡ false → firstHeld (before ++ ((n, true) ∷ w .later)) ≡ refused n
+    skip [] f = held-first (n, true) (w .later) refl
+    skip (c ∷ before) f =
+        let v = none-cons holds c before f in
+        held-later c (before ++ ((n, true) ∷ w .later)) (v .0) ∙ skip before (v .1)
+
+-- "and only then"
+pub handed-only : (n : ℕ) (cs : List Condition) → firstHeld cs ≡ refused n → Handed n cs
+unfolding firstHeld any
+handed-only n [] e = absurd (refused-not n (sym e))
+handed-only n (c ∷ cs) e = ⊎-elim here (λ h. later h (handed-only n cs)) (either (c .1))
+  where
+    here : c .1 ≡ true → Handed n (c ∷ cs)
+    here h =
+        let z : refused (c .0) ≡ refused n = sym (held-first c cs h) ∙ e in
+        let y : c .0 ≡ n = cc in
+        let x : c ≡ (n, true) = λ i. (y i, h i) in
+        record { earlier = []; later = cs; tried = ap (λ (d : Condition). d ∷ cs) x; none-earlier = refl }
+
+    later : c .1 ≡ false → (firstHeld cs ≡ refused n → Handed n cs) → Handed n (c ∷ cs)
+    later h below =
+        let w = below (sym (held-later c cs h) ∙ e) in
+        record {
+          earlier = c ∷ w .earlier;
+          later = w .later;
+          tried = ap (λ (ds : List Condition). c ∷ ds) (w .tried);
+          none-earlier = or-neither (c .1) (any holds (w .earlier)) h (w .none-earlier);
+        }
+
+-- accepted exactly when no condition holds
+pub accepted-when : (cs : List Condition) → any holds cs ≡ false → firstHeld cs ≡ accepted
+unfolding firstHeld
+accepted-when [] f = refl
+accepted-when (c ∷ cs) f = let v = none-cons holds c cs f in held-later c cs (v .0) ∙ accepted-when cs (v .1)
+
+pub accepted-only : (cs : List Condition) → firstHeld cs ≡ accepted → any holds cs ≡ false
+unfolding any
+accepted-only [] e = refl
+accepted-only (c ∷ cs) e = let v = passed (c .0) (c .1) cs e in or-neither (c .1) (any holds cs) (v .0) (accepted-only cs (v .1))
+
+-- ---- orders that are easily mistaken
+
+-- a present move added to a full table: 8, not 9
+pub present-before-full : (t : Table) (e : Edge) (room : ℕ) → outside (t .size) e ≡ false → selfLoop e ≡ false → present (t .edges) e ≡ true → addTrial t e room ≡ refused 8
+unfolding addTrial
+present-before-full t e room f g h = held-later _ _ f ∙ held-later _ _ g ∙ held-first _ _ h
+
+-- a cut of a move outside the game: 6, not 10
+pub outside-before-absent : (t : Table) (e : Edge) (room : ℕ) → outside (t .size) e ≡ true → cutTrial t e room ≡ refused 6
+unfolding cutTrial
+outside-before-absent t e room h = held-first _ _ h
+
+-- a loaded move that names a state outside comes before every repeated one, wherever they stand in the list
+pub outside-before-repeated : (l : Load) (room : ℕ) → badSize (l .size) ≡ false → badStart (l .size) (l .start) ≡ false → badMarks (l .size) (l .words) ≡ false → badCount (l .numbers) ≡ false
+    → any (outside (l .size)) (pairs (l .numbers)) ≡ true → loadTrial l room ≡ refused 6
+unfolding loadTrial
+outside-before-repeated l room a b c d h = held-later _ _ a ∙ held-later _ _ b ∙ held-later _ _ c ∙ held-later _ _ d ∙ held-first _ _ h
