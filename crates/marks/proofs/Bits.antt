@@ -1,0 +1,81 @@
+-- A bit of a word, against and, or and the powers of 2. Assumes nothing.
+use mathlib.Core.Path.{_≡_, refl, sym, ap, _∙_}
+use mathlib.Core.Bool.{Bool, true, false, not, _||_, or-comm}
+use Prim.Native.Nat.{ℕ, zero, suc, _+_, _*_, _/_, _%_, _^_, _<_}
+use native.Mathlib.Nat.{zero-lt-suc, le-of-suc-le-suc, not-suc-le-zero, zero-mul, one-mul, zero-div, div-one, mod-lt, mul-mod-left, mul-div-cancel, pow-suc}
+use native.Mathlib.Numerals.{one-add}
+use native.Mathlib.Omega.{arith}
+use lib.Bits.{bitAnd, bitOr, and-high, or-add-and, or-shr, or-mod}
+use lib.Dec.{eqb, eqb·zero-suc, eqb·suc-zero, eqb·suc-suc}
+use lib.Pow.{high-ones, pow-pos, shr-shr}
+use borrow.Author.Tests.{ne-eqb}
+use Rattle.plain.specs.Table.{bit, one, withBit}
+
+-- what holds of 0 and of 1 holds of the remainder by 2
+pub either : (P : ℕ → Type 0) → P 0 → P 1 → (n : ℕ) → P (n % 2)
+either P p q n = go (n % 2) (mod-lt n (zero-lt-suc 1))
+  where
+    go : (d : ℕ) → d < 2 → P d
+    go zero h = p
+    go (suc zero) h = q
+    go (suc (suc d)) h = absurd (not-suc-le-zero (le-of-suc-le-suc (le-of-suc-le-suc h)))
+
+-- the digit at b is 1 where bit b is set, else 0
+pub digit : (b w : ℕ) → w / 2 ^ b % 2 ≡ one (bit b w)
+unfolding bit
+digit b w = either (λ (d : ℕ). d ≡ one (eqb d 1)) refl refl (w / 2 ^ b)
+
+-- 0 has no bit
+pub bit-of-zero : (b : ℕ) → bit b 0 ≡ false
+unfolding bit
+bit-of-zero b = ap (λ (q : ℕ). eqb (q % 2) 1) (zero-div (2 ^ b))
+
+-- a bit above the lowest is a bit of the half
+pub bit-suc : (b w : ℕ) → bit (suc b) w ≡ bit b (w / 2)
+unfolding bit
+bit-suc b w = ap (λ (q : ℕ). eqb (q % 2) 1) (sym (shr-shr w 1 b ∙ ap (λ (k : ℕ). w / 2 ^ k) (one-add b)))
+
+-- a power of 2 has one bit
+pub bit-of-power : (a b : ℕ) → bit a (2 ^ b) ≡ eqb a b
+unfolding bit
+bit-of-power zero zero = refl
+bit-of-power zero (suc b) =
+    ap (λ (q : ℕ). eqb (q % 2) 1) (div-one (2 ^ suc b) ∙ pow-suc 2 b) ∙ ap (λ (d : ℕ). eqb d 1) (mul-mod-left (2 ^ b) 2) ∙ sym (eqb·zero-suc b)
+bit-of-power (suc a) zero = bit-suc a 1 ∙ bit-of-zero a ∙ sym (eqb·suc-zero a)
+bit-of-power (suc a) (suc b) =
+    bit-suc a (2 ^ suc b) ∙ ap (bit a) (ap (λ (x : ℕ). x / 2) (pow-suc 2 b) ∙ mul-div-cancel (2 ^ b) (zero-lt-suc 1)) ∙ bit-of-power a b
+    ∙ sym (eqb·suc-suc a b)
+
+-- and with a power of 2 leaves that digit alone
+pub and-power : (b w : ℕ) → bitAnd w (2 ^ b) ≡ one (bit b w) * 2 ^ b
+and-power b w = ap (bitAnd w) (sym (high-ones 1 b ∙ one-mul (2 ^ b))) ∙ and-high w 1 b ∙ ap (λ (d : ℕ). d * 2 ^ b) (digit b w)
+
+-- and with a power of 2 is not 0 exactly when the bit is set
+pub and-tests : (b w : ℕ) → not (eqb (bitAnd w (2 ^ b)) 0) ≡ bit b w
+and-tests b w = ap (λ (x : ℕ). not (eqb x 0)) (and-power b w) ∙ go (bit b w)
+  where
+    go : (t : Bool) → not (eqb (one t * 2 ^ b) 0) ≡ t
+    go true = ap not (ne-eqb (1 * 2 ^ b) 0 (λ e. omega (arith, pow-pos b)))
+    go false = ap (λ (x : ℕ). not (eqb x 0)) (zero-mul (2 ^ b))
+
+-- or with a power of 2 sets the bit
+pub or-sets : (b w : ℕ) → bitOr w (2 ^ b) ≡ withBit b w
+unfolding withBit
+or-sets b w = go (bitOr w (2 ^ b)) (bit b w) (ap (λ (x : ℕ). bitOr w (2 ^ b) + x) (sym (and-power b w)) ∙ or-add-and w (2 ^ b))
+  where
+    go : (r : ℕ) (t : Bool) → r + one t * 2 ^ b ≡ w + 2 ^ b → r ≡ elim t [ true ↦ w | false ↦ w + 2 ^ b ]
+    go r true h = omega arith
+    go r false h = omega arith
+
+-- a bit of an or is set in one or the other
+pub bit-of-or : (a x y : ℕ) → bit a (bitOr x y) ≡ (bit a x || bit a y)
+unfolding bit
+bit-of-or a x y =
+    ap (λ (d : ℕ). eqb d 1) (ap (λ (q : ℕ). q % 2) (or-shr x y a) ∙ or-mod (x / 2 ^ a) (y / 2 ^ a) 1)
+    ∙ either (λ (d : ℕ). eqb (bitOr d (y / 2 ^ a % 2)) 1 ≡ (eqb d 1 || eqb (y / 2 ^ a % 2) 1)) refl
+    (either (λ (e : ℕ). eqb (bitOr 1 e) 1 ≡ (eqb 1 1 || eqb e 1)) refl refl (y / 2 ^ a)) (x / 2 ^ a)
+
+-- the bits of a word after one is set
+pub bit-of-withBit : (a b w : ℕ) → bit a (withBit b w) ≡ (eqb a b || bit a w)
+bit-of-withBit a b w =
+    ap (bit a) (sym (or-sets b w)) ∙ bit-of-or a w (2 ^ b) ∙ ap (λ (t : Bool). bit a w || t) (bit-of-power a b) ∙ or-comm (bit a w) (eqb a b)

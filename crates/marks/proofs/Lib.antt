@@ -1,0 +1,4 @@
+pub mod Bits
+pub mod Counts
+pub mod Masks
+pub mod Words
