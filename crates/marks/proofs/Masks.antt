@@ -7,24 +7,20 @@ use native.Mathlib.Nat.{add-zero, zero-add, add-suc, suc-add, le-of-suc-le-suc, 
 use lib.Dec.{eqb}
 use lib.ListN.{length, getD}
 use borrow.Author.Tests.{eqb-true}
+use Rattle.plain.proofs.Tests.{and-true}
 
 -- the test passes at each entry and its place, places counted from i
 abbrev pub passes : (ℕ → ℕ → Bool) → ℕ → List ℕ → Bool
 passes test i [] = true
 passes test i (x ∷ xs) = test i x && passes test (suc i) xs
 
--- two tests that pass together, each by itself
-parts : (a b : Bool) → (a && b) ≡ true → (a ≡ true) × (b ≡ true)
-parts true b e = (refl, e)
-parts false b e = (e, cc)
-
 -- a test that passes over the whole table passes at each entry
 pub passes-at : (test : ℕ → ℕ → Bool) (i : ℕ) (xs : List ℕ) → passes test i xs ≡ true → (k : ℕ) → k < length xs → test (i + k) (getD xs k 0) ≡ true
 passes-at test i [] e k h = absurd (not-suc-le-zero h)
-passes-at test i (x ∷ xs) e zero h = ap (λ (j : ℕ). test j x) (add-zero i) ∙ parts (test i x) (passes test (suc i) xs) e .0
+passes-at test i (x ∷ xs) e zero h = ap (λ (j : ℕ). test j x) (add-zero i) ∙ and-true (test i x) (passes test (suc i) xs) e .0
 passes-at test i (x ∷ xs) e (suc k) h =
     ap (λ (j : ℕ). test j (getD xs k 0)) (add-suc i k ∙ sym (suc-add i k))
-    ∙ passes-at test (suc i) xs (parts (test i x) (passes test (suc i) xs) e .1) k (le-of-suc-le-suc h)
+    ∙ passes-at test (suc i) xs (and-true (test i x) (passes test (suc i) xs) e .1) k (le-of-suc-le-suc h)
 
 -- the table of src/lib.rt
 unfoldable pub masks : List ℕ

@@ -1,3 +1,4 @@
+pub mod Games
 pub mod Tests
 pub mod Paths
 pub mod Runs
@@ -13,4 +14,3 @@ pub mod Rows
 pub mod Trials
 pub mod Tables
 pub mod Demands
-pub mod Games

@@ -33,19 +33,19 @@ pub row-has : (es : List Edge) (x y : ℕ) → In y (row es x) → Has es (x, y)
 row-has [] x y i = absurd (in-nil y (rw (row-nil x) at i))
 row-has (e ∷ es) x y i = ⊎-elim
     (λ h. ⊎-elim
-        (λ z. let w : x ≡ e .0 = sym (same h) in let f : (x, y) ≡ e = λ j. (w j, z j) in rw f (has-head e es))
-        (λ j. has-tail (x, y) e es (row-has es x y j)) (in-cases y (e .1) (row es x) (rw (row-yes e es x h) at i)))
+    (λ z. let w : x ≡ e .0 = sym (same h) in let f : (x, y) ≡ e = λ j. (w j, z j) in rw f (has-head e es))
+    (λ j. has-tail (x, y) e es (row-has es x y j)) (in-cases y (e .1) (row es x) (rw (row-yes e es x h) at i)))
     (λ h. has-tail (x, y) e es (row-has es x y (rw (row-no e es x h) at i))) (either (eqb (e .0) x))
 
 pub has-row : (es : List Edge) (x y : ℕ) → Has es (x, y) → In y (row es x)
 has-row [] x y h = has-nil (x, y) h
 has-row (e ∷ es) x y h = ⊎-elim
     (λ z. ⊎-elim
-        (λ t. rw (row-yes e es x t) (let w : y ≡ e .1 = ap (λ (f : Edge). f .1) z in rw w (in-head (e .1) (row es x))))
-        (λ f. absurd (eqb-false (e .0) x f (ap (λ (f : Edge). f .0) (sym z)))) (either (eqb (e .0) x)))
+    (λ t. rw (row-yes e es x t) (let w : y ≡ e .1 = ap (λ (f : Edge). f .1) z in rw w (in-head (e .1) (row es x))))
+    (λ f. absurd (eqb-false (e .0) x f (ap (λ (f : Edge). f .0) (sym z)))) (either (eqb (e .0) x)))
     (λ j. ⊎-elim
-        (λ t. rw (row-yes e es x t) (in-tail y (e .1) (row es x) (has-row es x y j)))
-        (λ f. rw (row-no e es x f) (has-row es x y j)) (either (eqb (e .0) x))) (has-cases (x, y) e es h)
+    (λ t. rw (row-yes e es x t) (in-tail y (e .1) (row es x) (has-row es x y j)))
+    (λ f. rw (row-no e es x f) (has-row es x y j)) (either (eqb (e .0) x))) (has-cases (x, y) e es h)
 
 -- ---- an added edge is the newest of its row, and the other rows stay
 
@@ -99,7 +99,7 @@ cut-stays : (es : List Edge) (e f : Edge) → sameEdge e f ≡ false → row (wi
     → row (without e (f ∷ es)) (e .0) ≡ but (e .1) (row (f ∷ es) (e .0))
 cut-stays es e f h below = ap (λ (l : List Edge). row l (e .0)) (cut-no e f es h) ∙ ⊎-elim
     (λ a. row-yes f (without e es) (e .0) a ∙ ap (λ (l : List ℕ). f .1 ∷ l) below
-        ∙ sym (ap (λ (l : List ℕ). but (e .1) l) (row-yes f es (e .0) a) ∙ but-no (e .1) (f .1) (row es (e .0)) (other-target e f h a)))
+    ∙ sym (ap (λ (l : List ℕ). but (e .1) l) (row-yes f es (e .0) a) ∙ but-no (e .1) (f .1) (row es (e .0)) (other-target e f h a)))
     (λ a. row-no f (without e es) (e .0) a ∙ below ∙ sym (ap (λ (l : List ℕ). but (e .1) l) (row-no f es (e .0) a))) (either (eqb (f .0) (e .0)))
 
 pub row-cut : (es : List Edge) (e : Edge) → row (without e es) (e .0) ≡ but (e .1) (row es (e .0))
@@ -112,10 +112,10 @@ unfolding without filter
 row-cut-other [] e x n = refl
 row-cut-other (f ∷ es) e x n = ⊎-elim
     (λ h. let z : e ≡ f = same-edge e f h in
-        ap (λ (l : List Edge). row l x) (cut-yes e f es h) ∙ row-cut-other es e x n ∙ sym (row-no f es x (rw z at n)))
+    ap (λ (l : List Edge). row l x) (cut-yes e f es h) ∙ row-cut-other es e x n ∙ sym (row-no f es x (rw z at n)))
     (λ h. ap (λ (l : List Edge). row l x) (cut-no e f es h) ∙ ⊎-elim
-        (λ a. row-yes f (without e es) x a ∙ rw (row-cut-other es e x n, row-yes f es x a))
-        (λ a. row-no f (without e es) x a ∙ rw (row-cut-other es e x n, row-no f es x a)) (either (eqb (f .0) x)))
+    (λ a. row-yes f (without e es) x a ∙ rw (row-cut-other es e x n, row-yes f es x a))
+    (λ a. row-no f (without e es) x a ∙ rw (row-cut-other es e x n, row-no f es x a)) (either (eqb (f .0) x)))
     (either (sameEdge e f))
 
 -- an edge that is cut and added again is the newest of its row

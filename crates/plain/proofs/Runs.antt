@@ -86,5 +86,5 @@ module _ (g : Graph) where
   lasso-inside k stays i stem cycle w x j = ⊎-elim
       (λ h. states-inside k stays (w .way) (g .start) (w .entry) (w .leads) i x (rw (w .begins) at (in-left x stem (w .entry ∷ []) h)))
       (λ h. states-inside k stays (w .others ++ (w .entry ∷ [])) (w .entry) (w .entry) (w .closes) (run-inside k stays (w .way) (g .start) (w .entry) (w .leads) i) x
-          (in-left x (w .entry ∷ w .others) (w .entry ∷ []) (rw (w .cycle-is) at h)))
+      (in-left x (w .entry ∷ w .others) (w .entry ∷ []) (rw (w .cycle-is) at h)))
       (in-append x stem cycle j)
