@@ -224,12 +224,13 @@ module _ (c : Change) (t : Table) (v : Valid t) (v′ : Valid (apply c t)) (n : 
 
   pub change-met : (r : Notes) → meets (named c) (run g n) ≡ true → Holds g r n → Met r
   unfolding final firstMeeting
-  change-met r m w =
+  change-met r m held =
       let f = first-meeting (named c) g h (agree c t) n m in
-      let k : meets (named c) (run h (f .at)) ≡ true = rw (f .there) (any-in (λ s. elem s (f .state ∷ f .earlier)) (f .state) (named c) (f .is-named) (in-head (f .state) (f .earlier))) in
+      let w = f .meeting in
+      let k : meets (named c) (run h (f .at)) ≡ true = rw (w .there) (any-in (λ s. elem s (w .state ∷ w .earlier)) (w .state) (named c) (w .is-named) (in-head (w .state) (w .earlier))) in
       record {
         meeting = f;
-        holds = resumed (named c) g h (agree c t) r n w f;
+        holds = resumed (named c) g h (agree c t) r n held f;
         kept-here = one-until h (named c) (budget (apply c t)) (f .at) (met-at-end h (named c) (f .at) (budget (apply c t)) (ends (apply c t) v′) k) k ∙ f .there-stops;
       }
 
@@ -256,7 +257,7 @@ began c t v v′ = ⊎-elim met unmet (either (meets (named c) (final t)))
     met m =
         let w = change-met c t v v′ (budget t) (ends t v) (notes (graphOf t) (budget t)) m (holds-notes (graphOf t) (budget t)) in
         let f = w .meeting in
-        let e : probesOf (run (graphOf t) (f .at)) ≡ probesOf (firstMeeting (named c) (apply c t)) = ap probesOf (f .here) ∙ sym (ap probesOf (w .kept-here ∙ f .there)) in
+        let e : probesOf (run (graphOf t) (f .at)) ≡ probesOf (firstMeeting (named c) (apply c t)) = ap probesOf (f .meeting .here) ∙ sym (ap probesOf (w .kept-here ∙ f .meeting .there)) in
         let p = probes-grow (graphOf t) (f .at) (budget t) (f .in-time) in
         taken-first (firstMeeting (named c) (apply c t)) (final t) (p .0, p .1 ∙ ap (λ (l : List Edge). p .0 ++ l) e)
 

@@ -49,6 +49,17 @@ module _ (g : Graph) where
   pub unmet-before : (named : List ℕ) (c : Config) → meets named (step g c) ≡ false → meets named c ≡ false
   unmet-before named c f = not-true (meets named c) (λ m. contra (meets-step named c m) f)
 
+  -- a single state
+
+  pub meets-one : (s : ℕ) (c : Config) → In s (discoveredOf c) → meets (s ∷ []) c ≡ true
+  meets-one s c i = any-head (λ x. elem x (discoveredOf c)) s [] i
+
+  pub unmet-one : (s : ℕ) (c : Config) → elem s (discoveredOf c) ≡ false → meets (s ∷ []) c ≡ false
+  unmet-one s c f = not-true (meets (s ∷ []) c) (λ m.
+      let v = any-some (λ x. elem x (discoveredOf c)) (s ∷ []) m in
+      let z : v .0 ≡ s = in-one (v .0) s (v .1) in
+      contra (rw z at (v .2)) f)
+
   -- ---- laws of `until`
 
   pub until-go : (named : List ℕ) (n : ℕ) (c : Config) → meets named c ≡ false → until g named (suc n) c ≡ until g named n (step g c)
@@ -144,8 +155,9 @@ module _ (named : List ℕ) (g h : Graph) (a : Agree named g h) where
   prefix zero f = begin-same f
   prefix (suc n) f = step-same (run g n) (inv-run g n) f ∙ ap (step h) (prefix n (unmet-before g named (run g n) f))
 
-  -- the step that meets a named state t: both searches discover it, each with its own edges of t before it
-  pub record Meeting (c : Config) : Type 0 where
+  -- Both searches have just discovered the same named state, and no named one before it, each with its own edges of that state before it;
+  -- what they have discovered, marked and probed is the same. c is the configuration on g, c′ that on h.
+  pub record Meeting (c c′ : Config) : Type 0 where
     pub state : ℕ
     pub path : List Frame
     pub earlier : List ℕ
@@ -153,59 +165,50 @@ module _ (named : List ℕ) (g h : Graph) (a : Agree named g h) where
     pub probes : List Edge
     pub is-named : In state named
     pub first : any (λ s. elem s earlier) named ≡ false
-    pub here : step g c ≡ discovery g state path earlier marked probes
-    pub there : step h c ≡ discovery h state path earlier marked probes
+    pub here : c ≡ discovery g state path earlier marked probes
+    pub there : c′ ≡ discovery h state path earlier marked probes
 
-  visit-meeting : (b : Bool) (s t : ℕ) (ts : List ℕ) (p : List Frame) (d k : List ℕ) (l : List Edge) → elem t d ≡ b → any (λ s. elem s d) named ≡ false
-      → meets named (visit g b s t ts p d k ((s, t) ∷ l)) ≡ true → Meeting (outer (frame s (t ∷ ts) ∷ p) d k l)
-  unfolding step
-  visit-meeting true s t ts p d k l e f m = absurd (contra m f)
-  visit-meeting false s t ts p d k l e f m =
+  -- the step that meets a named state
+  visit-meeting : (b : Bool) (s t : ℕ) (ts : List ℕ) (p : List Frame) (d k : List ℕ) (l : List Edge) → any (λ s. elem s d) named ≡ false
+      → meets named (visit g b s t ts p d k l) ≡ true → Meeting (visit g b s t ts p d k l) (visit h b s t ts p d k l)
+  visit-meeting true s t ts p d k l f m = absurd (contra m f)
+  visit-meeting false s t ts p d k l f m =
       let w = any-some (λ s. elem s (t ∷ d)) named m in
       record {
         state = t;
         path = frame s ts ∷ p;
         earlier = d;
         marked = k;
-        probes = (s, t) ∷ l;
+        probes = l;
         is-named = ⊎-elim (λ z. rw z at (w .1)) (λ i. absurd (contra (any-in (λ s. elem s d) (w .0) named (w .1) i) f)) (in-cases (w .0) t d (w .2));
         first = f;
-        here = rw e;
-        there = rw e;
+        here = refl;
+        there = refl;
       }
 
-  meeting : (c : Config) → meets named c ≡ false → meets named (step g c) ≡ true → Meeting c
+  meeting-step : (c : Config) → meets named c ≡ false → meets named (step g c) ≡ true → Meeting (step g c) (step h c)
   unfolding step
-  meeting (outer [] d k l) f m = absurd (contra m f)
-  meeting (outer (frame s [] ∷ p) d k l) f m = absurd (contra (rw (finish-discovered g (g .accepting s) s p d k l) at m) f)
-  meeting (outer (frame s (t ∷ ts) ∷ p) d k l) f m = visit-meeting (elem t d) s t ts p d k l refl f m
-  meeting (nested s p [] d k l) f m = absurd (contra m f)
-  meeting (nested s p (frame x [] ∷ q) d k l) f m = absurd (contra m f)
-  meeting (nested s p (frame x (t ∷ ts) ∷ q) d k l) f m =
+  meeting-step (outer [] d k l) f m = absurd (contra m f)
+  meeting-step (outer (frame s [] ∷ p) d k l) f m = absurd (contra (rw (finish-discovered g (g .accepting s) s p d k l) at m) f)
+  meeting-step (outer (frame s (t ∷ ts) ∷ p) d k l) f m = visit-meeting (elem t d) s t ts p d k ((s, t) ∷ l) f m
+  meeting-step (nested s p [] d k l) f m = absurd (contra m f)
+  meeting-step (nested s p (frame x [] ∷ q) d k l) f m = absurd (contra m f)
+  meeting-step (nested s p (frame x (t ∷ ts) ∷ q) d k l) f m =
       absurd (contra (rw (probe-discovered g (onPath t (frame s [] ∷ p)) (elem t k) s p x t ts q d k ((x, t) ∷ l)) at m) f)
-  meeting (exhausted d k l) f m = absurd (contra m f)
-  meeting (found t p q d k l) f m = absurd (contra m f)
+  meeting-step (exhausted d k l) f m = absurd (contra m f)
+  meeting-step (found t p q d k l) f m = absurd (contra m f)
 
-  -- The first meeting of a search of n steps: after `at` steps both searches have just discovered the same named state, and no named one before it;
-  -- what they have discovered, marked and probed is the same.
+  -- the first meeting within n steps
   pub record FirstMeeting (n : ℕ) : Type 0 where
     pub at : ℕ
-    pub state : ℕ
-    pub path : List Frame
-    pub earlier : List ℕ
-    pub marked : List ℕ
-    pub probes : List Edge
-    pub is-named : In state named
-    pub first : any (λ s. elem s earlier) named ≡ false
-    pub here : run g at ≡ discovery g state path earlier marked probes
-    pub there : run h at ≡ discovery h state path earlier marked probes
+    pub in-time : at ≤ n
+    pub meeting : Meeting (run g at) (run h at)
+    pub unmet : (m : ℕ) → at ≡ suc m → meets named (run g m) ≡ false
     pub here-stops : until g named n (begin g) ≡ run g at
     pub there-stops : until h named at (begin h) ≡ run h at
-    pub in-time : at ≤ n
-    pub unmet : (m : ℕ) → at ≡ suc m → meets named (run g m) ≡ false
-    -- it is the first meeting of that state alone
-    pub discovered : meets (state ∷ []) (run g n) ≡ true
-    pub alone : until g (state ∷ []) n (begin g) ≡ run g at
+    -- it is the discovery of that state
+    pub discovered : meets (meeting .state ∷ []) (run g n) ≡ true
+    pub discovery-stops : until g (meeting .state ∷ []) n (begin g) ≡ run g at
 
   pub first-meeting : (n : ℕ) → meets named (run g n) ≡ true → FirstMeeting n
   unfolding steps until
@@ -213,66 +216,54 @@ module _ (named : List ℕ) (g h : Graph) (a : Agree named g h) where
       let w = any-some (λ s. elem s (g .start ∷ [])) named m in
       record {
         at = 0;
-        state = g .start;
-        path = [];
-        earlier = [];
-        marked = [];
-        probes = [];
-        is-named = rw (in-one (w .0) (g .start) (w .2)) at (w .1);
-        first = not-true (any (λ s. elem s []) named) (λ e. let v = any-some (λ s. elem s []) named e in in-nil (v .0) (v .2));
-        here = refl;
-        there = rw (a .start);
+        in-time = omega arith;
+        meeting = record {
+          state = g .start;
+          path = [];
+          earlier = [];
+          marked = [];
+          probes = [];
+          is-named = rw (in-one (w .0) (g .start) (w .2)) at (w .1);
+          first = not-true (any (λ s. elem s []) named) (λ e. let v = any-some (λ s. elem s []) named e in in-nil (v .0) (v .2));
+          here = refl;
+          there = rw (a .start);
+        };
+        unmet = λ m e. absurd (omega arith);
         here-stops = refl;
         there-stops = refl;
-        in-time = omega arith;
-        unmet = λ m e. absurd (omega arith);
-        discovered = any-head (λ s. elem s (g .start ∷ [])) (g .start) [] (in-head (g .start) []);
-        alone = refl;
+        discovered = meets-one g (g .start) (begin g) (in-head (g .start) []);
+        discovery-stops = refl;
       }
   first-meeting (suc n) m = ⊎-elim (λ e. later e (first-meeting n e)) now (either (meets named (run g n)))
     where
       later : meets named (run g n) ≡ true → FirstMeeting n → FirstMeeting (suc n)
       later e w = record {
         at = w .at;
-        state = w .state;
-        path = w .path;
-        earlier = w .earlier;
-        marked = w .marked;
-        probes = w .probes;
-        is-named = w .is-named;
-        first = w .first;
-        here = w .here;
-        there = w .there;
+        in-time = omega (arith, w .in-time);
+        meeting = w .meeting;
+        unmet = w .unmet;
         here-stops = until-met g named n (begin g) e ∙ w .here-stops;
         there-stops = w .there-stops;
-        in-time = omega (arith, w .in-time);
-        unmet = w .unmet;
-        discovered = meets-step g (w .state ∷ []) (run g n) (w .discovered);
-        alone = until-met g (w .state ∷ []) n (begin g) (w .discovered) ∙ w .alone;
+        discovered = meets-step g (w .meeting .state ∷ []) (run g n) (w .discovered);
+        discovery-stops = until-met g (w .meeting .state ∷ []) n (begin g) (w .discovered) ∙ w .discovery-stops;
       }
+
+      -- the meeting on h, which has come to the same configuration before
+      moved : run g n ≡ run h n → Meeting (step g (run g n)) (step h (run g n)) → Meeting (step g (run g n)) (step h (run h n))
+      moved e w = rw (← e) w
 
       now : meets named (run g n) ≡ false → FirstMeeting (suc n)
       now f =
-          let w = meeting (run g n) f m in
           let e : run g n ≡ run h n = prefix n f in
+          let w = moved e (meeting-step (run g n) f m) in
           record {
             at = suc n;
-            state = w .state;
-            path = w .path;
-            earlier = w .earlier;
-            marked = w .marked;
-            probes = w .probes;
-            is-named = w .is-named;
-            first = w .first;
-            here = w .here;
-            there = ap (step h) (sym e) ∙ w .there;
+            in-time = omega arith;
+            meeting = w;
+            unmet = λ j z. let y : j ≡ n = omega arith in rw y f;
             here-stops = until-unmet g named n (begin g) f;
             there-stops = until-unmet h named n (begin h) (rw (← e) f);
-            in-time = omega arith;
-            unmet = λ j z. let y : j ≡ n = omega arith in rw y f;
-            discovered = any-head (λ s. elem s (discoveredOf (step g (run g n)))) (w .state) [] (rw (w .here) (in-head (w .state) (w .earlier)));
-            alone = until-unmet g (w .state ∷ []) n (begin g) (not-true (meets (w .state ∷ []) (run g n)) (λ o.
-                let v = any-some (λ s. elem s (discoveredOf (run g n))) (w .state ∷ []) o in
-                let z : v .0 ≡ w .state = in-one (v .0) (w .state) (v .1) in
-                contra (any-in (λ s. elem s (discoveredOf (run g n))) (w .state) named (w .is-named) (rw z at (v .2))) f));
+            discovered = meets-one g (w .state) (step g (run g n)) (rw (w .here) (in-head (w .state) (w .earlier)));
+            discovery-stops = until-unmet g (w .state ∷ []) n (begin g) (unmet-one g (w .state) (run g n)
+                (not-true (elem (w .state) (discoveredOf (run g n))) (λ i. contra (any-in (λ s. elem s (discoveredOf (run g n))) (w .state) named (w .is-named) i) f)));
           }

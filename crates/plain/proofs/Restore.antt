@@ -11,10 +11,10 @@ use borrow.Author.Tests.{ne-eqb, le-leb, lt-leb}
 use Rattle.plain.specs.Lists.{filter, elem, In}
 use Rattle.plain.specs.Search.{Graph, Edge, Frame, frame, onPath, Config, outer, nested, exhausted, found, discoveredOf, markedOf, probesOf, meets, begin, visit, finish, probe, step, steps, run, until}
 use Rattle.plain.specs.Notes.{Note, Notes, put, noteVisit, noteMark, noteProbe, noteOf, noted, notes, Below}
-use Rattle.plain.proofs.Tests.{contra, either, not-true, same, self, in-nil, in-head, in-tail, in-cases, in-one, in-out, filter-yes, filter-no, any-in, any-some, any-head}
+use Rattle.plain.proofs.Tests.{contra, either, not-true, same, self, in-nil, in-head, in-tail, in-cases, in-one, in-out, filter-yes, filter-no}
 use Rattle.plain.proofs.Paths.{On, on-head, on-tail, on-rest, off-nil}
 use Rattle.plain.proofs.Invariant.{Outer, Marks, Nested, Inv, inv-run}
-use Rattle.plain.proofs.Prefix.{discovery, finish-discovered, probe-discovered, step-keeps, until-met, until-unmet}
+use Rattle.plain.proofs.Prefix.{discovery, finish-discovered, probe-discovered, meets-one, unmet-one, until-met, until-unmet}
 
 pub put-same : {A : Type 0} (t : ℕ) (a : A) (f : ℕ → A) → put t a f t ≡ a
 unfolding put
@@ -321,15 +321,6 @@ module _ (g : Graph) where
     pub counted : Counted (notes g n) (run g n)
     pub restored : (s : ℕ) → In s (discoveredOf (run g n)) → Restored (notes g n) s (until g (s ∷ []) n (begin g)) (run g n)
 
-  meets-one : (s : ℕ) (c : Config) → In s (discoveredOf c) → meets (s ∷ []) c ≡ true
-  meets-one s c i = any-head (λ x. elem x (discoveredOf c)) s [] i
-
-  unmet-one : (s : ℕ) (c : Config) → elem s (discoveredOf c) ≡ false → meets (s ∷ []) c ≡ false
-  unmet-one s c f = not-true (meets (s ∷ []) c) (λ m.
-      let v = any-some (λ x. elem x (discoveredOf c)) (s ∷ []) m in
-      let z : v .0 ≡ s = in-one (v .0) s (v .1) in
-      contra (rw z at (v .2)) f)
-
   -- after any number of steps the notes restore every discovery
   pub noted-run : (n : ℕ) → Noted n
   unfolding notes steps until
@@ -360,8 +351,8 @@ module _ (g : Graph) where
         counted = w .counted;
         restored = λ s i. ⊎-elim
             (λ j. restored-later (notes g n) (notes g (suc n)) s (until g (s ∷ []) n (begin g)) (until g (s ∷ []) (suc n) (begin g)) (run g n) (run g (suc n))
-            (until-met g (s ∷ []) n (begin g) (meets-one s (run g n) j)) j (m .counted) (w .grows) (m .restored s j))
-            (λ f. rw (until-unmet g (s ∷ []) n (begin g) (unmet-one s (run g n) f)) (w .fresh s i f))
+            (until-met g (s ∷ []) n (begin g) (meets-one g s (run g n) j)) j (m .counted) (w .grows) (m .restored s j))
+            (λ f. rw (until-unmet g (s ∷ []) n (begin g) (unmet-one g s (run g n) f)) (w .fresh s i f))
             (either (elem s (discoveredOf (run g n))));
       }
 

@@ -186,6 +186,6 @@ module _ (named : List ℕ) (g h : Graph) (a : Agree named g h) where
       let e : n ≡ w .at + (n - w .at) = omega (arith, w .in-time) in
       let b : Holds g r (w .at) = holds-earlier g r (n - w .at) (w .at) (rw e at t) in
       record {
-        notes-right = λ x i. b .notes-right x (rw (w .here) (rw (w .there) at i)) ∙ ap (λ (y : Notes). y .of x) (meeting-notes n w);
-        stamps-right = λ x i. b .stamps-right x (rw (w .here) (rw (w .there) at i)) ∙ ap (λ (y : Notes). y .stamp x) (meeting-notes n w);
+        notes-right = λ x i. b .notes-right x (rw (w .meeting .here) (rw (w .meeting .there) at i)) ∙ ap (λ (y : Notes). y .of x) (meeting-notes n w);
+        stamps-right = λ x i. b .stamps-right x (rw (w .meeting .here) (rw (w .meeting .there) at i)) ∙ ap (λ (y : Notes). y .stamp x) (meeting-notes n w);
       }
