@@ -1,18 +1,18 @@
 -- The plain search ends within a bound, and probes each edge at most twice. Assumes nothing.
-use mathlib.Core.Path.{_≡_, refl, sym, ap, _∙_}
-use mathlib.Core.Logic.{_≢_, _⊎_, inl, inr, ⊎-elim}
+use mathlib.Core.Path.{_≡_, refl, sym}
+use mathlib.Core.Logic.{_≢_, ⊎-elim}
 use mathlib.Core.Bool.{Bool, true, false, _||_}
-use mathlib.Core.List.{List, [], _∷_, _++_}
+use mathlib.Core.List.{List, [], _∷_}
 use Prim.Native.Nat.{ℕ, zero, suc, _+_, _*_, _-_, _≤_, _<_}
 use native.Mathlib.Omega.{arith}
 use lib.Dec.{eqb}
 use lib.ListN.{length}
 use borrow.Author.Tests.{eqb-false}
-use Rattle.plain.specs.Lists.{elem, In, Once}
-use Rattle.plain.specs.Search.{Graph, Edge, Frame, frame, onPath, Config, outer, nested, exhausted, found, discoveredOf, probesOf, count, begin, visit, finish, probe, step, steps, run, Verdict, none, lasso, unfinished, verdict}
-use Rattle.plain.proofs.Tests.{contra, either, not-true, same, in-nil, out-nil, in-head, in-tail, in-cases, in-one}
+use Rattle.plain.specs.Lists.{elem, In}
+use Rattle.plain.specs.Search.{Graph, Edge, Frame, frame, onPath, Config, outer, nested, exhausted, found, discoveredOf, count, visit, finish, probe, step, steps, run, unfinished, verdict}
+use Rattle.plain.proofs.Tests.{contra, either, not-true, same, in-nil, out-nil, in-head, in-cases, in-one}
 use Rattle.plain.proofs.Paths.{on-head, pending-here}
-use Rattle.plain.proofs.Invariant.{Outer, Marks, Nested, Inv, next-known, inv-run}
+use Rattle.plain.proofs.Invariant.{Inv, next-known, inv-run}
 
 -- the edges of a path that are pending
 abbrev pub owed : List Frame → ℕ

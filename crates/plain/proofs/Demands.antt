@@ -1,26 +1,26 @@
 -- Demand 2 and the meaning of "kept", for every table that a session can hold. Assumes nothing.
 use mathlib.Core.Path.{_≡_, refl, sym, ap, _∙_}
-use mathlib.Core.Logic.{_≢_, _⊎_, inl, inr, ⊎-elim}
-use mathlib.Core.Bool.{Bool, true, false, _||_}
-use mathlib.Core.List.{List, [], _∷_, _++_, append-assoc, reverse, reverse-append}
-use Prim.Native.Nat.{ℕ, zero, suc, _+_, _*_, _-_, _≤_, _<_}
+use mathlib.Core.Logic.{_≢_, ⊎-elim}
+use mathlib.Core.Bool.{true, false}
+use mathlib.Core.List.{List, [], _∷_, _++_, reverse, reverse-append}
+use Prim.Native.Nat.{ℕ, zero, suc, _+_, _*_, _≤_, _<_}
 use native.Mathlib.Omega.{arith}
 use lib.Dec.{eqb, leb}
 use lib.ListN.{length, length-append}
 use borrow.Author.Tests.{leb-false, eqb-false}
 use Rattle.plain.specs.Lists.{any, elem, In, Once}
-use Rattle.plain.specs.Search.{Graph, Edge, Config, discoveredOf, probesOf, taken, count, meets, begin, run, until, Verdict, none, lasso, unfinished, verdict}
+use Rattle.plain.specs.Search.{Graph, Edge, Config, probesOf, taken, count, meets, run, Verdict, none, lasso, unfinished, verdict}
 use Rattle.plain.specs.Cycles.{FreeRound, Lasso}
 use Rattle.plain.specs.Table.{Table, row, graphOf, budget, final, firstMeeting}
 use Rattle.plain.specs.Refusals.{badStart, outside, accepted}
 use Rattle.plain.specs.Machine.{Change, named, apply, kept, Call, trialOf}
 use Rattle.plain.specs.Notes.{Notes, notes}
-use Rattle.plain.specs.Claims.{Arises, loaded, changed, VerdictRight, KeptRight}
-use Rattle.plain.proofs.Tests.{contra, either, same, self, not-in, in-nil, in-head, in-tail, in-cases, or-first, or-false, none-cons, any-in}
+use Rattle.plain.specs.Claims.{Arises, changed, VerdictRight, KeptRight}
+use Rattle.plain.proofs.Tests.{either, same, not-in, in-nil, in-head, in-tail, in-cases, or-first, or-false, none-cons, any-in}
 use Rattle.plain.proofs.Runs.{lasso-free, lasso-inside}
 use Rattle.plain.proofs.Lassos.{sound, none-right}
 use Rattle.plain.proofs.Bounds.{left, left-drop, probes-twice, ended-by}
-use Rattle.plain.proofs.Prefix.{discovery, FirstMeeting, first-meeting, prefix}
+use Rattle.plain.proofs.Prefix.{FirstMeeting, first-meeting}
 use Rattle.plain.proofs.Resume.{one-end, one-until, met-at-end, until-end, until-at, probes-grow, Holds, holds-notes, unchanged, resumed}
 use Rattle.plain.proofs.Edges.{Has, has-cases, has-nil}
 use Rattle.plain.proofs.Rows.{row-yes, row-no, row-nil, row-has, agree}

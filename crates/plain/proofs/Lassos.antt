@@ -1,19 +1,19 @@
 -- "round" is right: the walk is a run of the graph from its start into a cycle that closes and passes an accepting state, and repeats no state.
 -- Assumes nothing.
 use mathlib.Core.Path.{_≡_, refl, sym, ap, _∙_}
-use mathlib.Core.Logic.{_≢_, _⊎_, inl, inr, ⊎-elim}
-use mathlib.Core.Bool.{Bool, true, false}
+use mathlib.Core.Logic.{⊎-elim}
+use mathlib.Core.Bool.{true, false}
 use mathlib.Core.List.{List, [], _∷_, _++_, append-assoc}
-use Prim.Native.Nat.{ℕ, zero, suc}
+use Prim.Native.Nat.{ℕ}
 use native.Mathlib.Omega.{arith}
 use lib.Dec.{eqb}
 use lib.ListN.{drop}
 use borrow.Author.Tests.{eqb-false}
 use Rattle.plain.specs.Lists.{elem, In, Once, before, from}
-use Rattle.plain.specs.Search.{Graph, Edge, Frame, frame, onPath, Config, outer, nested, exhausted, found, run, statesOf, stemOf, cycleOf, Verdict, none, lasso, unfinished, verdict}
+use Rattle.plain.specs.Search.{Graph, Edge, Frame, frame, onPath, Config, outer, nested, exhausted, found, run, statesOf, stemOf, cycleOf, none, lasso, verdict}
 use Rattle.plain.specs.Cycles.{Run, FreeRound, Lasso}
 use Rattle.plain.proofs.Tests.{contra, either, same, self, in-nil, in-head, in-tail, in-cases, in-one, not-in, in-append, in-left, in-right}
-use Rattle.plain.proofs.Paths.{On, Off, Distinct, on-head, on-tail, on-cases, off-tail}
+use Rattle.plain.proofs.Paths.{On, Distinct, on-head, on-tail, on-cases}
 use Rattle.plain.proofs.Runs.{run-join, run-snoc}
 use Rattle.plain.proofs.Invariant.{Linked, Inv, Found, inv-run, complete}
 

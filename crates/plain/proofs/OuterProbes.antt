@@ -1,11 +1,10 @@
 -- The nested search probes only edges that the outer search has probed before. Assumes nothing.
-use mathlib.Core.Path.{_≡_, refl, sym, _∙_}
-use mathlib.Core.Logic.{_⊎_, inl, inr, ⊎-elim}
+use mathlib.Core.Logic.{⊎-elim}
 use mathlib.Core.Bool.{Bool, true, false}
 use mathlib.Core.List.{List, [], _∷_, _++_}
 use Prim.Native.Nat.{ℕ, zero, suc}
-use Rattle.plain.specs.Lists.{elem, In}
-use Rattle.plain.specs.Search.{Graph, Edge, Frame, frame, onPath, Config, outer, nested, exhausted, found, probesOf, begin, visit, finish, probe, step, steps, run}
+use Rattle.plain.specs.Lists.{elem}
+use Rattle.plain.specs.Search.{Graph, Edge, Frame, frame, onPath, Config, outer, nested, exhausted, found, probesOf, visit, finish, probe, step, steps, run}
 use Rattle.plain.proofs.Tests.{contra, in-nil}
 use Rattle.plain.proofs.Paths.{pending-on}
 use Rattle.plain.proofs.Edges.{Has, has-head, has-tail, has-cases, has-nil}

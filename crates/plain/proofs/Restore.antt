@@ -1,20 +1,20 @@
 -- The notes of a search give back, for each discovered state, the whole configuration in which it was discovered. Assumes nothing.
 use mathlib.Core.Path.{_≡_, refl, sym, ap, _∙_}
-use mathlib.Core.Logic.{_≢_, _⊎_, inl, inr, ⊎-elim}
+use mathlib.Core.Logic.{⊎-elim}
 use mathlib.Core.Bool.{Bool, true, false}
 use mathlib.Core.List.{List, [], _∷_, _++_, append-assoc}
-use Prim.Native.Nat.{ℕ, zero, suc, _+_, _-_, _≤_, _<_}
+use Prim.Native.Nat.{ℕ, zero, suc, _-_, _≤_, _<_}
 use native.Mathlib.Omega.{arith}
-use lib.Dec.{eqb, leb}
+use lib.Dec.{leb}
 use lib.ListN.{length, drop, length-append}
 use borrow.Author.Tests.{ne-eqb, le-leb, lt-leb}
 use Rattle.plain.specs.Lists.{filter, elem, In}
-use Rattle.plain.specs.Search.{Graph, Edge, Frame, frame, onPath, Config, outer, nested, exhausted, found, discoveredOf, markedOf, probesOf, meets, begin, visit, finish, probe, step, steps, run, until}
+use Rattle.plain.specs.Search.{Graph, Edge, Frame, frame, onPath, Config, outer, nested, exhausted, found, discoveredOf, markedOf, probesOf, begin, visit, finish, probe, step, steps, run, until}
 use Rattle.plain.specs.Notes.{Note, Notes, put, noteVisit, noteMark, noteProbe, noteOf, noted, notes, Below}
-use Rattle.plain.proofs.Tests.{contra, either, not-true, same, self, in-nil, in-head, in-tail, in-cases, in-one, in-out, filter-yes, filter-no}
-use Rattle.plain.proofs.Paths.{On, on-head, on-tail, on-rest, off-nil}
-use Rattle.plain.proofs.Invariant.{Outer, Marks, Nested, Inv, inv-run}
-use Rattle.plain.proofs.Prefix.{discovery, finish-discovered, probe-discovered, meets-one, unmet-one, until-met, until-unmet}
+use Rattle.plain.proofs.Tests.{contra, either, not-true, self, in-nil, in-head, in-tail, in-cases, in-one, in-out, filter-yes, filter-no}
+use Rattle.plain.proofs.Paths.{On, on-head, on-tail, off-nil}
+use Rattle.plain.proofs.Invariant.{Outer, Marks, Inv, inv-run}
+use Rattle.plain.proofs.Prefix.{discovery, meets-one, unmet-one, until-met, until-unmet}
 
 pub put-same : {A : Type 0} (t : ℕ) (a : A) (f : ℕ → A) → put t a f t ≡ a
 unfolding put

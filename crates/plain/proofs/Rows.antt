@@ -1,18 +1,18 @@
 -- The rows of a table: an edge is present exactly when its target is in its row; a change alters one row. Assumes nothing.
 use mathlib.Core.Path.{_≡_, refl, sym, ap, _∙_}
-use mathlib.Core.Logic.{_⊎_, inl, inr, ⊎-elim}
-use mathlib.Core.Bool.{Bool, true, false, _&&_, _||_, not}
-use mathlib.Core.List.{List, [], _∷_, _++_, map}
-use Prim.Native.Nat.{ℕ, zero, suc}
+use mathlib.Core.Logic.{⊎-elim}
+use mathlib.Core.Bool.{true, false, not}
+use mathlib.Core.List.{List, [], _∷_, _++_}
+use Prim.Native.Nat.{ℕ}
 use lib.Dec.{eqb}
-use borrow.Author.Tests.{eqb-false, ne-eqb}
-use Rattle.plain.specs.Lists.{any, filter, elem, In}
-use Rattle.plain.specs.Search.{Graph, Edge}
+use borrow.Author.Tests.{eqb-false}
+use Rattle.plain.specs.Lists.{filter, elem, In}
+use Rattle.plain.specs.Search.{Edge}
 use Rattle.plain.specs.Table.{Table, row, graphOf}
-use Rattle.plain.specs.Refusals.{sameEdge, present}
+use Rattle.plain.specs.Refusals.{sameEdge}
 use Rattle.plain.specs.Machine.{Change, add, cut, named, without, apply}
 use Rattle.plain.proofs.Tests.{contra, either, not-true, same, self, in-nil, in-head, in-tail, in-cases, filter-yes, filter-no}
-use Rattle.plain.proofs.Edges.{Has, has-head, has-tail, has-cases, has-nil, same-edge, same-self}
+use Rattle.plain.proofs.Edges.{Has, has-head, has-tail, has-cases, has-nil, same-edge}
 use Rattle.plain.proofs.Prefix.{Agree}
 
 pub row-yes : (e : Edge) (es : List Edge) (s : ℕ) → eqb (e .0) s ≡ true → row (e ∷ es) s ≡ e .1 ∷ row es s

@@ -1,14 +1,12 @@
 -- Runs of edges: joined, split, and kept inside a set that the edges do not leave. Assumes nothing.
-use mathlib.Core.Path.{_≡_, refl, sym, _∙_}
-use mathlib.Core.Logic.{_⊎_, inl, inr, ⊎-elim}
-use mathlib.Core.Bool.{Bool, true, false}
+use mathlib.Core.Path.{refl, sym}
+use mathlib.Core.Logic.{⊎-elim}
 use mathlib.Core.List.{List, [], _∷_, _++_}
 use Prim.Native.Nat.{ℕ}
-use native.Mathlib.Omega.{arith}
-use Rattle.plain.specs.Lists.{elem, In}
+use Rattle.plain.specs.Lists.{In}
 use Rattle.plain.specs.Search.{Graph}
-use Rattle.plain.specs.Cycles.{Run, AcceptingCycle, Reachable, FreeRound, Lasso}
-use Rattle.plain.proofs.Tests.{in-nil, in-head, in-tail, in-cases, in-append, in-left, in-right}
+use Rattle.plain.specs.Cycles.{Run, FreeRound, Lasso}
+use Rattle.plain.proofs.Tests.{in-nil, in-head, in-cases, in-append, in-left, in-right}
 
 module _ (g : Graph) where
   pub run-join : (xs ys : List ℕ) (a b c : ℕ) → Run g a xs b → Run g b ys c → Run g a (xs ++ ys) c

@@ -1,20 +1,20 @@
 -- The tables that a session can hold keep the limits of document 01. Assumes nothing.
-use mathlib.Core.Path.{_≡_, refl, sym, ap, _∙_}
-use mathlib.Core.Logic.{_≢_, _⊎_, inl, inr, ⊎-elim}
-use mathlib.Core.Bool.{Bool, true, false, _&&_, _||_, not}
+use mathlib.Core.Path.{_≡_, refl, ap}
+use mathlib.Core.Logic.{⊎-elim}
+use mathlib.Core.Bool.{Bool, false, not}
 use mathlib.Core.List.{List, [], _∷_, _++_}
-use Prim.Native.Nat.{ℕ, zero, suc, _+_, _*_, _%_, _≤_, _<_}
+use Prim.Native.Nat.{ℕ, _*_, _%_, _≤_}
 use native.Mathlib.Omega.{arith}
-use lib.Dec.{eqb, leb, ltb}
+use lib.Dec.{eqb, ltb}
 use lib.ListN.{length, length-append}
 use borrow.Author.Tests.{ltb-false, leb-false}
 use Rattle.plain.specs.Lists.{any, filter}
 use Rattle.plain.specs.Search.{Edge}
 use Rattle.plain.specs.Table.{Table}
-use Rattle.plain.specs.Refusals.{Trial, accepted, refused, firstHeld, pairs, sameEdge, present, badSize, badStart, badMarks, badCount, outside, selfLoop, repeated, full, Load, loadTrial, addTrial, cutTrial}
-use Rattle.plain.specs.Machine.{Change, add, cut, tableOf, without, apply, changeTrial, Call, trialOf}
+use Rattle.plain.specs.Refusals.{accepted, pairs, sameEdge, present, badSize, badStart, badMarks, badCount, outside, selfLoop, repeated, full, Load, loadTrial, addTrial}
+use Rattle.plain.specs.Machine.{Change, add, cut, tableOf, without, apply, changeTrial, trialOf}
 use Rattle.plain.specs.Claims.{Arises, loaded, changed}
-use Rattle.plain.proofs.Tests.{contra, either, not-true, or-true, or-false, or-neither, any-head, any-tail, any-cases, any-nil, none-cons, filter-yes, filter-no}
+use Rattle.plain.proofs.Tests.{contra, either, not-true, or-false, or-neither, any-cases, none-cons, filter-yes, filter-no}
 use Rattle.plain.proofs.Trials.{passed}
 use Rattle.plain.proofs.Edges.{same-edge, same-self}
 

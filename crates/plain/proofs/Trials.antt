@@ -1,16 +1,16 @@
 -- Refusals: the number handed back is the first whose condition holds, and only that. Assumes nothing.
 use mathlib.Core.Path.{_≡_, refl, sym, ap, _∙_}
-use mathlib.Core.Logic.{_⊎_, inl, inr, ⊎-elim}
-use mathlib.Core.Bool.{Bool, true, false, not}
+use mathlib.Core.Logic.{⊎-elim}
+use mathlib.Core.Bool.{Bool, true, false}
 use mathlib.Core.List.{List, [], _∷_, _++_}
 use Prim.Native.Nat.{ℕ}
 use native.Mathlib.Omega.{arith}
 use Rattle.plain.specs.Lists.{any}
 use Rattle.plain.specs.Search.{Edge}
 use Rattle.plain.specs.Table.{Table}
-use Rattle.plain.specs.Refusals.{Trial, accepted, refused, firstHeld, pairs, present, badSize, badStart, badMarks, badCount, outside, selfLoop, full, Load, loadTrial, addTrial, cutTrial}
+use Rattle.plain.specs.Refusals.{accepted, refused, firstHeld, pairs, present, badSize, badStart, badMarks, badCount, outside, selfLoop, Load, loadTrial, addTrial, cutTrial}
 use Rattle.plain.specs.Claims.{Handed}
-use Rattle.plain.proofs.Tests.{contra, either, or-neither, none-cons, any-nil}
+use Rattle.plain.proofs.Tests.{either, or-neither, none-cons}
 
 -- a condition of a trial
 abbrev Condition : Type 0

@@ -1,6 +1,6 @@
 -- Document 01, "Games with known results": games A to I, the changes made to them, and the lines printed. Assumes nothing.
-use Prim.Native.Nat.{ℕ, zero, suc, _+_, _^_}
-use mathlib.Core.List.{List, [], _∷_, map}
+use Prim.Native.Nat.{ℕ, _+_, _^_}
+use mathlib.Core.List.{List, [], _∷_}
 use lib.ListN.{replicate}
 use Rattle.plain.specs.Refusals.{Load}
 use Rattle.plain.specs.Machine.{Change, add, cut, Call, Line, game, round, empty, no}

@@ -1,10 +1,10 @@
 -- Document 01, "The plain table" and "Load, add, cut": what each call answers, and what it leaves. Assumes nothing.
-use Prim.Native.Nat.{ℕ, zero, suc, _+_, _-_}
-use mathlib.Core.Bool.{Bool, true, false, not}
+use Prim.Native.Nat.{ℕ, _+_, _-_}
+use mathlib.Core.Bool.{not}
 use mathlib.Core.List.{List, [], _∷_, _++_}
 use lib.ListN.{length, drop}
 use Rattle.plain.specs.Lists.{filter}
-use Rattle.plain.specs.Search.{Edge, Config, Verdict, none, lasso, unfinished, verdict, count}
+use Rattle.plain.specs.Search.{Edge, Verdict, none, lasso, unfinished, verdict, count}
 use Rattle.plain.specs.Table.{Table, final, firstMeeting, acceptingCount}
 use Rattle.plain.specs.Refusals.{Trial, accepted, refused, Load, loadTrial, addTrial, cutTrial, pairs, sameEdge}
 

@@ -1,11 +1,11 @@
 -- Document 01, "The game table", and the plain search on it. Assumes nothing.
 use Prim.Native.Nat.{ℕ, zero, suc, _+_, _*_, _/_, _%_, _^_}
 use mathlib.Core.Bool.{Bool, true, false}
-use mathlib.Core.List.{List, [], _∷_, map}
+use mathlib.Core.List.{List, map}
 use lib.Dec.{eqb}
 use lib.ListN.{length, getD, set}
 use Rattle.plain.specs.Lists.{filter}
-use Rattle.plain.specs.Search.{Graph, Edge, Config, run, begin, until, count}
+use Rattle.plain.specs.Search.{Graph, Edge, Config, run, begin, until}
 
 -- "A game has N states, numbered 0 to N − 1, one start state, a set of paying states and a list of moves."
 pub record Table : Type 0 where
