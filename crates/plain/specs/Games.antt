@@ -3,7 +3,7 @@ use Prim.Native.Nat.{ℕ, _+_, _^_}
 use mathlib.Core.List.{List, [], _∷_}
 use lib.ListN.{replicate}
 use Rattle.plain.specs.Refusals.{Load}
-use Rattle.plain.specs.Machine.{Change, add, cut, Call, Line, game, round, empty, no}
+use Rattle.plain.specs.Machine.{Change, add, cut, Call, Line, gameLine, roundLine, noneLine, noLine}
 
 -- a game, the changes made to it in turn, and the lines printed
 pub record Known : Type 0 where
@@ -32,29 +32,29 @@ unfoldable pub games : List Known
 games =
     -- A
     known 4 (2 ∷ []) (0 ∷ 1 ∷ 1 ∷ 2 ∷ []) (add (2, 1) ∷ add (2, 3) ∷ cut (1, 2) ∷ cut (1, 2) ∷ add (2, 0) ∷ [])
-    (game 4 2 1
-    ∷ empty 2 0
-    ∷ round 2 2 1 2 (0 ∷ 1 ∷ 2 ∷ [])
-    ∷ round 3 2 1 2 (0 ∷ 1 ∷ 2 ∷ [])
-    ∷ empty 0 1
-    ∷ no 10
-    ∷ empty 0 1
+    (gameLine 4 2 1
+    ∷ noneLine 2 0
+    ∷ roundLine 2 2 1 2 (0 ∷ 1 ∷ 2 ∷ [])
+    ∷ roundLine 3 2 1 2 (0 ∷ 1 ∷ 2 ∷ [])
+    ∷ noneLine 0 1
+    ∷ noLine 10
+    ∷ noneLine 0 1
     ∷ [])
     -- B
-    ∷ known 1 [] [] [] (game 1 0 0 ∷ empty 0 0 ∷ [])
+    ∷ known 1 [] [] [] (gameLine 1 0 0 ∷ noneLine 0 0 ∷ [])
     -- C
-    ∷ known 2 (1 ∷ []) (0 ∷ 1 ∷ 1 ∷ 0 ∷ []) [] (game 2 2 1 ∷ round 3 0 0 2 (0 ∷ 1 ∷ []) ∷ [])
+    ∷ known 2 (1 ∷ []) (0 ∷ 1 ∷ 1 ∷ 0 ∷ []) [] (gameLine 2 2 1 ∷ roundLine 3 0 0 2 (0 ∷ 1 ∷ []) ∷ [])
     -- D
-    ∷ known 2 (0 ∷ []) (0 ∷ 1 ∷ 1 ∷ 0 ∷ []) [] (game 2 2 1 ∷ round 4 0 0 2 (0 ∷ 1 ∷ []) ∷ [])
+    ∷ known 2 (0 ∷ []) (0 ∷ 1 ∷ 1 ∷ 0 ∷ []) [] (gameLine 2 2 1 ∷ roundLine 4 0 0 2 (0 ∷ 1 ∷ []) ∷ [])
     -- E
-    ∷ known 2 [] (0 ∷ 1 ∷ 1 ∷ 0 ∷ []) [] (game 2 2 0 ∷ empty 2 0 ∷ [])
+    ∷ known 2 [] (0 ∷ 1 ∷ 1 ∷ 0 ∷ []) [] (gameLine 2 2 0 ∷ noneLine 2 0 ∷ [])
     -- F
-    ∷ known 3 (0 ∷ []) (0 ∷ 1 ∷ 1 ∷ 2 ∷ 2 ∷ 1 ∷ []) [] (game 3 3 1 ∷ empty 6 0 ∷ [])
+    ∷ known 3 (0 ∷ []) (0 ∷ 1 ∷ 1 ∷ 2 ∷ 2 ∷ 1 ∷ []) [] (gameLine 3 3 1 ∷ noneLine 6 0 ∷ [])
     -- G
-    ∷ known 3 (1 ∷ []) (1 ∷ 2 ∷ 2 ∷ 1 ∷ []) [] (game 3 2 1 ∷ empty 0 0 ∷ [])
+    ∷ known 3 (1 ∷ []) (1 ∷ 2 ∷ 2 ∷ 1 ∷ []) [] (gameLine 3 2 1 ∷ noneLine 0 0 ∷ [])
     -- H
     ∷ known 3 (1 ∷ 2 ∷ []) (0 ∷ 1 ∷ 0 ∷ 2 ∷ 1 ∷ 0 ∷ 2 ∷ 0 ∷ []) (cut (0, 1) ∷ add (0, 1) ∷ [])
-    (game 3 4 2 ∷ round 3 0 0 2 (0 ∷ 1 ∷ []) ∷ round 3 0 0 2 (0 ∷ 2 ∷ []) ∷ round 3 0 0 2 (0 ∷ 2 ∷ []) ∷ [])
+    (gameLine 3 4 2 ∷ roundLine 3 0 0 2 (0 ∷ 1 ∷ []) ∷ roundLine 3 0 0 2 (0 ∷ 2 ∷ []) ∷ roundLine 3 0 0 2 (0 ∷ 2 ∷ []) ∷ [])
     -- I
-    ∷ known 3 (0 ∷ 1 ∷ []) (0 ∷ 1 ∷ 1 ∷ 2 ∷ 2 ∷ 1 ∷ []) [] (game 3 3 2 ∷ round 5 0 1 2 (0 ∷ 1 ∷ 2 ∷ []) ∷ [])
+    ∷ known 3 (0 ∷ 1 ∷ []) (0 ∷ 1 ∷ 1 ∷ 2 ∷ 2 ∷ 1 ∷ []) [] (gameLine 3 3 2 ∷ roundLine 5 0 1 2 (0 ∷ 1 ∷ 2 ∷ []) ∷ [])
     ∷ []

@@ -92,18 +92,18 @@ written (answer unfinished spent kept) lent = lent
 -- The output lines of document 01, their fields in the order printed.
 pub data Line : Type 0 where
   -- N, the count of moves, the count of paying states
-  game : ℕ → ℕ → ℕ → Line
+  gameLine : ℕ → ℕ → ℕ → Line
   -- spent, kept, stem length, round length, the walk
-  round : ℕ → ℕ → ℕ → ℕ → List ℕ → Line
+  roundLine : ℕ → ℕ → ℕ → ℕ → List ℕ → Line
   -- spent, kept
-  empty : ℕ → ℕ → Line
+  noneLine : ℕ → ℕ → Line
   -- the refusal's number
-  no : ℕ → Line
+  noLine : ℕ → Line
 
 unfoldable pub answerLine : Answer → List Line
-answerLine (refusal n) = no n ∷ []
-answerLine (answer none spent kept) = empty spent kept ∷ []
-answerLine (answer (lasso stem cycle) spent kept) = round spent kept (length stem) (length cycle) (stem ++ cycle) ∷ []
+answerLine (refusal n) = noLine n ∷ []
+answerLine (answer none spent kept) = noneLine spent kept ∷ []
+answerLine (answer (lasso stem cycle) spent kept) = roundLine spent kept (length stem) (length cycle) (stem ++ cycle) ∷ []
 answerLine (answer unfinished spent kept) = []
 
 unfoldable pub answerLines : List Answer → List Line
@@ -113,7 +113,7 @@ answerLines (a ∷ rest) = answerLine a ++ answerLines rest
 -- the lines of a load and the calls after it; a refused load ends the session
 unfoldable pub transcript : Load → ℕ → List Call → List Line
 transcript l room cs = elim (loadTrial l room) [
-  | accepted ↦ game (l .size) (length (pairs (l .numbers))) (acceptingCount (l .words))
+  | accepted ↦ gameLine (l .size) (length (pairs (l .numbers))) (acceptingCount (l .words))
       ∷ answerLines (loadAnswer accepted (tableOf l) ∷ answers cs (tableOf l))
-  | refused n ↦ no n ∷ []
+  | refused n ↦ noLine n ∷ []
 ]

@@ -53,7 +53,7 @@ row es s = map (λ (e : Edge). e .1) (filter (λ (e : Edge). eqb (e .0) s) es)
 abbrev pub graphOf : Table → Graph
 graphOf t = record { start = t .start; successors = row (t .edges); accepting = accepts (t .words) }
 
--- more steps than the search on a table takes (proofs/Tables.antt, `ends`)
+-- more steps than the search on a table takes (proofs/Demands.antt, `ends`)
 unfoldable pub budget : Table → ℕ
 budget t = 2 * length (t .edges) + 3 * t .size + 2
 
