@@ -13,7 +13,7 @@ use Rattle.plain.specs.Lists.{elem, In, Once, before, from}
 use Rattle.plain.specs.Search.{Graph, Edge, Frame, frame, onPath, Config, outer, nested, exhausted, found, run, statesOf, stemOf, cycleOf, none, lasso, verdict}
 use Rattle.plain.specs.Cycles.{Run, FreeRound, Lasso}
 use Rattle.plain.proofs.Tests.{contra, either, same, self, in-nil, in-head, in-tail, in-cases, in-one, not-in, in-append, in-left, in-right}
-use Rattle.plain.proofs.Paths.{On, Distinct, on-head, on-tail, on-cases}
+use Rattle.plain.proofs.Paths.{On, Off, Distinct, on-head, on-tail, on-cases}
 use Rattle.plain.proofs.Runs.{run-join, run-snoc}
 use Rattle.plain.proofs.Invariant.{Linked, Inv, Found, inv-run, complete}
 
@@ -58,14 +58,14 @@ from-last h s (x ∷ xs) i = ⊎-elim
 
 -- ---- the states of a path are those on it, each once
 
-on-states : (x : ℕ) (p : List Frame) → On x p → In x (statesOf p)
+pub on-states : (x : ℕ) (p : List Frame) → On x p → In x (statesOf p)
 unfolding onPath statesOf
 on-states x [] h = absurd (contra h refl)
 on-states x (frame s ts ∷ p) h = ⊎-elim
     (λ e. rw e (in-right s (statesOf p) (s ∷ []) (in-head s [])))
     (λ h′. in-left x (statesOf p) (s ∷ []) (on-states x p h′)) (on-cases x s ts p h)
 
-states-on : (x : ℕ) (p : List Frame) → In x (statesOf p) → On x p
+pub states-on : (x : ℕ) (p : List Frame) → In x (statesOf p) → On x p
 unfolding statesOf
 states-on x [] i = absurd (in-nil x i)
 states-on x (frame s ts ∷ p) i = ⊎-elim
@@ -79,7 +79,7 @@ once-append (x ∷ xs) ys o q n = (
   once-append xs ys (o .1) q (λ y i j. n y (in-tail y x xs i) j),
 )
 
-once-states : (p : List Frame) → Distinct p → Once (statesOf p)
+pub once-states : (p : List Frame) → Distinct p → Once (statesOf p)
 unfolding statesOf
 once-states [] o = tt
 once-states (frame s ts ∷ p) o =
@@ -99,12 +99,24 @@ cons-same e f = cc
 
 module _ (g : Graph) where
   -- a linked path is a run from its oldest state to its newest
-  path-run : (p : List Frame) (a s : ℕ) (us : List ℕ) → Linked g a s p → (w : List ℕ) × (statesOf (frame s us ∷ p) ≡ a ∷ w) × Run g a w s
+  pub path-run : (p : List Frame) (a s : ℕ) (us : List ℕ) → Linked g a s p → (w : List ℕ) × (statesOf (frame s us ∷ p) ≡ a ∷ w) × Run g a w s
   unfolding statesOf
   path-run [] a s us e = ([], rw e, sym e)
   path-run (frame t ts ∷ p) a s us (i, c) =
       let r = path-run p a t ts c in
       (r .0 ++ (s ∷ []), rw (r .1), run-snoc g (r .0) a t s (r .2) i)
+
+  -- the open path and, behind it, the path of the nested search repeat no state
+  pub walk-once : (s : ℕ) (us : List ℕ) (p : List Frame) (x : ℕ) (ts : List ℕ) (q : List Frame) → Off s p × Distinct p → Linked g s x q → Off x q × Distinct q
+      → ((y : ℕ) → On y (frame x [] ∷ q) → Off y p) → Once (statesOf (frame s us ∷ p) ++ drop 1 (statesOf (frame x ts ∷ q)))
+  unfolding onPath
+  walk-once s us p x ts q distinct trail trail-distinct disjoint =
+      let v = path-run q s x ts trail in
+      let o = once-tail s (v .0) (statesOf (frame x ts ∷ q)) (v .1) (once-states (frame x ts ∷ q) trail-distinct) in
+      rw (v .1) (once-append (statesOf (frame s us ∷ p)) (v .0) (once-states (frame s us ∷ p) distinct) (o .1) (λ y i j. ⊎-elim
+      (λ e. contra (rw e at j) (o .0))
+      (λ h′. contra h′ (disjoint y (states-on y (frame x ts ∷ q) (rw (v .1) (in-tail y s (v .0) j)))))
+      (on-cases y s us p (states-on y (frame s us ∷ p) i))))
 
   -- a run whose states are a stem and then h and others: up to h, and from h on
   run-at : (stem : List ℕ) (a b h : ℕ) (xs others : List ℕ) → a ∷ xs ≡ stem ++ (h ∷ others) → Run g a xs b
@@ -132,7 +144,6 @@ module _ (g : Graph) where
       let v = path-run q s x ts (f .trail) in
       let i : In h (statesOf (frame s us ∷ p)) = on-states h (frame s us ∷ p) (f .hit) in
       let r = from-head h (statesOf (frame s us ∷ p)) i in
-      let o = once-tail s (v .0) (statesOf (frame x ts ∷ q)) (v .1) (once-states (frame x ts ∷ q) (f .trail-distinct)) in
       let tail : drop 1 (statesOf (frame x ts ∷ q)) ≡ v .0 = rw (v .1) in
       let whole : before h (statesOf (frame s us ∷ p)) ++ (from h (statesOf (frame s us ∷ p)) ++ drop 1 (statesOf (frame x ts ∷ q))) ≡ g .start ∷ (w .0 ++ v .0) = rw (← append-assoc, before-from, w .1, tail) in
       let c : from h (statesOf (frame s us ∷ p)) ++ drop 1 (statesOf (frame x ts ∷ q)) ≡ h ∷ (r .0 ++ v .0) = rw (r .1, tail) in
@@ -149,10 +160,7 @@ module _ (g : Graph) where
         payer = s;
         pays = f .pays;
         passes = in-left s (from h (statesOf (frame s us ∷ p))) (drop 1 (statesOf (frame x ts ∷ q))) (from-newest h s us p i);
-        once = rw (← append-assoc, before-from, tail) (once-append (statesOf (frame s us ∷ p)) (v .0) (once-states (frame s us ∷ p) (f .distinct)) (o .1) (λ y i j. ⊎-elim
-            (λ e. contra (rw e at j) (o .0))
-            (λ h′. contra h′ (f .disjoint y (states-on y (frame x ts ∷ q) (rw (v .1) (in-tail y s (v .0) j)))))
-            (on-cases y s us p (states-on y (frame s us ∷ p) i))));
+        once = rw (← append-assoc, before-from) (walk-once s us p x ts q (f .distinct) (f .trail) (f .trail-distinct) (f .disjoint));
       }
 
   lasso-at : (c : Config) (stem cycle : List ℕ) → Inv g c → verdict c ≡ lasso stem cycle → Lasso g stem cycle

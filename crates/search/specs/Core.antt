@@ -1,0 +1,219 @@
+-- The arrays of the search as lists, and what each step does to them. Cited by the contracts of this crate alone: a theorem
+-- (proofs/Tie.antt) ties it to the plain search. Assumes nothing.
+use Prim.Native.Nat.{ℕ, zero, suc, _+_, _-_}
+use mathlib.Core.Path.{_≡_}
+use mathlib.Core.Bool.{Bool, true, false, _&&_}
+use mathlib.Core.List.{List, [], _∷_, map}
+use lib.Dec.{eqb, ltb, leb}
+use lib.ListN.{length, getD, set}
+use Rattle.plain.specs.Table.{accepts}
+use Rattle.rows.specs.Rows.{rowAt, degreeAt}
+use Rattle.search.specs.declared.Phase.{Phase}
+use Rattle.search.specs.declared.Phase.the-variants.{Outer, Nested, Exhausted, Found}
+use Rattle.search.specs.declared.Walker.{Walker}
+
+-- what stands in an array for "no number"
+abbrev pub none : ℕ
+none = 65535
+
+pub record Core : Type 0 where
+  -- by state: discovery number, parent, index of the edge in the parent's row, probes made by then
+  pub number : List ℕ
+  pub parent : List ℕ
+  pub index : List ℕ
+  pub probes : List ℕ
+  -- by state: how many states were discovered when it was marked
+  pub stamp : List ℕ
+  -- the open path, and behind it the path of the nested search
+  pub walk : List ℕ
+  -- by state: its place on the open path
+  pub depth : List ℕ
+  -- by place: the next edge of a state on the path of the nested search
+  pub cursor : List ℕ
+  -- the probes made since the search was begun or resumed
+  pub spent : ℕ
+  pub walker : Walker
+
+abbrev pub coreOf : Walker → ℕ → List ℕ → List ℕ → List ℕ → List ℕ → List ℕ → List ℕ → List ℕ → List ℕ → Core
+coreOf w spent number parent index probes stamp walk depth cursor = record {
+  number = number;
+  parent = parent;
+  index = index;
+  probes = probes;
+  stamp = stamp;
+  walk = walk;
+  depth = depth;
+  cursor = cursor;
+  spent = spent;
+  walker = w;
+}
+
+-- lengths that the arrays have by their types
+pub record Sized (s : Core) : Type 0 where
+  pub number-size : length (s .number) ≡ 512
+  pub parent-size : length (s .parent) ≡ 512
+  pub index-size : length (s .index) ≡ 512
+  pub probes-size : length (s .probes) ≡ 512
+  pub stamp-size : length (s .stamp) ≡ 512
+  pub walk-size : length (s .walk) ≡ 512
+  pub depth-size : length (s .depth) ≡ 512
+  pub cursor-size : length (s .cursor) ≡ 512
+
+pub record Tabled (targets starts : List ℕ) : Type 0 where
+  pub targets-size : length targets ≡ 2048
+  pub starts-size : length starts ≡ 513
+
+abbrev pub choose : {A : Type 0} → Bool → A → A → A
+choose true a b = a
+choose false a b = b
+
+-- one more, at most 65535
+unfoldable pub up : ℕ → ℕ
+up x = choose (ltb x 65535) (x + 1) x
+
+-- a sum, at most 65535
+unfoldable pub plus : ℕ → ℕ → ℕ
+plus a b = choose (leb (a + b) 65535) (a + b) 65535
+
+-- ---- one step, by its ways
+
+-- the walker with another place in the row
+abbrev pub skipped : Walker → Walker
+skipped w = record { phase = w .phase; cur = w .cur; next = up (w .next); height = w .height; top = w .top; met = w .met; kept = w .kept }
+
+-- t is discovered, by edge `next` of `cur`
+abbrev pub entered : Walker → ℕ → Walker
+entered w t = record { phase = Outer; cur = t; next = 0; height = up (w .height); top = up (w .height); met = up (w .met); kept = w .kept }
+
+-- `cur` leaves the open path
+abbrev pub left : List ℕ → List ℕ → Walker → Walker
+left parent index w = record {
+  phase = Outer;
+  cur = getD parent (w .cur) 0;
+  next = up (getD index (w .cur) 0);
+  height = w .height - 1;
+  top = w .height - 1;
+  met = w .met;
+  kept = w .kept;
+}
+
+-- a nested search starts from `cur`
+abbrev pub nesting : Walker → Walker
+nesting w = record { phase = Nested; cur = w .cur; next = 0; height = w .height; top = w .height; met = w .met; kept = w .kept }
+
+-- the nested search goes on to t
+abbrev pub deepened : Walker → ℕ → Walker
+deepened w t = record { phase = Nested; cur = t; next = 0; height = w .height; top = up (w .top); met = w .met; kept = w .kept }
+
+-- the nested search goes back
+abbrev pub returned : List ℕ → List ℕ → Walker → Walker
+returned walk cursor w = record {
+  phase = Nested;
+  cur = choose (ltb (w .top - 1) (w .height)) (w .cur) (getD walk (w .top - 1 - 1) 0);
+  next = choose (ltb (w .top - 1) (w .height)) (w .next) (getD cursor (w .top - 1 - 1) 0);
+  height = w .height;
+  top = w .top - 1;
+  met = w .met;
+  kept = w .kept;
+}
+
+-- the search is over; a found cycle is entered at place h of the open path
+abbrev pub exhausted : Walker → Walker
+exhausted w = record { phase = Exhausted; cur = w .cur; next = w .next; height = w .height; top = w .top; met = w .met; kept = w .kept }
+
+abbrev pub closed : Walker → ℕ → Walker
+closed w h = record { phase = Found; cur = w .cur; next = w .next; height = h; top = w .top; met = w .met; kept = w .kept }
+
+abbrev pub withWalker : Core → Walker → Core
+withWalker s w = coreOf w (s .spent) (s .number) (s .parent) (s .index) (s .probes) (s .stamp) (s .walk) (s .depth) (s .cursor)
+
+-- one probe more
+abbrev pub probed : Core → Core
+probed s = coreOf (s .walker) (up (s .spent)) (s .number) (s .parent) (s .index) (s .probes) (s .stamp) (s .walk) (s .depth) (s .cursor)
+
+unfoldable pub discover : Core → ℕ → Core
+discover s t = coreOf (entered (s .walker) t) (s .spent)
+    (set (s .number) t (s .walker .met))
+    (set (s .parent) t (s .walker .cur))
+    (set (s .index) t (s .walker .next))
+    (set (s .probes) t (plus (s .walker .kept) (s .spent)))
+    (s .stamp)
+    (set (s .walk) (s .walker .height) t)
+    (set (s .depth) t (s .walker .height))
+    (s .cursor)
+
+unfoldable pub leave : Core → Core
+leave s = withWalker s (left (s .parent) (s .index) (s .walker))
+
+unfoldable pub nest : Core → Core
+nest s = coreOf (nesting (s .walker)) (s .spent) (s .number) (s .parent) (s .index) (s .probes)
+    (set (s .stamp) (s .walker .cur) (s .walker .met)) (s .walk) (s .depth) (s .cursor)
+
+unfoldable pub deepen : Core → ℕ → Core
+deepen s t = coreOf (deepened (s .walker) t) (s .spent) (s .number) (s .parent) (s .index) (s .probes)
+    (set (s .stamp) t (s .walker .met))
+    (set (s .walk) (s .walker .top) t)
+    (s .depth)
+    (set (s .cursor) (s .walker .top - 1) (up (s .walker .next)))
+
+-- is t on the open path of that height?
+abbrev pub onOpenPath : List ℕ → List ℕ → ℕ → ℕ → Bool
+onOpenPath walk depth height t = ltb (getD depth t 0) height && eqb (getD walk (getD depth t 0) 0) t
+
+module _ (targets starts words : List ℕ) where
+  -- the target of the next edge
+  abbrev pub targetOf : Core → ℕ
+  targetOf s = getD (rowAt targets starts (s .walker .cur)) (s .walker .next) 0
+
+  -- has the state an edge left?
+  abbrev pub hasEdge : Core → Bool
+  hasEdge s = ltb (s .walker .next) (degreeAt starts (s .walker .cur))
+
+  -- a probe of the outer search: was the target discovered?
+  unfoldable pub outerProbe : Core → Core
+  outerProbe s = choose (eqb (getD (s .number) (targetOf s) 0) none) (discover (probed s) (targetOf s)) (withWalker (probed s) (skipped (s .walker)))
+
+  -- after the last edge: is the state accepting?
+  unfoldable pub finish : Core → Core
+  finish s = choose (accepts words (s .walker .cur)) (nest s) (leave s)
+
+  unfoldable pub outerStep : Core → Core
+  outerStep s = choose (eqb (s .walker .height) 0) (withWalker s (exhausted (s .walker))) (choose (hasEdge s) (outerProbe s) (finish s))
+
+  -- a probe of the nested search: is the target on the open path? was it marked?
+  unfoldable pub nestedProbe : Core → Core
+  nestedProbe s = choose (onOpenPath (s .walk) (s .depth) (s .walker .height) (targetOf s))
+      (withWalker (probed s) (closed (s .walker) (getD (s .depth) (targetOf s) 0)))
+      (choose (eqb (getD (s .stamp) (targetOf s) 0) none) (deepen (probed s) (targetOf s)) (withWalker (probed s) (skipped (s .walker))))
+
+  unfoldable pub nestedStep : Core → Core
+  nestedStep s = choose (ltb (s .walker .top) (s .walker .height)) (leave s)
+      (choose (hasEdge s) (nestedProbe s) (withWalker s (returned (s .walk) (s .cursor) (s .walker))))
+
+  unfoldable pub step : Core → Core
+  step s = elim (s .walker .phase) [ Outer ↦ outerStep s | Nested ↦ nestedStep s | Exhausted ↦ s | Found ↦ s ]
+
+  -- at most n steps
+  unfoldable pub runFor : ℕ → Core → Core
+  runFor zero s = s
+  runFor (suc n) s = runFor n (step s)
+
+-- ---- resuming
+
+-- what is numbered up to the limit stays
+unfoldable pub upTo : ℕ → ℕ → ℕ
+upTo limit x = choose (leb x limit) x none
+
+-- the count of states from x up to the start state, at most n
+unfoldable pub climb : List ℕ → ℕ → ℕ → ℕ → ℕ
+climb parent start zero x = 0
+climb parent start (suc n) x = choose (eqb x start) 1 (suc (climb parent start n (getD parent x 0)))
+
+-- the chain of parents of x on the first n places of the walk
+unfoldable pub retraceWalk : List ℕ → ℕ → ℕ → List ℕ → List ℕ
+retraceWalk parent zero x walk = walk
+retraceWalk parent (suc n) x walk = retraceWalk parent n (getD parent x 0) (set walk n x)
+
+unfoldable pub retraceDepth : List ℕ → ℕ → ℕ → List ℕ → List ℕ
+retraceDepth parent zero x depth = depth
+retraceDepth parent (suc n) x depth = retraceDepth parent n (getD parent x 0) (set depth x n)
