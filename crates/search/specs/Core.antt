@@ -5,7 +5,7 @@ use mathlib.Core.Path.{_≡_}
 use mathlib.Core.Bool.{Bool, true, false, _&&_}
 use mathlib.Core.List.{List, [], _∷_, map}
 use lib.Dec.{eqb, ltb, leb}
-use lib.ListN.{length, getD, set}
+use lib.ListN.{length, getD, set, replicate}
 use Rattle.plain.specs.Table.{accepts}
 use Rattle.rows.specs.Rows.{rowAt, degreeAt}
 use Rattle.search.specs.declared.Phase.{Phase}
@@ -58,6 +58,34 @@ pub record Sized (s : Core) : Type 0 where
   pub walk-size : length (s .walk) ≡ 512
   pub depth-size : length (s .depth) ≡ 512
   pub cursor-size : length (s .cursor) ≡ 512
+
+-- the arrays that the outer search is lent
+pub record Recorded (number parent index probes stamp walk depth : List ℕ) : Type 0 where
+  pub number-size : length number ≡ 512
+  pub parent-size : length parent ≡ 512
+  pub index-size : length index ≡ 512
+  pub probes-size : length probes ≡ 512
+  pub stamp-size : length stamp ≡ 512
+  pub walk-size : length walk ≡ 512
+  pub depth-size : length depth ≡ 512
+
+-- those that the nested search is lent
+pub record Trailed (parent index stamp walk depth cursor : List ℕ) : Type 0 where
+  pub parent-size : length parent ≡ 512
+  pub index-size : length index ≡ 512
+  pub stamp-size : length stamp ≡ 512
+  pub walk-size : length walk ≡ 512
+  pub depth-size : length depth ≡ 512
+  pub cursor-size : length cursor ≡ 512
+
+-- those that outlive a search
+pub record Kept (number parent index probes stamp walk : List ℕ) : Type 0 where
+  pub number-size : length number ≡ 512
+  pub parent-size : length parent ≡ 512
+  pub index-size : length index ≡ 512
+  pub probes-size : length probes ≡ 512
+  pub stamp-size : length stamp ≡ 512
+  pub walk-size : length walk ≡ 512
 
 pub record Tabled (targets starts : List ℕ) : Type 0 where
   pub targets-size : length targets ≡ 2048
@@ -160,6 +188,13 @@ deepen s t = coreOf (deepened (s .walker) t) (s .spent) (s .number) (s .parent) 
 abbrev pub onOpenPath : List ℕ → List ℕ → ℕ → ℕ → Bool
 onOpenPath walk depth height t = ltb (getD depth t 0) height && eqb (getD walk (getD depth t 0) 0) t
 
+-- is the search over?
+abbrev pub over : Phase → Bool
+over Outer = false
+over Nested = false
+over Exhausted = true
+over Found = true
+
 module _ (targets starts words : List ℕ) where
   -- the target of the next edge
   abbrev pub targetOf : Core → ℕ
@@ -193,7 +228,7 @@ module _ (targets starts words : List ℕ) where
   unfoldable pub step : Core → Core
   step s = elim (s .walker .phase) [ Outer ↦ outerStep s | Nested ↦ nestedStep s | Exhausted ↦ s | Found ↦ s ]
 
-  -- at most n steps
+  -- n steps
   unfoldable pub runFor : ℕ → Core → Core
   runFor zero s = s
   runFor (suc n) s = runFor n (step s)
@@ -217,3 +252,38 @@ retraceWalk parent (suc n) x walk = retraceWalk parent n (getD parent x 0) (set 
 unfoldable pub retraceDepth : List ℕ → ℕ → ℕ → List ℕ → List ℕ
 retraceDepth parent zero x depth = depth
 retraceDepth parent (suc n) x depth = retraceDepth parent n (getD parent x 0) (set depth x n)
+
+-- the search as it stands when s was discovered
+unfoldable pub rewound : ℕ → ℕ → ℕ → List ℕ → List ℕ → List ℕ → List ℕ → List ℕ → List ℕ → Core
+rewound start s spent number parent index probes stamp walk =
+    let limit = getD number s 0 in
+    let height = climb parent start 512 s in
+    coreOf (record { phase = Outer; cur = s; next = 0; height = height; top = height; met = up limit; kept = getD probes s 0 }) spent
+    (map (upTo limit) number) parent index probes (map (upTo limit) stamp)
+    (retraceWalk parent height s walk) (retraceDepth parent height s (replicate 512 0)) (replicate 512 0)
+
+-- what outlives a search
+pub record Result : Type 0 where
+  pub walker : Walker
+  pub spent : ℕ
+  pub number : List ℕ
+  pub parent : List ℕ
+  pub index : List ℕ
+  pub probes : List ℕ
+  pub stamp : List ℕ
+  pub walk : List ℕ
+
+abbrev pub resultOf : Walker → ℕ → List ℕ → List ℕ → List ℕ → List ℕ → List ℕ → List ℕ → Result
+resultOf w spent number parent index probes stamp walk = record {
+  walker = w;
+  spent = spent;
+  number = number;
+  parent = parent;
+  index = index;
+  probes = probes;
+  stamp = stamp;
+  walk = walk;
+}
+
+abbrev pub result : Core → Result
+result s = resultOf (s .walker) (s .spent) (s .number) (s .parent) (s .index) (s .probes) (s .stamp) (s .walk)

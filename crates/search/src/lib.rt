@@ -1,4 +1,3 @@
-// The search: nested depth-first search over rows, which can be resumed where a state was discovered.
 pub enum Phase {
     Outer,
     Nested,
@@ -6,12 +5,19 @@ pub enum Phase {
     Found,
 }
 
+// Where the search stands.
 pub struct Walker {
     pub phase: Phase,
+    // the state whose edges are being taken, and the index of its next edge
     pub cur: u16,
     pub next: u16,
+    // how many states are on the open path; where a cycle is found, how many lead into it
     pub height: u16,
+    // how many entries of the walk are in use
     pub top: u16,
+    // how many states are discovered
     pub met: u16,
+    // the probes kept from the search before
     pub kept: u16,
 }
+
