@@ -1,2 +1,3 @@
 pub mod Represents
 pub mod Places
+pub mod OneStep

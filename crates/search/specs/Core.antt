@@ -1,5 +1,5 @@
 -- The arrays of the search as lists, and what each step does to them. Cited by the contracts of this crate alone: a theorem
--- (proofs/Tie.antt) ties it to the plain search. Assumes nothing.
+-- (proofs/OneStep.antt) ties it to the plain search. Assumes nothing.
 use Prim.Native.Nat.{ℕ, zero, suc, _+_, _-_}
 use mathlib.Core.Path.{_≡_}
 use mathlib.Core.Bool.{Bool, true, false, _&&_}
@@ -188,6 +188,13 @@ deepen s t = coreOf (deepened (s .walker) t) (s .spent) (s .number) (s .parent) 
 abbrev pub onOpenPath : List ℕ → List ℕ → ℕ → ℕ → Bool
 onOpenPath walk depth height t = ltb (getD depth t 0) height && eqb (getD walk (getD depth t 0) 0) t
 
+-- a step by the phase: none once the search is over
+abbrev pub byPhase : Phase → Core → Core → Core → Core
+byPhase Outer a b s = a
+byPhase Nested a b s = b
+byPhase Exhausted a b s = s
+byPhase Found a b s = s
+
 -- is the search over?
 abbrev pub over : Phase → Bool
 over Outer = false
@@ -226,7 +233,7 @@ module _ (targets starts words : List ℕ) where
       (choose (hasEdge s) (nestedProbe s) (withWalker s (returned (s .walk) (s .cursor) (s .walker))))
 
   unfoldable pub step : Core → Core
-  step s = elim (s .walker .phase) [ Outer ↦ outerStep s | Nested ↦ nestedStep s | Exhausted ↦ s | Found ↦ s ]
+  step s = byPhase (s .walker .phase) (outerStep s) (nestedStep s) s
 
   -- n steps
   unfoldable pub runFor : ℕ → Core → Core

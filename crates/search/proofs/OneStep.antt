@@ -1,0 +1,394 @@
+-- One step of the arrays is one step of the plain search. Assumes nothing.
+use mathlib.Core.Path.{_≡_, refl, sym, ap, subst, _∙_}
+use mathlib.Core.Logic.{⊎-elim}
+use mathlib.Core.Bool.{Bool, true, false}
+use mathlib.Core.List.{List, [], _∷_, _++_, append-assoc, append-nil}
+use Prim.Native.Nat.{ℕ, zero, suc, _+_, _-_, _≤_, _<_}
+use native.Mathlib.Omega.{arith}
+use lib.Dec.{eqb, ltb}
+use lib.ListN.{length, getD, set, drop, length-append, length-set, length-drop}
+use lib.Seq.{getD-set-same, getD-set-other}
+use borrow.Author.Tests.{lt-ltb, le-ltb, eq-eqb, ne-eqb}
+use Rattle.plain.specs.Lists.{elem, In, before, from}
+use Rattle.plain.specs.Search.{Graph, Edge, Frame, frame, onPath, Config, outer, nested, exhausted as ended, found, discoveredOf, markedOf, count, visit, finish as finishes, probe, step as stepOf, statesOf, stemOf, cycleOf}
+use Rattle.plain.specs.Notes.{Note, Notes, put, noteVisit, noteMark, noteProbe, noteOf, noted, Below}
+use Rattle.plain.proofs.Tests.{contra, either, not-true, same, in-head, in-tail, in-cases, in-out}
+use Rattle.plain.proofs.Paths.{On, Off, Distinct, on-head}
+use Rattle.plain.proofs.Invariant.{Linked, Outer as OuterInv, Marks, Nested as NestedInv, Inv, next-known}
+use Rattle.plain.proofs.Lassos.{path-run, before-from}
+use Rattle.plain.proofs.Restore.{put-same, put-hit, put-other, Shape, ShapeOf, Counted}
+use Rattle.rows.specs.Rows.{rowAt, degreeAt}
+use Rattle.rows.proofs.Entries.{row-length}
+use Rattle.search.specs.declared.Phase.{Phase}
+use Rattle.search.specs.declared.Phase.the-variants.{Outer, Nested, Exhausted, Found}
+use Rattle.search.specs.declared.Walker.{Walker}
+use Rattle.search.specs.Core.{Core, Sized, none, up, plus, choose, coreOf, skipped, left, nesting, returned, exhausted, closed, withWalker, probed, discover, leave, nest, deepen, onOpenPath, targetOf, hasEdge, outerProbe, finish, outerStep, nestedProbe, nestedStep, byPhase, step}
+use Rattle.search.proofs.Represents.{view, Records, Begins, Placed, Cursors, AtOuter, AtNested, AtReturn, AtFound, Stands, Matches, Limits, up-more, plus-more, no-edge, edge-left, drop-up}
+use Rattle.search.proofs.Places.{begins-push, begins-pop, begins-at, states-length, placed-set, placed-at, on-test, stem-length, cursors-set}
+
+-- ---- the ways of a step of the arrays
+
+module _ (targets starts words : List ℕ) where
+  pub step-outer : (s : Core) → s .walker .phase ≡ Outer → step targets starts words s ≡ outerStep targets starts words s
+  unfolding step
+  step-outer s e = ap (λ (f : Phase). byPhase f (outerStep targets starts words s) (nestedStep targets starts words s) s) e
+
+  pub step-nested : (s : Core) → s .walker .phase ≡ Nested → step targets starts words s ≡ nestedStep targets starts words s
+  unfolding step
+  step-nested s e = ap (λ (f : Phase). byPhase f (outerStep targets starts words s) (nestedStep targets starts words s) s) e
+
+  pub step-exhausted : (s : Core) → s .walker .phase ≡ Exhausted → step targets starts words s ≡ s
+  unfolding step
+  step-exhausted s e = ap (λ (f : Phase). byPhase f (outerStep targets starts words s) (nestedStep targets starts words s) s) e
+
+  pub step-found : (s : Core) → s .walker .phase ≡ Found → step targets starts words s ≡ s
+  unfolding step
+  step-found s e = ap (λ (f : Phase). byPhase f (outerStep targets starts words s) (nestedStep targets starts words s) s) e
+
+-- ---- the records
+
+records-sized : (s : Core) (w : Walker) (spent : ℕ) → Sized s → Sized (coreOf w spent (s .number) (s .parent) (s .index) (s .probes) (s .stamp) (s .walk) (s .depth) (s .cursor))
+records-sized s w spent z = record {
+  number-size = z .number-size;
+  parent-size = z .parent-size;
+  index-size = z .index-size;
+  probes-size = z .probes-size;
+  stamp-size = z .stamp-size;
+  walk-size = z .walk-size;
+  depth-size = z .depth-size;
+  cursor-size = z .cursor-size;
+}
+
+-- a step that discovers and marks nothing: the walker and the count change
+records-idle : (s : Core) (r : Notes) (c c′ : Config) (w : Walker) (spent : ℕ) → discoveredOf c′ ≡ discoveredOf c → markedOf c′ ≡ markedOf c
+    → w .met ≡ s .walker .met → w .kept + spent ≡ count c′ → Records s r c
+    → Records (coreOf w spent (s .number) (s .parent) (s .index) (s .probes) (s .stamp) (s .walk) (s .depth) (s .cursor)) r c′
+records-idle s r c c′ w spent e f m n h = record {
+  sized = records-sized s w spent (h .sized);
+  notes-right = λ x i. h .notes-right x (rw e at i);
+  stamps-right = λ x i. h .stamps-right x (rw f at i);
+  undiscovered = λ x b o. h .undiscovered x b (rw e at o);
+  unmarked = λ x b o. h .unmarked x b (rw f at o);
+  met-right = m ∙ h .met-right ∙ ap length (sym e);
+  probes-right = n;
+}
+
+-- a step that marks t
+records-mark : (s : Core) (r : Notes) (c c′ : Config) (w : Walker) (spent t : ℕ) (walk cursor : List ℕ) → length walk ≡ 512 → length cursor ≡ 512
+    → discoveredOf c′ ≡ discoveredOf c → markedOf c′ ≡ t ∷ markedOf c → elem t (markedOf c) ≡ false → t < 512
+    → w .met ≡ s .walker .met → w .kept + spent ≡ count c′ → Records s r c
+    → Records (coreOf w spent (s .number) (s .parent) (s .index) (s .probes) (set (s .stamp) t (s .walker .met)) walk (s .depth) cursor)
+        (record { of = r .of; stamp = put t (length (discoveredOf c)) (r .stamp) }) c′
+records-mark s r c c′ w spent t walk cursor lw lc e f u b m n h = record {
+  sized = record {
+    number-size = h .sized .number-size;
+    parent-size = h .sized .parent-size;
+    index-size = h .sized .index-size;
+    probes-size = h .sized .probes-size;
+    stamp-size = length-set (s .stamp) t (s .walker .met) ∙ h .sized .stamp-size;
+    walk-size = lw;
+    depth-size = h .sized .depth-size;
+    cursor-size = lc;
+  };
+  notes-right = λ x i. h .notes-right x (rw e at i);
+  stamps-right = λ x i. ⊎-elim
+      (λ z. ap (λ (v : ℕ). getD (set (s .stamp) t (s .walker .met)) v 0) z ∙ getD-set-same (s .stamp) t (s .walker .met) 0 (omega (arith, h .sized .stamp-size)) ∙ h .met-right
+          ∙ sym (put-hit t (length (discoveredOf c)) (r .stamp) x z))
+      (λ j. let ne = in-out x t (markedOf c) j u in
+          getD-set-other (s .stamp) t x (s .walker .met) 0 ne ∙ h .stamps-right x j ∙ sym (put-other t (length (discoveredOf c)) (r .stamp) x ne))
+      (in-cases x t (markedOf c) (rw f at i));
+  undiscovered = λ x l o. h .undiscovered x l (rw e at o);
+  unmarked = λ x l o.
+      let o′ : elem x (t ∷ markedOf c) ≡ false = rw f at o in
+      getD-set-other (s .stamp) t x (s .walker .met) 0 (λ z. contra (rw z (in-head t (markedOf c))) o′)
+      ∙ h .unmarked x l (not-true (elem x (markedOf c)) (λ i. contra (in-tail x t (markedOf c) i) o′));
+  met-right = m ∙ h .met-right ∙ ap length (sym e);
+  probes-right = n;
+}
+
+same-note : {a b c d a′ b′ c′ d′ : ℕ} → a ≡ a′ → b ≡ b′ → c ≡ c′ → d ≡ d′
+    → _≡_ {A = Note} (record { number = a; parent = b; index = c; probes = d }) (record { number = a′; parent = b′; index = c′; probes = d′ })
+same-note e f g h = λ i. record { number = e i; parent = f i; index = g i; probes = h i }
+
+-- a step that discovers t
+records-new : (s : Core) (r : Notes) (n : Note) (t cur next : ℕ) (spent : ℕ) (w : Walker) (c c′ : Config) → t < 512
+    → discoveredOf c′ ≡ t ∷ discoveredOf c → markedOf c′ ≡ markedOf c → elem t (discoveredOf c) ≡ false
+    → n .number ≡ length (discoveredOf c) → n .parent ≡ cur → n .index ≡ next → n .probes ≡ spent
+    → w .met ≡ suc (length (discoveredOf c)) → (walk depth : List ℕ) → length walk ≡ 512 → length depth ≡ 512
+    → (total : ℕ) → w .kept + total ≡ count c′ → Records s r c
+    → Records (coreOf w total (set (s .number) t (s .walker .met)) (set (s .parent) t cur) (set (s .index) t next) (set (s .probes) t spent) (s .stamp) walk depth (s .cursor))
+        (record { of = put t n (r .of); stamp = r .stamp }) c′
+records-new s r n t cur next spent w c c′ b e f u e₁ e₂ e₃ e₄ m walk depth lw ld total pr h = record {
+  sized = record {
+    number-size = length-set (s .number) t (s .walker .met) ∙ h .sized .number-size;
+    parent-size = length-set (s .parent) t cur ∙ h .sized .parent-size;
+    index-size = length-set (s .index) t next ∙ h .sized .index-size;
+    probes-size = length-set (s .probes) t spent ∙ h .sized .probes-size;
+    stamp-size = h .sized .stamp-size;
+    walk-size = lw;
+    depth-size = ld;
+    cursor-size = h .sized .cursor-size;
+  };
+  notes-right = λ x i. ⊎-elim (λ z. rw z here) (λ j. there x j) (in-cases x t (discoveredOf c) (rw e at i));
+  stamps-right = λ x i. h .stamps-right x (rw f at i);
+  undiscovered = λ x l o.
+      let o′ : elem x (t ∷ discoveredOf c) ≡ false = rw e at o in
+      getD-set-other (s .number) t x (s .walker .met) 0 (λ z. contra (rw z (in-head t (discoveredOf c))) o′)
+      ∙ h .undiscovered x l (not-true (elem x (discoveredOf c)) (λ i. contra (in-tail x t (discoveredOf c) i) o′));
+  unmarked = λ x l o. h .unmarked x l (rw f at o);
+  met-right = m ∙ ap length (sym e);
+  probes-right = pr;
+}
+  where
+    here : _≡_ {A = Note} (record {
+      number = getD (set (s .number) t (s .walker .met)) t 0;
+      parent = getD (set (s .parent) t cur) t 0;
+      index = getD (set (s .index) t next) t 0;
+      probes = getD (set (s .probes) t spent) t 0;
+    }) (put t n (r .of) t)
+    here = same-note
+        (getD-set-same (s .number) t (s .walker .met) 0 (omega (arith, h .sized .number-size)) ∙ h .met-right ∙ sym e₁)
+        (getD-set-same (s .parent) t cur 0 (omega (arith, h .sized .parent-size)) ∙ sym e₂)
+        (getD-set-same (s .index) t next 0 (omega (arith, h .sized .index-size)) ∙ sym e₃)
+        (getD-set-same (s .probes) t spent 0 (omega (arith, h .sized .probes-size)) ∙ sym e₄)
+        ∙ sym (put-same t n (r .of))
+
+    there : (x : ℕ) → In x (discoveredOf c) → _≡_ {A = Note} (record {
+      number = getD (set (s .number) t (s .walker .met)) x 0;
+      parent = getD (set (s .parent) t cur) x 0;
+      index = getD (set (s .index) t next) x 0;
+      probes = getD (set (s .probes) t spent) x 0;
+    }) (put t n (r .of) x)
+    there x j =
+        let ne = in-out x t (discoveredOf c) j u in
+        same-note (getD-set-other (s .number) t x (s .walker .met) 0 ne) (getD-set-other (s .parent) t x cur 0 ne) (getD-set-other (s .index) t x next 0 ne) (getD-set-other (s .probes) t x spent 0 ne)
+        ∙ h .notes-right x j ∙ sym (put-other t n (r .of) x ne)
+
+-- ---- tests
+
+new-test : (number : List ℕ) (t : ℕ) (a b : Core) → getD number t 0 ≡ none → choose (eqb (getD number t 0) none) a b ≡ a
+new-test number t a b e = rw (eq-eqb (getD number t 0) none e)
+
+old-test : (number : List ℕ) (t : ℕ) (a b : Core) → getD number t 0 < none → choose (eqb (getD number t 0) none) a b ≡ b
+old-test number t a b h = rw (ne-eqb (getD number t 0) none (λ e. omega arith))
+
+-- what the outcome of a step has to be
+abbrev pub Fits : Graph → Core → Notes → Config → Type 0
+Fits g s r c = Records s r c × Stands g s c
+
+module _ (g : Graph) (targets starts words : List ℕ) (m : Matches g targets starts words) where
+  row-size : (v : ℕ) → length (g .successors v) ≡ degreeAt starts v
+  row-size v = ap length (m .rows v) ∙ row-length targets starts v
+
+  has-edge : (s : Core) (x : ℕ) → s .walker .cur ≡ x → s .walker .next < length (g .successors x) → hasEdge targets starts words s ≡ true
+  has-edge s x e h = lt-ltb (s .walker .next) (degreeAt starts (s .walker .cur)) (omega (arith, row-size (s .walker .cur), ap (λ (v : ℕ). length (g .successors v)) e))
+
+  edges-done : (s : Core) (x : ℕ) → s .walker .cur ≡ x → length (g .successors x) ≤ s .walker .next → hasEdge targets starts words s ≡ false
+  edges-done s x e h = le-ltb (s .walker .next) (degreeAt starts (s .walker .cur)) (omega (arith, row-size (s .walker .cur), ap (λ (v : ℕ). length (g .successors v)) e))
+
+  target-is : (s : Core) (x t : ℕ) → s .walker .cur ≡ x → getD (g .successors x) (s .walker .next) 0 ≡ t → targetOf targets starts words s ≡ t
+  target-is s x t e h =
+      ap (λ (row : List ℕ). getD row (s .walker .next) 0) (sym (m .rows (s .walker .cur)))
+      ∙ ap (λ (v : ℕ). getD (g .successors v) (s .walker .next) 0) e ∙ h
+
+  -- ---- the outer search
+
+  outer-skip : (s : Core) (r : Notes) (x t : ℕ) (ts : List ℕ) (p : List Frame) (d k : List ℕ) (l : List Edge) → Limits g (outer (frame x (t ∷ ts) ∷ p) d k l)
+      → Records s r (outer (frame x (t ∷ ts) ∷ p) d k l) → AtOuter g s x (t ∷ ts) p
+      → Fits g (withWalker (probed s) (skipped (s .walker))) r (outer (frame x ts ∷ p) d k ((x, t) ∷ l))
+  unfolding statesOf
+  outer-skip s r x t ts p d k l b h a =
+      let e = edge-left (g .successors x) (s .walker .next) t ts (a .pending-is) in (
+        records-idle s r (outer (frame x (t ∷ ts) ∷ p) d k l) (outer (frame x ts ∷ p) d k ((x, t) ∷ l)) (skipped (s .walker)) (up (s .spent)) refl refl refl
+            (omega (arith, up-more (s .spent) (omega (arith, h .probes-right, b .probes-few)), h .probes-right)) h,
+        record {
+          phase-is = a .phase-is;
+          cur-is = a .cur-is;
+          pending-is = e .rest ∙ sym (drop-up (g .successors x) (s .walker .next) (omega (arith, b .rows-short x)));
+          height-is = a .height-is;
+          walk-is = a .walk-is;
+          places = a .places;
+        },
+      )
+
+  outer-new : (s : Core) (r : Notes) (x t : ℕ) (ts : List ℕ) (p : List Frame) (d k : List ℕ) (l : List Edge) → Limits g (outer (frame x (t ∷ ts) ∷ p) d k l)
+      → suc (length p) < 512 → t < 512 → elem t d ≡ false → Off t (frame x ts ∷ p)
+      → Records s r (outer (frame x (t ∷ ts) ∷ p) d k l) → AtOuter g s x (t ∷ ts) p
+      → Fits g (discover (probed s) t) (record { of = put t (noteOf g x ts d l) (r .of); stamp = r .stamp }) (outer (frame t (g .successors t) ∷ frame x ts ∷ p) (t ∷ d) k ((x, t) ∷ l))
+  unfolding discover statesOf
+  outer-new s r x t ts p d k l b few tb new off h a =
+      let e = edge-left (g .successors x) (s .walker .next) t ts (a .pending-is) in
+      let index : length (g .successors x) - suc (length ts) ≡ s .walker .next = omega (arith, ap length (a .pending-is), length-drop (s .walker .next) (g .successors x), e .there) in
+      let spent : up (s .spent) ≡ suc (s .spent) = up-more (s .spent) (omega (arith, h .probes-right, b .probes-few)) in
+      let total : plus (s .walker .kept) (up (s .spent)) ≡ suc (length l) = plus-more (s .walker .kept) (up (s .spent)) (omega (arith, h .probes-right, b .probes-few)) ∙ omega (arith, h .probes-right) in
+      let height : up (s .walker .height) ≡ suc (suc (length p)) = up-more (s .walker .height) (omega (arith, a .height-is)) ∙ ap suc (a .height-is) in
+      let place : s .walker .height ≡ length (statesOf p ++ (x ∷ [])) = omega (arith, a .height-is, length-append (statesOf p) (x ∷ []), states-length p) in (
+        records-new s r (noteOf g x ts d l) t (s .walker .cur) (s .walker .next) (plus (s .walker .kept) (up (s .spent))) (discover (probed s) t .walker)
+            (outer (frame x (t ∷ ts) ∷ p) d k l) (outer (frame t (g .successors t) ∷ frame x ts ∷ p) (t ∷ d) k ((x, t) ∷ l)) tb refl refl new
+            refl (sym (a .cur-is)) index (sym total) (up-more (s .walker .met) (omega (arith, h .met-right, b .few)) ∙ ap suc (h .met-right))
+            (set (s .walk) (s .walker .height) t) (set (s .depth) t (s .walker .height))
+            (length-set (s .walk) (s .walker .height) t ∙ h .sized .walk-size) (length-set (s .depth) t (s .walker .height) ∙ h .sized .depth-size)
+            (up (s .spent)) (omega (arith, h .probes-right)) h,
+        record {
+          phase-is = refl;
+          cur-is = refl;
+          pending-is = refl;
+          height-is = height;
+          walk-is = begins-push (statesOf p ++ (x ∷ [])) (s .walk) t (s .walker .height) place (h .sized .walk-size) (omega (arith, a .height-is)) (a .walk-is);
+          places = (
+            getD-set-same (s .depth) t (s .walker .height) 0 (omega (arith, h .sized .depth-size)) ∙ a .height-is,
+            placed-set (s .depth) t (s .walker .height) (frame x ts ∷ p) off (a .places),
+          );
+        },
+      )
+
+  -- the current state leaves the open path
+  leaves : (s : Core) (r : Notes) (x : ℕ) (p : List Frame) (d k : List ℕ) (l : List Edge) → ((v : ℕ) → length (g .successors v) ≤ 2048)
+      → s .walker .cur ≡ x → s .walker .height ≡ suc (length p) → Begins (statesOf p) (s .walk) → Placed (s .depth) p → view s .of x ≡ r .of x → Below g r x p
+      → Stands g (leave s) (outer p d k l)
+  unfolding leave
+  leaves s r x [] d k l short e h w z n b = (refl, omega arith)
+  leaves s r x (frame y us ∷ p) d k l short e h w z n b = record {
+    phase-is = refl;
+    cur-is = ap (λ (v : ℕ). getD (s .parent) v 0) e ∙ ap (λ (o : Note). o .parent) n ∙ b .0;
+    pending-is = b .1 ∙ ap (λ (i : ℕ). drop (suc i) (g .successors y)) (ap (λ (o : Note). o .index) (sym n) ∙ ap (λ (v : ℕ). getD (s .index) v 0) (sym e))
+        ∙ sym (drop-up (g .successors y) (getD (s .index) (s .walker .cur) 0) (omega (arith, short y)));
+    height-is = omega arith;
+    walk-is = w;
+    places = z;
+  }
+
+  outer-leave : (s : Core) (r : Notes) (x : ℕ) (p : List Frame) (d k : List ℕ) (l : List Edge) → Limits g (outer (frame x [] ∷ p) d k l) → In x d → Below g r x p
+      → Records s r (outer (frame x [] ∷ p) d k l) → AtOuter g s x [] p → Fits g (leave s) r (outer p d k l)
+  unfolding leave statesOf
+  outer-leave s r x p d k l b i below h a = (
+    records-idle s r (outer (frame x [] ∷ p) d k l) (outer p d k l) (left (s .parent) (s .index) (s .walker)) (s .spent) refl refl refl (h .probes-right) h,
+    leaves s r x p d k l (b .rows-short) (a .cur-is) (a .height-is) (begins-pop (statesOf p) (x ∷ []) (s .walk) (a .walk-is)) (a .places .1) (h .notes-right x i) below,
+  )
+
+  outer-nest : (s : Core) (r : Notes) (x : ℕ) (p : List Frame) (d k : List ℕ) (l : List Edge) → x < 512 → elem x k ≡ false
+      → Records s r (outer (frame x [] ∷ p) d k l) → AtOuter g s x [] p
+      → Fits g (nest s) (record { of = r .of; stamp = put x (length d) (r .stamp) }) (nested x p (frame x (g .successors x) ∷ []) d (x ∷ k) l)
+  unfolding nest statesOf
+  outer-nest s r x p d k l xb new h a = (
+    subst (λ (v : ℕ). Records (coreOf (nesting (s .walker)) (s .spent) (s .number) (s .parent) (s .index) (s .probes) (set (s .stamp) v (s .walker .met)) (s .walk) (s .depth) (s .cursor))
+        (record { of = r .of; stamp = put x (length d) (r .stamp) }) (nested x p (frame x (g .successors x) ∷ []) d (x ∷ k) l)) (sym (a .cur-is))
+        (records-mark s r (outer (frame x [] ∷ p) d k l) (nested x p (frame x (g .successors x) ∷ []) d (x ∷ k) l) (nesting (s .walker)) (s .spent) x (s .walk) (s .cursor)
+        (h .sized .walk-size) (h .sized .cursor-size) refl refl new xb refl (h .probes-right) h),
+    record {
+      phase-is = refl;
+      cur-is = a .cur-is;
+      pending-is = refl;
+      height-is = a .height-is;
+      top-is = omega (arith, a .height-is);
+      walk-is = a .walk-is;
+      places = a .places;
+      cursors = tt;
+    },
+  )
+
+  -- ---- the nested search
+
+  nested-skip : (s : Core) (r : Notes) (b : ℕ) (p : List Frame) (x t : ℕ) (ts : List ℕ) (q : List Frame) (d k : List ℕ) (l : List Edge) → Limits g (nested b p (frame x (t ∷ ts) ∷ q) d k l)
+      → Records s r (nested b p (frame x (t ∷ ts) ∷ q) d k l) → AtNested g s b p x (t ∷ ts) q
+      → Fits g (withWalker (probed s) (skipped (s .walker))) r (nested b p (frame x ts ∷ q) d k ((x, t) ∷ l))
+  unfolding statesOf
+  nested-skip s r b p x t ts q d k l u h a =
+      let e = edge-left (g .successors x) (s .walker .next) t ts (a .pending-is) in (
+        records-idle s r (nested b p (frame x (t ∷ ts) ∷ q) d k l) (nested b p (frame x ts ∷ q) d k ((x, t) ∷ l)) (skipped (s .walker)) (up (s .spent)) refl refl refl
+            (omega (arith, up-more (s .spent) (omega (arith, h .probes-right, u .probes-few)), h .probes-right)) h,
+        record {
+          phase-is = a .phase-is;
+          cur-is = a .cur-is;
+          pending-is = e .rest ∙ sym (drop-up (g .successors x) (s .walker .next) (omega (arith, u .rows-short x)));
+          height-is = a .height-is;
+          top-is = a .top-is;
+          walk-is = a .walk-is;
+          places = a .places;
+          cursors = a .cursors;
+        },
+      )
+
+  nested-deepen : (s : Core) (r : Notes) (b : ℕ) (p : List Frame) (x t : ℕ) (ts : List ℕ) (q : List Frame) (d k : List ℕ) (l : List Edge) → Limits g (nested b p (frame x (t ∷ ts) ∷ q) d k l)
+      → length p + suc (length q) < 512 → t < 512 → elem t k ≡ false
+      → Records s r (nested b p (frame x (t ∷ ts) ∷ q) d k l) → AtNested g s b p x (t ∷ ts) q
+      → Fits g (deepen (probed s) t) (record { of = r .of; stamp = put t (length d) (r .stamp) }) (nested b p (frame t (g .successors t) ∷ frame x ts ∷ q) d (t ∷ k) ((x, t) ∷ l))
+  unfolding deepen statesOf
+  nested-deepen s r b p x t ts q d k l u few tb new h a =
+      let e = edge-left (g .successors x) (s .walker .next) t ts (a .pending-is) in
+      let size : length (statesOf p ++ (statesOf q ++ (x ∷ []))) ≡ length p + suc (length q) =
+          omega (arith, length-append (statesOf p) (statesOf q ++ (x ∷ [])), length-append (statesOf q) (x ∷ []), states-length p, states-length q) in
+      let at : s .walker .top - 1 ≡ length p + length q = omega (arith, a .top-is) in (
+        records-mark s r (nested b p (frame x (t ∷ ts) ∷ q) d k l) (nested b p (frame t (g .successors t) ∷ frame x ts ∷ q) d (t ∷ k) ((x, t) ∷ l)) (deepen (probed s) t .walker) (up (s .spent)) t
+            (set (s .walk) (s .walker .top) t) (set (s .cursor) (s .walker .top - 1) (up (s .walker .next)))
+            (length-set (s .walk) (s .walker .top) t ∙ h .sized .walk-size) (length-set (s .cursor) (s .walker .top - 1) (up (s .walker .next)) ∙ h .sized .cursor-size)
+            refl refl new tb refl (omega (arith, up-more (s .spent) (omega (arith, h .probes-right, u .probes-few)), h .probes-right)) h,
+        record {
+          phase-is = refl;
+          cur-is = refl;
+          pending-is = refl;
+          height-is = a .height-is;
+          top-is = up-more (s .walker .top) (omega (arith, a .top-is)) ∙ omega (arith, a .top-is);
+          walk-is =
+              let w = begins-push (statesOf p ++ (statesOf q ++ (x ∷ []))) (s .walk) t (s .walker .top) (a .top-is ∙ sym size) (h .sized .walk-size) (omega arith) (a .walk-is) in
+              (w .0, w .1 ∙ ap (λ (y : List ℕ). y ++ w .0) (append-assoc (statesOf p) (statesOf q ++ (x ∷ [])) (t ∷ [])));
+          places = a .places;
+          cursors = (
+            e .rest ∙ sym (drop-up (g .successors x) (s .walker .next) (omega (arith, u .rows-short x)))
+                ∙ ap (λ (i : ℕ). drop i (g .successors x)) (sym (ap (λ (i : ℕ). getD (set (s .cursor) (s .walker .top - 1) (up (s .walker .next))) i 0) (sym at)
+                ∙ getD-set-same (s .cursor) (s .walker .top - 1) (up (s .walker .next)) 0 (omega (arith, h .sized .cursor-size)))),
+            cursors-set g (length p) (s .walker .top - 1) (up (s .walker .next)) (s .cursor) q (omega arith) (a .cursors),
+          );
+        },
+      )
+
+  nested-leave : (s : Core) (r : Notes) (b : ℕ) (p : List Frame) (d k : List ℕ) (l : List Edge) → Limits g (nested b p [] d k l) → In b d → Below g r b p
+      → Records s r (nested b p [] d k l) → AtReturn g s b p → Fits g (leave s) r (outer p d k l)
+  unfolding leave
+  nested-leave s r b p d k l u i below h a = (
+    records-idle s r (nested b p [] d k l) (outer p d k l) (left (s .parent) (s .index) (s .walker)) (s .spent) refl refl refl (h .probes-right) h,
+    leaves s r b p d k l (u .rows-short) (a .cur-is) (a .height-is) (a .walk-is) (a .places .1) (h .notes-right b i) below,
+  )
+
+  -- the path of the nested search is taken back by one state
+  nested-back : (s : Core) (r : Notes) (b : ℕ) (p : List Frame) (x : ℕ) (q : List Frame) (d k : List ℕ) (l : List Edge) → Linked g b x q
+      → Records s r (nested b p (frame x [] ∷ q) d k l) → AtNested g s b p x [] q
+      → Fits g (withWalker s (returned (s .walk) (s .cursor) (s .walker))) r (nested b p q d k l)
+  unfolding statesOf
+  nested-back s r b p x [] d k l e h a =
+      let t : ltb (s .walker .top - 1) (s .walker .height) ≡ true = lt-ltb (s .walker .top - 1) (s .walker .height) (omega (arith, a .top-is, a .height-is)) in (
+        records-idle s r (nested b p (frame x [] ∷ []) d k l) (nested b p [] d k l) (returned (s .walk) (s .cursor) (s .walker)) (s .spent) refl refl refl (h .probes-right) h,
+        record {
+          phase-is = refl;
+          cur-is = ap (λ (y : Bool). choose y (s .walker .cur) (getD (s .walk) (s .walker .top - 1 - 1) 0)) t ∙ a .cur-is ∙ e;
+          height-is = a .height-is;
+          top-is = omega (arith, a .top-is);
+          walk-is = begins-pop (statesOf p) (x ∷ []) (s .walk) (a .walk-is);
+          places = a .places;
+        },
+      )
+  nested-back s r b p x (frame y us ∷ q) d k l e h a =
+      let t : ltb (s .walker .top - 1) (s .walker .height) ≡ false = le-ltb (s .walker .top - 1) (s .walker .height) (omega (arith, a .top-is, a .height-is)) in
+      let at : s .walker .top - 1 - 1 ≡ length p + length q = omega (arith, a .top-is) in
+      let place : s .walker .top - 1 - 1 ≡ length (statesOf p ++ statesOf q) = omega (arith, at, length-append (statesOf p) (statesOf q), states-length p, states-length q) in
+      let w : Begins ((statesOf p ++ statesOf q) ++ (y ∷ (x ∷ []))) (s .walk) = regroup (statesOf p) (statesOf q) x y (s .walk) (a .walk-is) in (
+        records-idle s r (nested b p (frame x [] ∷ frame y us ∷ q) d k l) (nested b p (frame y us ∷ q) d k l) (returned (s .walk) (s .cursor) (s .walker)) (s .spent) refl refl refl (h .probes-right) h,
+        record {
+          phase-is = refl;
+          cur-is = ap (λ (z : Bool). choose z (s .walker .cur) (getD (s .walk) (s .walker .top - 1 - 1) 0)) t ∙ ap (λ (i : ℕ). getD (s .walk) i 0) place
+              ∙ begins-at (statesOf p ++ statesOf q) y (x ∷ []) (s .walk) w;
+          pending-is = a .cursors .0 ∙ ap (λ (i : ℕ). drop i (g .successors y))
+              (sym (ap (λ (z : Bool). choose z (s .walker .next) (getD (s .cursor) (s .walker .top - 1 - 1) 0)) t ∙ ap (λ (i : ℕ). getD (s .cursor) i 0) at));
+          height-is = a .height-is;
+          top-is = omega (arith, a .top-is);
+          walk-is = popped (statesOf p) (statesOf q) x y (s .walk) w;
+          places = a .places;
+          cursors = a .cursors .1;
+        },
+      )
+    where
+      regroup : (P Q : List ℕ) (x y : ℕ) (walk : List ℕ) → Begins (P ++ ((Q ++ (y ∷ [])) ++ (x ∷ []))) walk → Begins ((P ++ Q) ++ (y ∷ (x ∷ []))) walk
+      regroup P Q x y walk (rest, w) = (rest, w ∙ ap (λ (l : List ℕ). l ++ rest) (ap (λ (l : List ℕ). P ++ l) (append-assoc Q (y ∷ []) (x ∷ [])) ∙ sym (append-assoc P Q (y ∷ (x ∷ [])))))
+
+      popped : (P Q : List ℕ) (x y : ℕ) (walk : List ℕ) → Begins ((P ++ Q) ++ (y ∷ (x ∷ []))) walk → Begins (P ++ (Q ++ (y ∷ []))) walk
+      popped P Q x y walk (rest, w) = (x ∷ rest, w ∙ simp append-assoc)
