@@ -164,6 +164,15 @@ records-new s r n t cur next spent w c c′ b e f u e₁ e₂ e₃ e₄ m walk d
         same-note (getD-set-other (s .number) t x (s .walker .met) 0 ne) (getD-set-other (s .parent) t x cur 0 ne) (getD-set-other (s .index) t x next 0 ne) (getD-set-other (s .probes) t x spent 0 ne)
         ∙ h .notes-right x j ∙ sym (put-other t n (r .of) x ne)
 
+-- the top of a path is its newest state
+top-first : (b : ℕ) (us : List ℕ) (p : List Frame) (w : List ℕ) → statesOf (frame b us ∷ p) ++ w ≡ statesOf p ++ (b ∷ w)
+unfolding statesOf
+top-first b us p w = append-assoc (statesOf p) (b ∷ []) w
+
+stem-is : (depth : List ℕ) (t b : ℕ) (p : List Frame) → Placed depth (frame b [] ∷ p) → Distinct (frame b [] ∷ p) → On t (frame b [] ∷ p) → getD depth t 0 ≡ length (stemOf t (frame b [] ∷ p))
+unfolding stemOf
+stem-is depth t b p h d o = sym (stem-length depth t (frame b [] ∷ p) h d o)
+
 -- ---- tests
 
 new-test : (number : List ℕ) (t : ℕ) (a b : Core) → getD number t 0 ≡ none → choose (eqb (getD number t 0) none) a b ≡ a
@@ -171,6 +180,32 @@ new-test number t a b e = rw (eq-eqb (getD number t 0) none e)
 
 old-test : (number : List ℕ) (t : ℕ) (a b : Core) → getD number t 0 < none → choose (eqb (getD number t 0) none) a b ≡ b
 old-test number t a b h = rw (ne-eqb (getD number t 0) none (λ e. omega arith))
+
+module _ (targets starts words : List ℕ) (s : Core) where
+  outer-end : s .walker .height ≡ 0 → outerStep targets starts words s ≡ withWalker s (exhausted (s .walker))
+  unfolding outerStep
+  outer-end e = rw (eq-eqb (s .walker .height) 0 e)
+
+  outer-edge : 0 < s .walker .height → hasEdge targets starts words s ≡ true → outerStep targets starts words s ≡ outerProbe targets starts words s
+  unfolding outerStep
+  outer-edge h e = rw (ne-eqb (s .walker .height) 0 (λ z. omega arith), e)
+
+  outer-last : 0 < s .walker .height → hasEdge targets starts words s ≡ false → outerStep targets starts words s ≡ finish targets starts words s
+  unfolding outerStep
+  outer-last h e = rw (ne-eqb (s .walker .height) 0 (λ z. omega arith), e)
+
+  nested-end : s .walker .top < s .walker .height → nestedStep targets starts words s ≡ leave s
+  unfolding nestedStep
+  nested-end h = rw (lt-ltb (s .walker .top) (s .walker .height) h)
+
+  nested-edge : s .walker .height ≤ s .walker .top → hasEdge targets starts words s ≡ true → nestedStep targets starts words s ≡ nestedProbe targets starts words s
+  unfolding nestedStep
+  nested-edge h e = rw (le-ltb (s .walker .top) (s .walker .height) h, e)
+
+  nested-last : s .walker .height ≤ s .walker .top → hasEdge targets starts words s ≡ false
+      → nestedStep targets starts words s ≡ withWalker s (returned (s .walk) (s .cursor) (s .walker))
+  unfolding nestedStep
+  nested-last h e = rw (le-ltb (s .walker .top) (s .walker .height) h, e)
 
 -- what the outcome of a step has to be
 abbrev pub Fits : Graph → Core → Notes → Config → Type 0
@@ -392,3 +427,121 @@ module _ (g : Graph) (targets starts words : List ℕ) (m : Matches g targets st
 
       popped : (P Q : List ℕ) (x y : ℕ) (walk : List ℕ) → Begins ((P ++ Q) ++ (y ∷ (x ∷ []))) walk → Begins (P ++ (Q ++ (y ∷ []))) walk
       popped P Q x y walk (rest, w) = (x ∷ rest, w ∙ simp append-assoc)
+
+  -- stem and cycle are the open path and, behind it, the path of the nested search
+  walk-whole : (h b : ℕ) (us : List ℕ) (p : List Frame) (x : ℕ) (ts : List ℕ) (q : List Frame) → Linked g b x q
+      → stemOf h (frame b us ∷ p) ++ cycleOf h (frame b us ∷ p) (frame x ts ∷ q) ≡ statesOf p ++ statesOf (frame x ts ∷ q)
+  unfolding stemOf cycleOf
+  walk-whole h b us p x ts q c =
+      let v = path-run g q b x ts c in
+      sym (append-assoc (before h (statesOf (frame b us ∷ p))) (from h (statesOf (frame b us ∷ p))) (drop 1 (statesOf (frame x ts ∷ q))))
+      ∙ ap (λ (l : List ℕ). l ++ drop 1 (statesOf (frame x ts ∷ q))) (before-from h (statesOf (frame b us ∷ p)))
+      ∙ ap (λ (l : List ℕ). statesOf (frame b us ∷ p) ++ drop 1 l) (v .1)
+      ∙ top-first b us p (v .0)
+      ∙ ap (λ (l : List ℕ). statesOf p ++ l) (sym (v .1))
+
+  nested-found : (s : Core) (r : Notes) (b : ℕ) (p : List Frame) (x t : ℕ) (ts : List ℕ) (q : List Frame) (d k : List ℕ) (l : List Edge) → Limits g (nested b p (frame x (t ∷ ts) ∷ q) d k l)
+      → Linked g b x q → Distinct (frame b [] ∷ p) → On t (frame b [] ∷ p)
+      → Records s r (nested b p (frame x (t ∷ ts) ∷ q) d k l) → AtNested g s b p x (t ∷ ts) q
+      → Fits g (withWalker (probed s) (closed (s .walker) (getD (s .depth) t 0))) r (found t (frame b [] ∷ p) (frame x ts ∷ q) d k ((x, t) ∷ l))
+  unfolding statesOf
+  nested-found s r b p x t ts q d k l u c dis on h a =
+      let e : stemOf t (frame b [] ∷ p) ++ cycleOf t (frame b [] ∷ p) (frame x ts ∷ q) ≡ statesOf p ++ statesOf (frame x ts ∷ q) = walk-whole t b [] p x ts q c in (
+        records-idle s r (nested b p (frame x (t ∷ ts) ∷ q) d k l) (found t (frame b [] ∷ p) (frame x ts ∷ q) d k ((x, t) ∷ l)) (closed (s .walker) (getD (s .depth) t 0)) (up (s .spent)) refl refl refl
+            (omega (arith, up-more (s .spent) (omega (arith, h .probes-right, u .probes-few)), h .probes-right)) h,
+        record {
+          phase-is = refl;
+          stem-is = stem-is (s .depth) t b p (a .places) dis on;
+          top-is = a .top-is ∙ omega (arith, ap length e, length-append (stemOf t (frame b [] ∷ p)) (cycleOf t (frame b [] ∷ p) (frame x ts ∷ q)), length-append (statesOf p) (statesOf q ++ (x ∷ [])),
+              length-append (statesOf q) (x ∷ []), states-length p, states-length q);
+          walk-is = (a .walk-is .0, a .walk-is .1 ∙ ap (λ (y : List ℕ). y ++ a .walk-is .0) (sym e));
+        },
+      )
+
+  -- ---- all steps
+
+  visit-fits : (v : Bool) (s : Core) (r : Notes) (x t : ℕ) (ts : List ℕ) (p : List Frame) (d k : List ℕ) (l : List Edge) → elem t d ≡ v
+      → OuterInv g (frame x (t ∷ ts) ∷ p) d → Counted g r (outer (frame x (t ∷ ts) ∷ p) d k l)
+      → Limits g (outer (frame x (t ∷ ts) ∷ p) d k l) → Limits g (visit g v x t ts p d k ((x, t) ∷ l))
+      → Records s r (outer (frame x (t ∷ ts) ∷ p) d k l) → AtOuter g s x (t ∷ ts) p
+      → Fits g (choose (eqb (getD (s .number) t 0) none) (discover (probed s) t) (withWalker (probed s) (skipped (s .walker)))) (noteVisit v t (noteOf g x ts d l) r) (visit g v x t ts p d k ((x, t) ∷ l))
+  unfolding onPath
+  visit-fits true s r x t ts p d k l e o n u u′ h a =
+      rw (old-test (s .number) t (discover (probed s) t) (withWalker (probed s) (skipped (s .walker)))
+      (omega (arith, ap (λ (y : Note). y .number) (h .notes-right t e), n .0 t e, u .few))) (outer-skip s r x t ts p d k l u h a)
+  visit-fits false s r x t ts p d k l e o n u u′ h a =
+      rw (new-test (s .number) t (discover (probed s) t) (withWalker (probed s) (skipped (s .walker))) (h .undiscovered t (u′ .below t (in-head t d)) e))
+      (outer-new s r x t ts p d k l u (omega (arith, u′ .walk-few)) (u′ .below t (in-head t d)) e (not-true (onPath t (frame x ts ∷ p)) (λ i. contra (o .known t i) e)) h a)
+
+  finish-fits : (v : Bool) (s : Core) (r : Notes) (x : ℕ) (p : List Frame) (d k : List ℕ) (l : List Edge) → OuterInv g (frame x [] ∷ p) d → Marks g (frame x [] ∷ p) d k → Below g r x p
+      → Limits g (outer (frame x [] ∷ p) d k l) → Records s r (outer (frame x [] ∷ p) d k l) → AtOuter g s x [] p
+      → Fits g (choose v (nest s) (leave s)) (noteMark v x (length d) r) (finishes g v x p d k l)
+  finish-fits true s r x p d k l o w b u h a =
+      outer-nest s r x p d k l (u .below x (o .known x (on-head x [] p))) (not-true (elem x k) (λ i. contra (on-head x [] p) (w .done x i .1))) h a
+  finish-fits false s r x p d k l o w b u h a = outer-leave s r x p d k l u (o .known x (on-head x [] p)) b h a
+
+  probe-fits : (v w : Bool) (s : Core) (r : Notes) (b : ℕ) (p : List Frame) (x t : ℕ) (ts : List ℕ) (q : List Frame) (d k : List ℕ) (l : List Edge) → onPath t (frame b [] ∷ p) ≡ v → elem t k ≡ w
+      → OuterInv g (frame b [] ∷ p) d → (old : List ℕ) → NestedInv g b p (frame x (t ∷ ts) ∷ q) d k old → Counted g r (nested b p (frame x (t ∷ ts) ∷ q) d k l)
+      → Limits g (nested b p (frame x (t ∷ ts) ∷ q) d k l) → Limits g (probe g v w b p x t ts q d k ((x, t) ∷ l))
+      → Records s r (nested b p (frame x (t ∷ ts) ∷ q) d k l) → AtNested g s b p x (t ∷ ts) q
+      → Fits g (choose v (withWalker (probed s) (closed (s .walker) (getD (s .depth) t 0))) (choose (eqb (getD (s .stamp) t 0) none) (deepen (probed s) t) (withWalker (probed s) (skipped (s .walker)))))
+          (noteProbe v w t (length d) r) (probe g v w b p x t ts q d k ((x, t) ∷ l))
+  probe-fits true w s r b p x t ts q d k l e f o old n c u u′ h a = nested-found s r b p x t ts q d k l u (n .chain) (o .distinct) e h a
+  probe-fits false true s r b p x t ts q d k l e f o old n c u u′ h a =
+      rw (old-test (s .stamp) t (deepen (probed s) t) (withWalker (probed s) (skipped (s .walker))) (omega (arith, h .stamps-right t f, c .1 t f, u .few))) (nested-skip s r b p x t ts q d k l u h a)
+  probe-fits false false s r b p x t ts q d k l e f o old n c u u′ h a =
+      let i : t < 512 = u .below t (next-known g b p x t ts q d k old o n) in
+      rw (new-test (s .stamp) t (deepen (probed s) t) (withWalker (probed s) (skipped (s .walker))) (h .unmarked t i f)) (nested-deepen s r b p x t ts q d k l u (omega (arith, u′ .walk-few)) i f h a)
+
+  accepts-is : (s : Core) (x : ℕ) → s .walker .cur ≡ x → finish targets starts words s ≡ choose (g .accepting x) (nest s) (leave s)
+  unfolding finish
+  accepts-is s x e = ap (λ (v : Bool). choose v (nest s) (leave s)) (sym (m .acceptance (s .walker .cur)) ∙ ap (g .accepting) e)
+
+  outer-probes : (s : Core) (t : ℕ) → targetOf targets starts words s ≡ t
+      → outerProbe targets starts words s ≡ choose (eqb (getD (s .number) t 0) none) (discover (probed s) t) (withWalker (probed s) (skipped (s .walker)))
+  unfolding outerProbe
+  outer-probes s t e = ap (λ (y : ℕ). choose (eqb (getD (s .number) y 0) none) (discover (probed s) y) (withWalker (probed s) (skipped (s .walker)))) e
+
+  nested-probes : (s : Core) (t : ℕ) (v : Bool) → targetOf targets starts words s ≡ t → onOpenPath (s .walk) (s .depth) (s .walker .height) t ≡ v
+      → nestedProbe targets starts words s
+      ≡ choose v (withWalker (probed s) (closed (s .walker) (getD (s .depth) t 0))) (choose (eqb (getD (s .stamp) t 0) none) (deepen (probed s) t) (withWalker (probed s) (skipped (s .walker))))
+  unfolding nestedProbe
+  nested-probes s t v e f =
+      ap (λ (y : ℕ). choose (onOpenPath (s .walk) (s .depth) (s .walker .height) y) (withWalker (probed s) (closed (s .walker) (getD (s .depth) y 0)))
+          (choose (eqb (getD (s .stamp) y 0) none) (deepen (probed s) y) (withWalker (probed s) (skipped (s .walker))))) e
+      ∙ ap (λ (y : Bool). choose y (withWalker (probed s) (closed (s .walker) (getD (s .depth) t 0)))
+          (choose (eqb (getD (s .stamp) t 0) none) (deepen (probed s) t) (withWalker (probed s) (skipped (s .walker))))) f
+
+  -- the walk begins with the open path, while a nested search runs
+  path-first : (s : Core) (b : ℕ) (p : List Frame) (x : ℕ) (ts : List ℕ) (q : List Frame) → Linked g b x q → Begins (statesOf p ++ statesOf (frame x ts ∷ q)) (s .walk) → Begins (statesOf (frame b [] ∷ p)) (s .walk)
+  path-first s b p x ts q c (rest, w) =
+      let v = path-run g q b x ts c in
+      (v .0 ++ rest, w ∙ ap (λ (l : List ℕ). l ++ rest) (ap (λ (l : List ℕ). statesOf p ++ l) (v .1)) ∙ append-assoc (statesOf p) (b ∷ v .0) rest ∙ sym (top-first b [] p (v .0 ++ rest)))
+
+  -- ONE STEP of the arrays is one step of the plain search, and notes what that notes
+  pub one-step : (s : Core) (r : Notes) (c : Config) → Inv g c → ShapeOf g r c → Counted g r c → Limits g c → Limits g (stepOf g c) → Records s r c → Stands g s c
+      → Fits g (step targets starts words s) (noted g c r) (stepOf g c)
+  unfolding stepOf noted
+  one-step s r (outer [] d k l) v z n u u′ h a =
+      rw (step-outer targets starts words s (a .0), outer-end targets starts words s (a .1))
+      (records-idle s r (outer [] d k l) (ended d k l) (exhausted (s .walker)) (s .spent) refl refl refl (h .probes-right) h, refl)
+  one-step s r (outer (frame x [] ∷ p) d k l) (o, w) z n u u′ h a =
+      rw (step-outer targets starts words s (a .phase-is), outer-last targets starts words s (omega (arith, a .height-is)) (edges-done s x (a .cur-is) (no-edge (g .successors x) (s .walker .next) (a .pending-is))), accepts-is s x (a .cur-is))
+      (finish-fits (g .accepting x) s r x p d k l o w (z .0) u h a)
+  one-step s r (outer (frame x (t ∷ ts) ∷ p) d k l) (o, w) z n u u′ h a =
+      let e = edge-left (g .successors x) (s .walker .next) t ts (a .pending-is) in
+      rw (step-outer targets starts words s (a .phase-is), outer-edge targets starts words s (omega (arith, a .height-is)) (has-edge s x (a .cur-is) (e .there)), outer-probes s t (target-is s x t (a .cur-is) (e .target)))
+      (visit-fits (elem t d) s r x t ts p d k l refl o n u u′ h a)
+  one-step s r (nested b p [] d k l) (o, (old, w)) z n u u′ h a =
+      rw (step-nested targets starts words s (a .phase-is), nested-end targets starts words s (omega (arith, a .top-is, a .height-is)))
+      (nested-leave s r b p d k l u (o .known b (on-head b [] p)) (z .0) h a)
+  one-step s r (nested b p (frame x [] ∷ q) d k l) (o, (old, w)) z n u u′ h a =
+      rw (step-nested targets starts words s (a .phase-is), nested-last targets starts words s (omega (arith, a .top-is, a .height-is)) (edges-done s x (a .cur-is) (no-edge (g .successors x) (s .walker .next) (a .pending-is))))
+      (nested-back s r b p x q d k l (w .chain) h a)
+  one-step s r (nested b p (frame x (t ∷ ts) ∷ q) d k l) (o, (old, w)) z n u u′ h a =
+      let e = edge-left (g .successors x) (s .walker .next) t ts (a .pending-is) in
+      let test = on-test (s .walk) (s .depth) (s .walker .height) t (frame b [] ∷ p) (a .height-is) (path-first s b p x (t ∷ ts) q (w .chain) (a .walk-is)) (a .places) in
+      rw (step-nested targets starts words s (a .phase-is), nested-edge targets starts words s (omega (arith, a .top-is, a .height-is)) (has-edge s x (a .cur-is) (e .there)), nested-probes s t (onPath t (frame b [] ∷ p)) (target-is s x t (a .cur-is) (e .target)) test)
+      (probe-fits (onPath t (frame b [] ∷ p)) (elem t k) s r b p x t ts q d k l refl refl o old w n u u′ h a)
+  one-step s r (ended d k l) v z n u u′ h a = rw (step-exhausted targets starts words s a) (h, a)
+  one-step s r (found y p q d k l) v z n u u′ h a = rw (step-found targets starts words s (a .phase-is)) (h, a)
