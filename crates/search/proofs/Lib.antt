@@ -1,3 +1,4 @@
 pub mod Represents
 pub mod Places
 pub mod OneStep
+pub mod Rewind

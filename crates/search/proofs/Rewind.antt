@@ -1,0 +1,99 @@
+-- The arrays rewound to a discovery stand for the configuration of that discovery. Assumes nothing.
+use mathlib.Core.Path.{_≡_, refl, sym, ap, subst, _∙_}
+use mathlib.Core.Logic.{⊎-elim}
+use mathlib.Core.Bool.{Bool, true, false}
+use mathlib.Core.List.{List, [], _∷_, _++_, append-assoc, map}
+use Prim.Native.Nat.{ℕ, zero, suc, _+_, _≤_, _<_}
+use native.Mathlib.Nat.{add-zero}
+use native.Mathlib.Omega.{arith}
+use lib.Dec.{eqb, leb}
+use lib.ListN.{length, getD, set, drop, replicate, length-set, length-map, length-replicate, List·getD-map}
+use lib.Seq.{drop-cons, drop-set-add, getD-set-same, getD-set-other}
+use borrow.Author.Tests.{eq-eqb, ne-eqb, le-leb, lt-leb, eqb-false}
+use Rattle.plain.specs.Lists.{elem, In}
+use Rattle.plain.specs.Search.{Graph, Edge, Frame, frame, onPath, Config, outer, discoveredOf, markedOf, statesOf}
+use Rattle.plain.specs.Notes.{Note, Notes, Below}
+use Rattle.plain.proofs.Tests.{contra, or-false, in-head, in-tail}
+use Rattle.plain.proofs.Paths.{On, Off, Distinct, on-head, on-tail}
+use Rattle.plain.proofs.Invariant.{Inv}
+use Rattle.plain.proofs.Prefix.{discovery}
+use Rattle.search.specs.declared.Phase.the-variants.{Outer}
+use Rattle.search.specs.Core.{Core, none, up, choose, coreOf, upTo, climb, retraceWalk, retraceDepth, rewound, Kept}
+use Rattle.search.proofs.Represents.{view, Records, Begins, Placed, Stands, Limits, up-more}
+use Rattle.search.proofs.OneStep.{Fits}
+
+-- ---- what is numbered up to a limit
+
+up-to-kept : (limit x : ℕ) → x ≤ limit → upTo limit x ≡ x
+unfolding upTo
+up-to-kept limit x h = rw (le-leb x limit h)
+
+up-to-lost : (limit x : ℕ) → limit < x → upTo limit x ≡ none
+unfolding upTo
+up-to-lost limit x h = rw (lt-leb x limit h)
+
+getD-map : (f : ℕ → ℕ) (xs : List ℕ) (i : ℕ) → i < length xs → getD (map f xs) i 0 ≡ f (getD xs i 0)
+getD-map f [] i h = absurd (omega arith)
+getD-map f (x ∷ xs) zero h = refl
+getD-map f (x ∷ xs) (suc i) h = getD-map f xs i (omega arith)
+
+-- ---- the chain of parents
+
+-- it ends at the start state
+chain-start : (g : Graph) (r : Notes) (x : ℕ) (ts : List ℕ) (p : List Frame) → Below g r x p → On (g .start) (frame x ts ∷ p)
+chain-start g r x ts [] b = rw b (on-head (g .start) ts [])
+chain-start g r x ts (frame y us ∷ p) b = on-tail (g .start) x ts (frame y us ∷ p) (chain-start g r y us p (b .2))
+
+-- so a state with others below it is not the start state
+chain-not-start : (g : Graph) (r : Notes) (x y : ℕ) (us : List ℕ) (p : List Frame) → Below g r x (frame y us ∷ p) → Off x (frame y us ∷ p) → x ≡ g .start → ⊥
+chain-not-start g r x y us p b o e = contra (chain-start g r y us p (b .2)) (rw e at o)
+
+module _ (g : Graph) (s : Core) where
+  -- the climb counts the path
+  climb-path : (n : ℕ) (x : ℕ) (p : List Frame) → length p < n → Below g (view s) x p → Off x p × Distinct p → climb (s .parent) (g .start) n x ≡ suc (length p)
+  unfolding climb
+  climb-path zero x p h b d = absurd (omega arith)
+  climb-path (suc n) x [] h b d = rw (eq-eqb x (g .start) b)
+  climb-path (suc n) x (frame y us ∷ p) h b d =
+      rw (ne-eqb x (g .start) (chain-not-start g (view s) x y us p b (d .0)))
+      (ap suc (ap (climb (s .parent) (g .start) n) (b .0) ∙ climb-path n y p (omega arith) (b .2) (d .1)))
+
+drop-set : (walk : List ℕ) (n x : ℕ) → n < length walk → drop n (set walk n x) ≡ x ∷ drop (suc n) walk
+drop-set walk n x h =
+    ap (λ (i : ℕ). drop n (set walk i x)) (sym (add-zero n)) ∙ drop-set-add n walk 0 x ∙ ap (λ (l : List ℕ). set l 0 x) (drop-cons walk n 0 h)
+
+module _ (g : Graph) (s : Core) where
+  -- the walk then begins with the path
+  retrace-walk : (p : List Frame) (x : ℕ) (ts walk : List ℕ) → Below g (view s) x p → length p < length walk
+      → retraceWalk (s .parent) (suc (length p)) x walk ≡ statesOf (frame x ts ∷ p) ++ drop (suc (length p)) walk
+  unfolding retraceWalk statesOf
+  retrace-walk [] x ts walk b h = drop-set walk 0 x h
+  retrace-walk (frame y us ∷ p) x ts walk b h =
+      ap (λ (v : ℕ). retraceWalk (s .parent) (suc (length p)) v (set walk (suc (length p)) x)) (b .0)
+      ∙ retrace-walk p y us (set walk (suc (length p)) x) (b .2) (omega (arith, length-set walk (suc (length p)) x))
+      ∙ ap (λ (l : List ℕ). statesOf (frame y us ∷ p) ++ l) (drop-set walk (suc (length p)) x h)
+      ∙ sym (append-assoc (statesOf (frame y us ∷ p)) (x ∷ []) (drop (suc (suc (length p))) walk))
+
+  -- only states of the path get another place
+  retrace-other : (p : List Frame) (x : ℕ) (ts depth : List ℕ) (z : ℕ) → Below g (view s) x p → Off z (frame x ts ∷ p)
+      → getD (retraceDepth (s .parent) (suc (length p)) x depth) z 0 ≡ getD depth z 0
+  unfolding retraceDepth onPath
+  retrace-other [] x ts depth z b o = getD-set-other depth x z 0 0 (eqb-false z x (or-false (eqb z x) (onPath z []) o .0))
+  retrace-other (frame y us ∷ p) x ts depth z b o =
+      let w = or-false (eqb z x) (onPath z (frame y us ∷ p)) o in
+      ap (λ (v : ℕ). getD (retraceDepth (s .parent) (suc (length p)) v (set depth x (suc (length p)))) z 0) (b .0)
+      ∙ retrace-other p y us (set depth x (suc (length p))) z (b .2) (w .1)
+      ∙ getD-set-other depth x z (suc (length p)) 0 (eqb-false z x (w .0))
+
+  retrace-placed : (p : List Frame) (x : ℕ) (ts depth : List ℕ) → Below g (view s) x p → Off x p × Distinct p → ((z : ℕ) → On z (frame x ts ∷ p) → z < length depth)
+      → Placed (retraceDepth (s .parent) (suc (length p)) x depth) (frame x ts ∷ p)
+  unfolding retraceDepth
+  retrace-placed [] x ts depth b d h = (getD-set-same depth x 0 0 (h x (on-head x ts [])), tt)
+  retrace-placed (frame y us ∷ p) x ts depth b d h = shifted (sym (b .0)) (
+    retrace-other p y us (set depth x (suc (length p))) x (b .2) (d .0) ∙ getD-set-same depth x (suc (length p)) 0 (h x (on-head x ts (frame y us ∷ p))),
+    retrace-placed p y us (set depth x (suc (length p))) (b .2) (d .1) (λ z o. omega (arith, length-set depth x (suc (length p)), h z (on-tail z x ts (frame y us ∷ p) o))),
+  )
+    where
+      shifted : y ≡ getD (s .parent) x 0 → Placed (retraceDepth (s .parent) (suc (length p)) y (set depth x (suc (length p)))) (frame x ts ∷ frame y us ∷ p)
+          → Placed (retraceDepth (s .parent) (suc (length p)) (getD (s .parent) x 0) (set depth x (suc (length p)))) (frame x ts ∷ frame y us ∷ p)
+      shifted e w = subst (λ (v : ℕ). Placed (retraceDepth (s .parent) (suc (length p)) v (set depth x (suc (length p)))) (frame x ts ∷ frame y us ∷ p)) e w
