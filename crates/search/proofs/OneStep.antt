@@ -78,7 +78,7 @@ records-mark : (s : Core) (r : Notes) (c c′ : Config) (w : Walker) (spent t : 
     → discoveredOf c′ ≡ discoveredOf c → markedOf c′ ≡ t ∷ markedOf c → elem t (markedOf c) ≡ false → t < 512
     → w .met ≡ s .walker .met → w .kept + spent ≡ count c′ → Records s r c
     → Records (coreOf w spent (s .number) (s .parent) (s .index) (s .probes) (set (s .stamp) t (s .walker .met)) walk (s .depth) cursor)
-        (record { of = r .of; stamp = put t (length (discoveredOf c)) (r .stamp) }) c′
+    (record { of = r .of; stamp = put t (length (discoveredOf c)) (r .stamp) }) c′
 records-mark s r c c′ w spent t walk cursor lw lc e f u b m n h = record {
   sized = record {
     number-size = h .sized .number-size;
@@ -93,9 +93,9 @@ records-mark s r c c′ w spent t walk cursor lw lc e f u b m n h = record {
   notes-right = λ x i. h .notes-right x (rw e at i);
   stamps-right = λ x i. ⊎-elim
       (λ z. ap (λ (v : ℕ). getD (set (s .stamp) t (s .walker .met)) v 0) z ∙ getD-set-same (s .stamp) t (s .walker .met) 0 (omega (arith, h .sized .stamp-size)) ∙ h .met-right
-          ∙ sym (put-hit t (length (discoveredOf c)) (r .stamp) x z))
+      ∙ sym (put-hit t (length (discoveredOf c)) (r .stamp) x z))
       (λ j. let ne = in-out x t (markedOf c) j u in
-          getD-set-other (s .stamp) t x (s .walker .met) 0 ne ∙ h .stamps-right x j ∙ sym (put-other t (length (discoveredOf c)) (r .stamp) x ne))
+      getD-set-other (s .stamp) t x (s .walker .met) 0 ne ∙ h .stamps-right x j ∙ sym (put-other t (length (discoveredOf c)) (r .stamp) x ne))
       (in-cases x t (markedOf c) (rw f at i));
   undiscovered = λ x l o. h .undiscovered x l (rw e at o);
   unmarked = λ x l o.
@@ -117,7 +117,7 @@ records-new : (s : Core) (r : Notes) (n : Note) (t cur next : ℕ) (spent : ℕ)
     → w .met ≡ suc (length (discoveredOf c)) → (walk depth : List ℕ) → length walk ≡ 512 → length depth ≡ 512
     → (total : ℕ) → w .kept + total ≡ count c′ → Records s r c
     → Records (coreOf w total (set (s .number) t (s .walker .met)) (set (s .parent) t cur) (set (s .index) t next) (set (s .probes) t spent) (s .stamp) walk depth (s .cursor))
-        (record { of = put t n (r .of); stamp = r .stamp }) c′
+    (record { of = put t n (r .of); stamp = r .stamp }) c′
 records-new s r n t cur next spent w c c′ b e f u e₁ e₂ e₃ e₄ m walk depth lw ld total pr h = record {
   sized = record {
     number-size = length-set (s .number) t (s .walker .met) ∙ h .sized .number-size;
@@ -352,7 +352,7 @@ module _ (g : Graph) (targets starts words : List ℕ) (m : Matches g targets st
   nested-deepen s r b p x t ts q d k l u few tb new h a =
       let e = edge-left (g .successors x) (s .walker .next) t ts (a .pending-is) in
       let size : length (statesOf p ++ (statesOf q ++ (x ∷ []))) ≡ length p + suc (length q) =
-          omega (arith, length-append (statesOf p) (statesOf q ++ (x ∷ [])), length-append (statesOf q) (x ∷ []), states-length p, states-length q) in
+      omega (arith, length-append (statesOf p) (statesOf q ++ (x ∷ [])), length-append (statesOf q) (x ∷ []), states-length p, states-length q) in
       let at : s .walker .top - 1 ≡ length p + length q = omega (arith, a .top-is) in (
         records-mark s r (nested b p (frame x (t ∷ ts) ∷ q) d k l) (nested b p (frame t (g .successors t) ∷ frame x ts ∷ q) d (t ∷ k) ((x, t) ∷ l)) (deepen (probed s) t .walker) (up (s .spent)) t
             (set (s .walk) (s .walker .top) t) (set (s .cursor) (s .walker .top - 1) (up (s .walker .next)))
@@ -452,8 +452,15 @@ module _ (g : Graph) (targets starts words : List ℕ) (m : Matches g targets st
         record {
           phase-is = refl;
           stem-is = stem-is (s .depth) t b p (a .places) dis on;
-          top-is = a .top-is ∙ omega (arith, ap length e, length-append (stemOf t (frame b [] ∷ p)) (cycleOf t (frame b [] ∷ p) (frame x ts ∷ q)), length-append (statesOf p) (statesOf q ++ (x ∷ [])),
-              length-append (statesOf q) (x ∷ []), states-length p, states-length q);
+          top-is = a .top-is ∙ omega (
+            arith,
+            ap length e,
+            length-append (stemOf t (frame b [] ∷ p)) (cycleOf t (frame b [] ∷ p) (frame x ts ∷ q)),
+            length-append (statesOf p) (statesOf q ++ (x ∷ [])),
+            length-append (statesOf q) (x ∷ []),
+            states-length p,
+            states-length q,
+          );
           walk-is = (a .walk-is .0, a .walk-is .1 ∙ ap (λ (y : List ℕ). y ++ a .walk-is .0) (sym e));
         },
       )
@@ -485,7 +492,7 @@ module _ (g : Graph) (targets starts words : List ℕ) (m : Matches g targets st
       → Limits g (nested b p (frame x (t ∷ ts) ∷ q) d k l) → Limits g (probe g v w b p x t ts q d k ((x, t) ∷ l))
       → Records s r (nested b p (frame x (t ∷ ts) ∷ q) d k l) → AtNested g s b p x (t ∷ ts) q
       → Fits g (choose v (withWalker (probed s) (closed (s .walker) (getD (s .depth) t 0))) (choose (eqb (getD (s .stamp) t 0) none) (deepen (probed s) t) (withWalker (probed s) (skipped (s .walker)))))
-          (noteProbe v w t (length d) r) (probe g v w b p x t ts q d k ((x, t) ∷ l))
+      (noteProbe v w t (length d) r) (probe g v w b p x t ts q d k ((x, t) ∷ l))
   probe-fits true w s r b p x t ts q d k l e f o old n c u u′ h a = nested-found s r b p x t ts q d k l u (n .chain) (o .distinct) e h a
   probe-fits false true s r b p x t ts q d k l e f o old n c u u′ h a =
       rw (old-test (s .stamp) t (deepen (probed s) t) (withWalker (probed s) (skipped (s .walker))) (omega (arith, h .stamps-right t f, c .1 t f, u .few))) (nested-skip s r b p x t ts q d k l u h a)
@@ -508,9 +515,9 @@ module _ (g : Graph) (targets starts words : List ℕ) (m : Matches g targets st
   unfolding nestedProbe
   nested-probes s t v e f =
       ap (λ (y : ℕ). choose (onOpenPath (s .walk) (s .depth) (s .walker .height) y) (withWalker (probed s) (closed (s .walker) (getD (s .depth) y 0)))
-          (choose (eqb (getD (s .stamp) y 0) none) (deepen (probed s) y) (withWalker (probed s) (skipped (s .walker))))) e
+      (choose (eqb (getD (s .stamp) y 0) none) (deepen (probed s) y) (withWalker (probed s) (skipped (s .walker))))) e
       ∙ ap (λ (y : Bool). choose y (withWalker (probed s) (closed (s .walker) (getD (s .depth) t 0)))
-          (choose (eqb (getD (s .stamp) t 0) none) (deepen (probed s) t) (withWalker (probed s) (skipped (s .walker))))) f
+      (choose (eqb (getD (s .stamp) t 0) none) (deepen (probed s) t) (withWalker (probed s) (skipped (s .walker))))) f
 
   -- the walk begins with the open path, while a nested search runs
   path-first : (s : Core) (b : ℕ) (p : List Frame) (x : ℕ) (ts : List ℕ) (q : List Frame) → Linked g b x q → Begins (statesOf p ++ statesOf (frame x ts ∷ q)) (s .walk) → Begins (statesOf (frame b [] ∷ p)) (s .walk)

@@ -69,9 +69,9 @@ unfolding statesOf onPath
 placed-at depth x [] h o = absurd (contra o refl)
 placed-at depth x (frame y ts ∷ p) h o = ⊎-elim
     (λ e. let z : getD depth x 0 ≡ length (statesOf p) = ap (λ (v : ℕ). getD depth v 0) e ∙ h .0 ∙ sym (states-length p) in
-        (omega (arith, states-length p), ap (λ (i : ℕ). getD (statesOf p ++ (y ∷ [])) i 0) z ∙ getD-append-seam (statesOf p) y [] 0 ∙ sym e))
+    (omega (arith, states-length p), ap (λ (i : ℕ). getD (statesOf p ++ (y ∷ [])) i 0) z ∙ getD-append-seam (statesOf p) y [] 0 ∙ sym e))
     (λ q. let r = placed-at depth x p (h .1) q in
-        (omega (arith, r .0), List·getD-append (statesOf p) (y ∷ []) 0 (getD depth x 0) (omega (arith, r .0, states-length p)) ∙ r .1))
+    (omega (arith, r .0), List·getD-append (statesOf p) (y ∷ []) 0 (getD depth x 0) (omega (arith, r .0, states-length p)) ∙ r .1))
     (on-cases x y ts p o)
 
 in-getD : (xs : List ℕ) (i : ℕ) → i < length xs → In (getD xs i 0) xs

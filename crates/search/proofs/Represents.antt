@@ -156,6 +156,6 @@ pub drop-up : (row : List ℕ) (k : ℕ) → length row ≤ 65535 → drop (up k
 drop-up row k h = ⊎-elim
     (λ t. ap (λ (i : ℕ). drop i row) (up-more k (ltb-true k 65535 t)))
     (λ t. let l : 65535 ≤ k = ltb-false k 65535 t in
-        let e : length row ≤ k = omega arith in
-        let f : length row ≤ suc k = omega arith in
-        ap (λ (i : ℕ). drop i row) (up-end k l) ∙ drop-of-length-le row e ∙ sym (drop-of-length-le row f)) (either (ltb k 65535))
+    let e : length row ≤ k = omega arith in
+    let f : length row ≤ suc k = omega arith in
+    ap (λ (i : ℕ). drop i row) (up-end k l) ∙ drop-of-length-le row e ∙ sym (drop-of-length-le row f)) (either (ltb k 65535))
