@@ -190,7 +190,7 @@ module _ (targets starts words : List ℕ) (s : Core) where
   unfolding outerStep
   outer-edge h e = rw (ne-eqb (s .walker .height) 0 (λ z. omega arith), e)
 
-  outer-last : 0 < s .walker .height → hasEdge targets starts words s ≡ false → outerStep targets starts words s ≡ finish targets starts words s
+  outer-last : 0 < s .walker .height → hasEdge targets starts words s ≡ false → outerStep targets starts words s ≡ finish words s
   unfolding outerStep
   outer-last h e = rw (ne-eqb (s .walker .height) 0 (λ z. omega arith), e)
 
@@ -500,7 +500,7 @@ module _ (g : Graph) (targets starts words : List ℕ) (m : Matches g targets st
       let i : t < 512 = u .below t (next-known g b p x t ts q d k old o n) in
       rw (new-test (s .stamp) t (deepen (probed s) t) (withWalker (probed s) (skipped (s .walker))) (h .unmarked t i f)) (nested-deepen s r b p x t ts q d k l u (omega (arith, u′ .walk-few)) i f h a)
 
-  accepts-is : (s : Core) (x : ℕ) → s .walker .cur ≡ x → finish targets starts words s ≡ choose (g .accepting x) (nest s) (leave s)
+  accepts-is : (s : Core) (x : ℕ) → s .walker .cur ≡ x → finish words s ≡ choose (g .accepting x) (nest s) (leave s)
   unfolding finish
   accepts-is s x e = ap (λ (v : Bool). choose v (nest s) (leave s)) (sym (m .acceptance (s .walker .cur)) ∙ ap (g .accepting) e)
 

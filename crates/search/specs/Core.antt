@@ -188,6 +188,10 @@ deepen s t = coreOf (deepened (s .walker) t) (s .spent) (s .number) (s .parent) 
 abbrev pub onOpenPath : List ℕ → List ℕ → ℕ → ℕ → Bool
 onOpenPath walk depth height t = ltb (getD depth t 0) height && eqb (getD walk (getD depth t 0) 0) t
 
+-- after the last edge: is the state accepting?
+unfoldable pub finish : List ℕ → Core → Core
+finish words s = choose (accepts words (s .walker .cur)) (nest s) (leave s)
+
 -- a step by the phase: none once the search is over
 abbrev pub byPhase : Phase → Core → Core → Core → Core
 byPhase Outer a b s = a
@@ -215,12 +219,8 @@ module _ (targets starts words : List ℕ) where
   unfoldable pub outerProbe : Core → Core
   outerProbe s = choose (eqb (getD (s .number) (targetOf s) 0) none) (discover (probed s) (targetOf s)) (withWalker (probed s) (skipped (s .walker)))
 
-  -- after the last edge: is the state accepting?
-  unfoldable pub finish : Core → Core
-  finish s = choose (accepts words (s .walker .cur)) (nest s) (leave s)
-
   unfoldable pub outerStep : Core → Core
-  outerStep s = choose (eqb (s .walker .height) 0) (withWalker s (exhausted (s .walker))) (choose (hasEdge s) (outerProbe s) (finish s))
+  outerStep s = choose (eqb (s .walker .height) 0) (withWalker s (exhausted (s .walker))) (choose (hasEdge s) (outerProbe s) (finish words s))
 
   -- a probe of the nested search: is the target on the open path? was it marked?
   unfoldable pub nestedProbe : Core → Core

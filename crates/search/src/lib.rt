@@ -94,8 +94,9 @@ fn look(targets: &[u16; 2048], starts: &[u16; 513], spent: &mut u16, v: u16, k: 
 fn skip(w: Walker) -> Walker
     ensures { λ r. ⌜ r ≡ skipped w ⌝ }
 {
+    let phase = w.phase;
     Walker {
-        phase: w.phase,
+        phase: phase,
         cur: w.cur,
         next: up(w.next),
         height: w.height,
