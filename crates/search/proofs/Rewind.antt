@@ -97,3 +97,105 @@ module _ (g : Graph) (s : Core) where
       shifted : y ≡ getD (s .parent) x 0 → Placed (retraceDepth (s .parent) (suc (length p)) y (set depth x (suc (length p)))) (frame x ts ∷ frame y us ∷ p)
           → Placed (retraceDepth (s .parent) (suc (length p)) (getD (s .parent) x 0) (set depth x (suc (length p)))) (frame x ts ∷ frame y us ∷ p)
       shifted e w = subst (λ (v : ℕ). Placed (retraceDepth (s .parent) (suc (length p)) v (set depth x (suc (length p)))) (frame x ts ∷ frame y us ∷ p)) e w
+
+length-retrace-walk : (parent : List ℕ) (n x : ℕ) (walk : List ℕ) → length (retraceWalk parent n x walk) ≡ length walk
+unfolding retraceWalk
+length-retrace-walk parent zero x walk = refl
+length-retrace-walk parent (suc n) x walk = length-retrace-walk parent n (getD parent x 0) (set walk n x) ∙ length-set walk n x
+
+length-retrace-depth : (parent : List ℕ) (n x : ℕ) (depth : List ℕ) → length (retraceDepth parent n x depth) ≡ length depth
+unfolding retraceDepth
+length-retrace-depth parent zero x depth = refl
+length-retrace-depth parent (suc n) x depth = length-retrace-depth parent n (getD parent x 0) (set depth x n) ∙ length-set depth x n
+
+zeros-size : length (replicate 512 zero) ≡ 512
+zeros-size = length-replicate 512 zero
+
+-- the arrays of a search, and notes of them
+abbrev pub notesOf : List ℕ → List ℕ → List ℕ → List ℕ → List ℕ → Notes
+notesOf number parent index probes stamp = record {
+  of = λ x. record { number = getD number x 0; parent = getD parent x 0; index = getD index x 0; probes = getD probes x 0 };
+  stamp = λ x. getD stamp x 0;
+}
+
+-- What has to be known of the arrays to resume at the discovery of s: which numbers and stamps are those of that configuration.
+pub record Resumable (g : Graph) (r : Notes) (s : ℕ) (p : List Frame) (d k : List ℕ) (l : List Edge) (number parent index probes stamp walk : List ℕ) : Type 0 where
+  pub sizes : Kept number parent index probes stamp walk
+  pub below : Below g (notesOf number parent index probes stamp) s p
+  pub number-is : getD number s 0 ≡ length d
+  pub probes-are : getD probes s 0 ≡ length l
+  pub numbered : (x : ℕ) → In x (s ∷ d) → getD number x 0 ≤ length d
+  pub numbered-later : (x : ℕ) → x < 512 → elem x (s ∷ d) ≡ false → length d < getD number x 0
+  pub stamped : (x : ℕ) → In x k → getD stamp x 0 ≤ length d
+  pub stamped-later : (x : ℕ) → x < 512 → elem x k ≡ false → length d < getD stamp x 0
+  pub notes-right : (x : ℕ) → In x (s ∷ d) → notesOf number parent index probes stamp .of x ≡ r .of x
+  pub stamps-right : (x : ℕ) → In x k → getD stamp x 0 ≡ r .stamp x
+
+module _ (g : Graph) (r : Notes) (s : ℕ) (p : List Frame) (d k : List ℕ) (l : List Edge) (number parent index probes stamp walk : List ℕ)
+    (a : Resumable g r s p d k l number parent index probes stamp walk) (v : Inv g (discovery g s p d k l)) (u : Limits g (discovery g s p d k l))
+    (marked-below : (x : ℕ) → In x k → x < 512) where
+  abbrev c : Config
+  c = discovery g s p d k l
+
+  abbrev core : Core
+  core = coreOf (record { phase = Outer; cur = s; next = 0; height = suc (length p); top = suc (length p); met = suc (length d); kept = length l }) 0
+      (map (upTo (length d)) number) parent index probes (map (upTo (length d)) stamp)
+      (retraceWalk parent (suc (length p)) s walk) (retraceDepth parent (suc (length p)) s (replicate 512 0)) (replicate 512 0)
+
+  numbers : (x : ℕ) → In x (s ∷ d) → getD (map (upTo (length d)) number) x 0 ≡ getD number x 0
+  numbers x i = getD-map (upTo (length d)) number x (omega (arith, a .sizes .number-size, u .below x i)) ∙ up-to-kept (length d) (getD number x 0) (a .numbered x i)
+
+  stamps : (x : ℕ) → In x k → getD (map (upTo (length d)) stamp) x 0 ≡ getD stamp x 0
+  stamps x i = getD-map (upTo (length d)) stamp x (omega (arith, a .sizes .stamp-size, marked-below x i)) ∙ up-to-kept (length d) (getD stamp x 0) (a .stamped x i)
+
+  -- the notes of the rewound arrays are those of the arrays, as far as they count
+  below-kept : (x : ℕ) (q : List Frame) → Below g (notesOf number parent index probes stamp) x q → Below g (view core) x q
+  below-kept x [] b = b
+  below-kept x (frame y us ∷ q) b = (b .0, b .1, below-kept y q (b .2))
+
+  core-fits : Fits g core r c
+  core-fits = (
+    record {
+      sized = record {
+        number-size = length-map number (upTo (length d)) ∙ a .sizes .number-size;
+        parent-size = a .sizes .parent-size;
+        index-size = a .sizes .index-size;
+        probes-size = a .sizes .probes-size;
+        stamp-size = length-map stamp (upTo (length d)) ∙ a .sizes .stamp-size;
+        walk-size = length-retrace-walk parent (suc (length p)) s walk ∙ a .sizes .walk-size;
+        depth-size = length-retrace-depth parent (suc (length p)) s (replicate 512 0) ∙ zeros-size;
+        cursor-size = zeros-size;
+      };
+      notes-right = λ x i. ap (λ (n : ℕ). note n x) (numbers x i) ∙ a .notes-right x i;
+      stamps-right = λ x i. stamps x i ∙ a .stamps-right x i;
+      undiscovered = λ x b o. getD-map (upTo (length d)) number x (omega (arith, a .sizes .number-size)) ∙ up-to-lost (length d) (getD number x 0) (a .numbered-later x b o);
+      unmarked = λ x b o. getD-map (upTo (length d)) stamp x (omega (arith, a .sizes .stamp-size)) ∙ up-to-lost (length d) (getD stamp x 0) (a .stamped-later x b o);
+      met-right = refl;
+      probes-right = add-zero (length l);
+    },
+    record {
+      phase-is = refl;
+      cur-is = refl;
+      pending-is = refl;
+      height-is = refl;
+      walk-is = (drop (suc (length p)) walk, retrace-walk g core p s (g .successors s) walk (below-kept s p (a .below)) (omega (arith, u .walk-few, a .sizes .walk-size)));
+      places = retrace-placed g core p s (g .successors s) (replicate 512 0) (below-kept s p (a .below)) (v .0 .distinct)
+          (λ z o. omega (arith, zeros-size, u .below z (v .0 .known z o)));
+    },
+  )
+    where
+      note : ℕ → ℕ → Note
+      note n x = record { number = n; parent = getD parent x 0; index = getD index x 0; probes = getD probes x 0 }
+
+  -- REWOUND arrays stand for the configuration in which s was discovered
+  pub rewound-fits : Fits g (rewound (g .start) s 0 number parent index probes stamp walk) r c
+  unfolding rewound
+  rewound-fits =
+      let h : climb parent (g .start) 512 s ≡ suc (length p) = climb-path g core 512 s p (omega (arith, u .walk-few)) (below-kept s p (a .below)) (v .0 .distinct) in
+      let m : up (getD number s 0) ≡ suc (length d) = ap up (a .number-is) ∙ up-more (length d) (omega (arith, u .few)) in
+      subst (λ (y : Core). Fits g y r c) (sym (same-core h m)) core-fits
+    where
+      same-core : climb parent (g .start) 512 s ≡ suc (length p) → up (getD number s 0) ≡ suc (length d) → rewound (g .start) s 0 number parent index probes stamp walk ≡ core
+      same-core h m = λ i. coreOf (record { phase = Outer; cur = s; next = 0; height = h i; top = h i; met = m i; kept = a .probes-are i }) 0
+          (map (upTo (a .number-is i)) number) parent index probes (map (upTo (a .number-is i)) stamp)
+          (retraceWalk parent (h i) s walk) (retraceDepth parent (h i) s (replicate 512 0)) (replicate 512 0)
