@@ -31,7 +31,7 @@ module _ (xs ss : List ℕ) (good : Compressed xs ss) where
   row-end v h = starts-rise (suc v) 512 h (omega arith)
 
 -- The starts behind v are more and less than before, the entries behind its row moved with them.
-pub record Shifted (xs ss : List ℕ) (v more less : ℕ) (xs′ ss′ : List ℕ) : Type 0 where
+record Shifted (xs ss : List ℕ) (v more less : ℕ) (xs′ ss′ : List ℕ) : Type 0 where
   targets-size : length xs′ ≡ 2048
   starts-size : length ss′ ≡ 513
   before : (u : ℕ) → u ≤ v → getD ss′ u 0 ≡ getD ss u 0

@@ -18,12 +18,15 @@ module _ (xs : List ℕ) (at count t : ℕ) (ordered : at ≤ count) (room : cou
   enough = omega (arith, length-drop at xs)
 
   pub opened-size : length ys ≡ length xs
+  unfolding opened
   opened-size = paste-size xs at coming (suc count - at) ys new (omega arith) enough
 
   pub opened-before : (i : ℕ) → i < at → getD ys i 0 ≡ getD xs i 0
+  unfolding opened
   opened-before = paste-before xs at coming (suc count - at) ys new (omega arith) enough
 
   opened-within : (i : ℕ) → at ≤ i → i ≤ count → getD ys i 0 ≡ getD coming (i - at) 0
+  unfolding opened
   opened-within i l h = paste-within xs at coming (suc count - at) ys new (omega arith) enough i l (omega arith)
 
   pub opened-at : getD ys at 0 ≡ t
@@ -43,12 +46,15 @@ module _ (xs : List ℕ) (at count : ℕ) (ordered : at < count) (room : count �
   enough-left = omega (arith, length-drop (suc at) xs)
 
   pub shut-size : length ys ≡ length xs
+  unfolding shut
   shut-size = paste-size xs at (drop (suc at) xs) (count - suc at) ys new (omega arith) enough-left
 
   pub shut-before : (i : ℕ) → i < at → getD ys i 0 ≡ getD xs i 0
+  unfolding shut
   shut-before = paste-before xs at (drop (suc at) xs) (count - suc at) ys new (omega arith) enough-left
 
   pub shut-behind : (i : ℕ) → at ≤ i → suc i < count → getD ys i 0 ≡ getD xs (suc i) 0
+  unfolding shut
   shut-behind i l h =
       let e : suc at + (i - at) ≡ suc i = omega arith in
       paste-within xs at (drop (suc at) xs) (count - suc at) ys new (omega arith) enough-left i l (omega arith)
@@ -64,12 +70,15 @@ module _ (up : Bool) (ss : List ℕ) (from : ℕ) (size : length ss ≡ 513) (in
   all = omega (arith, length-map (drop from ss) (stepped up), length-drop from ss)
 
   pub turned-size : length ys ≡ 513
+  unfolding turned
   turned-size = paste-size ss from changing (513 - from) ys new (omega arith) all ∙ size
 
   pub turned-before : (u : ℕ) → u < from → getD ys u 0 ≡ getD ss u 0
+  unfolding turned
   turned-before = paste-before ss from changing (513 - from) ys new (omega arith) all
 
   pub turned-behind : (u : ℕ) → from ≤ u → u ≤ 512 → getD ys u 0 ≡ stepped up (getD ss u 0)
+  unfolding turned
   turned-behind u l h =
       let e : from + (u - from) ≡ u = omega arith in
       paste-within ss from changing (513 - from) ys new (omega arith) all u l (omega arith)

@@ -6,11 +6,11 @@ use lib.ListN.{drop}
 use lib.Seq.{paste}
 
 -- t comes in at a place: the entries from there to count stand one place further up
-abbrev pub opened : List ℕ → ℕ → ℕ → ℕ → List ℕ
+unfoldable pub opened : List ℕ → ℕ → ℕ → ℕ → List ℕ
 opened xs at count t = paste xs at (t ∷ drop at xs) (suc count - at)
 
 -- the entry at a place is gone: those behind it, up to count, stand one place further down
-abbrev pub shut : List ℕ → ℕ → ℕ → List ℕ
+unfoldable pub shut : List ℕ → ℕ → ℕ → List ℕ
 shut xs at count = paste xs at (drop (suc at) xs) (count - suc at)
 
 -- one more or one less, within 16 bits
@@ -19,5 +19,5 @@ stepped true x = min (suc x) 65535
 stepped false x = x - 1
 
 -- the entries from a place to 513 are all one more, or all one less
-abbrev pub turned : Bool → List ℕ → ℕ → List ℕ
+unfoldable pub turned : Bool → List ℕ → ℕ → List ℕ
 turned up xs from = paste xs from (map (stepped up) (drop from xs)) (513 - from)

@@ -9,13 +9,15 @@ use borrow.Author.Needs.{needs}
 use Rattle.rows.proofs.degree.Statement.{statement}
 use Rattle.rows.proofs.degree.Tie as tie
 
+abbrev start : tie.After-start-of2 → tie.Start
+start c = c .before .before .before
+
 -- the two starts that were read
-ends : (c : tie.After-start-of2) → (c .before .start-of .result ≡ getD (now (c .before .before .before .args .starts)) (c .before .before .before .args .v) 0)
-    × (c .start-of2 .result ≡ getD (now (c .before .before .before .args .starts)) (suc (c .before .before .before .args .v)) 0)
+ends : (c : tie.After-start-of2) → (c .before .start-of .result ≡ getD (now (start c .args .starts)) (start c .args .v) 0)
+    × (c .start-of2 .result ≡ getD (now (start c .args .starts)) (suc (start c .args .v)) 0)
 ends c =
-    let w = c .before .before in
-    let starts = now (w .before .args .starts) in
-    (c .before .start-of .ensures ∙ same-place starts (w .wide .ensures .0), c .start-of2 .ensures ∙ same-place starts (omega arith))
+    let starts = now (start c .args .starts) in
+    (c .before .start-of .ensures ∙ same-place starts (c .before .before .wide .ensures .0), c .start-of2 .ensures ∙ same-place starts (omega arith))
 
 wide-requires : tie.Need-wide-requires
 wide-requires c κs = search needs

@@ -15,16 +15,15 @@ use borrow.Author.Needs.{needs}
 use Rattle.rows.proofs.insert.Statement.{statement}
 use Rattle.rows.proofs.insert.Tie as tie
 
+abbrev start : tie.After-wide3 → tie.Start
+start c = c .before .before .before .before .before .before .before
+
 -- the place and the count that were read
-found : (c : tie.After-wide3) → (c .before .before .before .wide2 .result ≡ getD (now (c .before .before .before .before .before .before .before .args .starts)) (suc (c .before .before .before .before .before .before .before .args .v)) 0)
-    × (c .wide3 .result ≡ edgeCount (now (c .before .before .before .before .before .before .before .args .starts)))
+found : (c : tie.After-wide3) → (c .before .before .before .wide2 .result ≡ getD (now (start c .args .starts)) (suc (start c .args .v)) 0)
+    × (c .wide3 .result ≡ edgeCount (now (start c .args .starts)))
 found c =
     let s = c .before .before .before .before in
-    let a = s .before .before .before .args in
-    (c .before .before .before .wide2 .ensures .0 ∙ s .start-of .ensures ∙ same-place (now (a .starts)) (omega arith), c .wide3 .ensures .0 ∙ c .before .start-of2 .ensures)
-
-next : (c : tie.After-wide3) → c .before .before .before .before .before .before .wide .result + 1 ≡ suc (c .before .before .before .before .before .before .before .args .v)
-next c = omega arith
+    (c .before .before .before .wide2 .ensures .0 ∙ s .start-of .ensures ∙ same-place (now (start c .args .starts)) (omega arith), c .wide3 .ensures .0 ∙ c .before .start-of2 .ensures)
 
 wide-requires : tie.Need-wide-requires
 wide-requires c κs = search needs
@@ -56,18 +55,18 @@ turn-requires c κs = search needs
 returns : tie.Need-returns
 returns c =
     let w = c .before .before .before .before .before .before .before in
-    let a = w .before .before .before .before .before .before .before .args in
+    let a = start w .args in
     let xs = now (a .targets) in
     let ss = now (a .starts) in
     λ good small free.
     inserted xs ss (a .v) (a .t) good small free _ _
     (c .before .before .shift-up .ensures ∙ ap₂ (λ (at count : ℕ). opened xs at count (a .t)) (found w .0) (found w .1))
-    (c .turn .ensures ∙ ap (λ (from : ℕ). turned true ss from) (next w))
+    (c .turn .ensures ∙ ap (turned true ss) (omega arith))
 
 returns-2 : tie.Need-returns-2
 returns-2 c =
     let w = c .before in
-    let a = w .before .before .before .before .before .before .before .args in
+    let a = start w .args in
     let e = found w in
     λ good small free.
     let end = row-end (now (a .targets)) (now (a .starts)) good (a .v) small in

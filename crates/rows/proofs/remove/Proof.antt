@@ -15,17 +15,16 @@ use borrow.Author.Needs.{needs}
 use Rattle.rows.proofs.remove.Statement.{statement}
 use Rattle.rows.proofs.remove.Tie as tie
 
+abbrev start : tie.After-wide4 → tie.Start
+start c = c .before .before .before .before .before .before .before .before
+
 -- the place and the count that were read
-found : (c : tie.After-wide4) → (c .before .before .before .before .wide2 .result + c .before .before .before .wide3 .result ≡ getD (now (c .before .before .before .before .before .before .before .before .args .starts)) (c .before .before .before .before .before .before .before .before .args .v) 0 + c .before .before .before .before .before .before .before .before .args .k)
-    × (c .wide4 .result ≡ edgeCount (now (c .before .before .before .before .before .before .before .before .args .starts)))
+found : (c : tie.After-wide4) → (c .before .before .before .before .wide2 .result + c .before .before .before .wide3 .result ≡ getD (now (start c .args .starts)) (start c .args .v) 0 + start c .args .k)
+    × (c .wide4 .result ≡ edgeCount (now (start c .args .starts)))
 found c =
     let s = c .before .before .before .before .before in
-    let a = s .before .before .before .args in
-    let from = s .start-of .ensures ∙ same-place (now (a .starts)) (s .before .before .wide .ensures .0) in
+    let from = s .start-of .ensures ∙ same-place (now (start c .args .starts)) (s .before .before .wide .ensures .0) in
     (omega arith, c .wide4 .ensures .0 ∙ c .before .start-of2 .ensures)
-
-next : (c : tie.After-wide4) → c .before .before .before .before .before .before .before .wide .result + 1 ≡ suc (c .before .before .before .before .before .before .before .before .args .v)
-next c = omega arith
 
 wide-requires : tie.Need-wide-requires
 wide-requires c κs = search needs
@@ -60,18 +59,18 @@ turn-requires c κs = search needs
 returns : tie.Need-returns
 returns c =
     let w = c .before .before .before .before .before .before .before in
-    let a = w .before .before .before .before .before .before .before .before .args in
+    let a = start w .args in
     let xs = now (a .targets) in
     let ss = now (a .starts) in
     λ good small there.
     removed xs ss (a .v) (a .k) good small there _ _
-    (c .before .before .shift-down .ensures ∙ ap₂ (λ (at count : ℕ). shut xs at count) (found w .0) (found w .1))
-    (c .turn .ensures ∙ ap (λ (from : ℕ). turned false ss from) (next w))
+    (c .before .before .shift-down .ensures ∙ ap₂ (shut xs) (found w .0) (found w .1))
+    (c .turn .ensures ∙ ap (turned false ss) (omega arith))
 
 returns-2 : tie.Need-returns-2
 returns-2 c =
     let w = c .before in
-    let a = w .before .before .before .before .before .before .before .before .args in
+    let a = start w .args in
     let e = found w in
     λ good small there.
     let end = row-end (now (a .targets)) (now (a .starts)) good (a .v) small in

@@ -6,6 +6,7 @@ use native.Mathlib.Omega.{arith}
 use denote.Ref.{now}
 use lib.ListN.{length, getD, drop, length-drop}
 use lib.Seq.{paste, getD-drop}
+use Rattle.rows.specs.Shift.{shut}
 use Rattle.rows.proofs.Paste.{copy-begins, copy-reads, copy-stores, same-place}
 use Rattle.rows.proofs.shift_down.Statement.{statement}
 use Rattle.rows.proofs.shift_down.Tie as tie
@@ -60,6 +61,7 @@ loop-again c =
     (omega arith, omega arith, copy-stores xs (a .at) src j (omega arith) (omega arith) more (s .loop .targets) (s .loop .inv .2) _ read)
 
 returns : tie.Need-returns Inv-loop μ-loop
+unfolding shut
 returns c =
     let a = c .before .before .args in
     let end : c .before .loop .j - a .at ≡ a .count - suc (a .at) = omega arith in

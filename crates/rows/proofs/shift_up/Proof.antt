@@ -8,6 +8,7 @@ use mathlib.Core.List.{_∷_}
 use denote.Ref.{now}
 use lib.ListN.{length, getD, drop, length-drop}
 use lib.Seq.{paste, getD-drop}
+use Rattle.rows.specs.Shift.{opened}
 use Rattle.rows.proofs.Paste.{copy-begins, copy-reads, copy-stores, same-place}
 use Rattle.rows.proofs.shift_up.Statement.{statement}
 use Rattle.rows.proofs.shift_up.Tie as tie
@@ -61,6 +62,7 @@ loop-again c =
     )
 
 returns : tie.Need-returns Inv-loop μ-loop
+unfolding opened
 returns c =
     let a = c .before .before .args in
     c .before .loop .inv .2 ∙ ap (λ (j : ℕ). paste (now (a .targets)) (a .at) (a .t ∷ drop (a .at) (now (a .targets))) (j - a .at)) (omega arith)

@@ -7,7 +7,7 @@ use mathlib.Core.List.{map}
 use denote.Ref.{now}
 use lib.ListN.{length, getD, drop, length-drop, length-map}
 use lib.Seq.{paste, getD-drop}
-use Rattle.rows.specs.Shift.{stepped}
+use Rattle.rows.specs.Shift.{stepped, turned}
 use Rattle.rows.proofs.Paste.{copy-begins, copy-reads, copy-stores, same-place, getD-map}
 use Rattle.rows.proofs.turn.Statement.{statement}
 use Rattle.rows.proofs.turn.Tie as tie
@@ -65,6 +65,7 @@ loop-again c =
     )
 
 returns : tie.Need-returns Inv-loop μ-loop
+unfolding turned
 returns c =
     let a = c .before .before .args in
     c .before .loop .inv .2 ∙ ap (λ (j : ℕ). paste (now (a .starts)) (a .from) (map (stepped (a .up)) (drop (a .from) (now (a .starts)))) (j - a .from)) (omega arith)
