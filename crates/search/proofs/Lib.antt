@@ -2,3 +2,4 @@ pub mod Represents
 pub mod Places
 pub mod OneStep
 pub mod Rewind
+pub mod Resumed

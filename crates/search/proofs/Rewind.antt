@@ -132,8 +132,7 @@ pub record Resumable (g : Graph) (r : Notes) (s : ℕ) (p : List Frame) (d k : L
   pub stamps-right : (x : ℕ) → In x k → getD stamp x 0 ≡ r .stamp x
 
 module _ (g : Graph) (r : Notes) (s : ℕ) (p : List Frame) (d k : List ℕ) (l : List Edge) (number parent index probes stamp walk : List ℕ)
-    (a : Resumable g r s p d k l number parent index probes stamp walk) (v : Inv g (discovery g s p d k l)) (u : Limits g (discovery g s p d k l))
-    (marked-below : (x : ℕ) → In x k → x < 512) where
+    (a : Resumable g r s p d k l number parent index probes stamp walk) (v : Inv g (discovery g s p d k l)) (u : Limits g (discovery g s p d k l)) where
   abbrev c : Config
   c = discovery g s p d k l
 
@@ -144,6 +143,9 @@ module _ (g : Graph) (r : Notes) (s : ℕ) (p : List Frame) (d k : List ℕ) (l 
 
   numbers : (x : ℕ) → In x (s ∷ d) → getD (map (upTo (length d)) number) x 0 ≡ getD number x 0
   numbers x i = getD-map (upTo (length d)) number x (omega (arith, a .sizes .number-size, u .below x i)) ∙ up-to-kept (length d) (getD number x 0) (a .numbered x i)
+
+  marked-below : (x : ℕ) → In x k → x < 512
+  marked-below x i = u .below x (v .1 .done x i .0)
 
   stamps : (x : ℕ) → In x k → getD (map (upTo (length d)) stamp) x 0 ≡ getD stamp x 0
   stamps x i = getD-map (upTo (length d)) stamp x (omega (arith, a .sizes .stamp-size, marked-below x i)) ∙ up-to-kept (length d) (getD stamp x 0) (a .stamped x i)
