@@ -20,6 +20,14 @@ fn start_of(starts: &[u16; 513], v: usize) -> u16
     if v < 513 { starts[v] } else { 0 }
 }
 
+// The count of all edges.
+pub fn edge_count(starts: &[u16; 513]) -> u16
+    requires { ⌜ length (now starts) ≡ 513 ⌝ }
+    ensures { λ r. ⌜ r ≡ edgeCount (now (starts .entry)) ⌝ }
+{
+    start_of(starts, 512)
+}
+
 // The count of edges that leave v.
 pub fn degree(starts: &[u16; 513], v: u16) -> u16
     requires { ⌜ length (now starts) ≡ 513 ⌝ }

@@ -20,4 +20,3 @@ pub struct Walker {
     // the probes kept from the search before
     pub kept: u16,
 }
-
