@@ -28,28 +28,28 @@ use Rattle.plain.proofs.Tables.{Valid, valid}
 
 -- ---- the states of a table
 
-upto : ℕ → List ℕ
+pub upto : ℕ → List ℕ
 upto zero = []
 upto (suc n) = n ∷ upto n
 
-upto-in : (x n : ℕ) → x < n → In x (upto n)
+pub upto-in : (x n : ℕ) → x < n → In x (upto n)
 unfolding upto elem
 upto-in x zero h = absurd (omega arith)
 upto-in x (suc n) h = ⊎-elim
     (λ e. or-first (eqb x n) (elem x (upto n)) e)
     (λ f. let ne : x ≢ n = eqb-false x n f in in-tail x n (upto n) (upto-in x n (omega arith))) (either (eqb x n))
 
-in-upto : (x n : ℕ) → In x (upto n) → x < n
+pub in-upto : (x n : ℕ) → In x (upto n) → x < n
 unfolding upto
 in-upto x zero i = absurd (in-nil x i)
 in-upto x (suc n) i = ⊎-elim (λ e. omega arith) (λ j. omega (arith, in-upto x n j)) (in-cases x n (upto n) i)
 
-once-upto : (n : ℕ) → Once (upto n)
+pub once-upto : (n : ℕ) → Once (upto n)
 unfolding upto
 once-upto zero = tt
 once-upto (suc n) = (not-in n (upto n) (λ i. omega (arith, in-upto n n i)), once-upto n)
 
-length-upto : (n : ℕ) → length (upto n) ≡ n
+pub length-upto : (n : ℕ) → length (upto n) ≡ n
 unfolding upto
 length-upto zero = refl
 length-upto (suc n) = omega (arith, length-upto n)
@@ -99,7 +99,7 @@ unfolding left elem
 total-nil [] = refl
 total-nil (u ∷ us) = omega (arith, ap length (row-nil u), total-nil us)
 
-total-le : (es : List Edge) (us : List ℕ) → Once us → total es us ≤ length es
+pub total-le : (es : List Edge) (us : List ℕ) → Once us → total es us ≤ length es
 total-le [] us o = omega (arith, total-nil us)
 total-le (e ∷ es) us o = omega (arith, total-cons e es us, times-once (e .0) us o, total-le es us o)
 
@@ -110,11 +110,11 @@ has-inside n (x ∷ es) e f h =
     ⊎-elim (λ z. rw z (w .0)) (has-inside n es e (w .1)) (has-cases e x es h)
 
 module _ (t : Table) (v : Valid t) where
-  start-in : In (t .start) (upto (t .size))
+  pub start-in : In (t .start) (upto (t .size))
   unfolding badStart
   start-in = upto-in (t .start) (t .size) (leb-false (t .size) (t .start) (v .start-ok))
 
-  target-in : (x y : ℕ) → In x (upto (t .size)) → In y (row (t .edges) x) → In y (upto (t .size))
+  pub target-in : (x y : ℕ) → In x (upto (t .size)) → In y (row (t .edges) x) → In y (upto (t .size))
   unfolding outside
   target-in x y i j =
       let f = has-inside (t .size) (t .edges) (x, y) (v .inside) (row-has (t .edges) x y j) in
@@ -152,7 +152,7 @@ module _ (t : Table) (v : Valid t) where
       by-verdict (lasso stem cycle) e = absurd (n (lasso-free (graphOf t) stem cycle (walk-right stem cycle e)))
       by-verdict unfinished e = absurd (ends e)
 
-  verdict-right : VerdictRight t
+  pub verdict-right : VerdictRight t
   unfolding final
   verdict-right = record {
     ends = ends;

@@ -3,16 +3,18 @@ use mathlib.Core.Path.{_≡_, refl, sym, ap, _∙_}
 use mathlib.Core.Logic.{⊎-elim}
 use mathlib.Core.Bool.{true, false, not}
 use mathlib.Core.List.{List, [], _∷_, _++_}
-use Prim.Native.Nat.{ℕ}
+use Prim.Native.Nat.{ℕ, suc, _≤_}
+use native.Mathlib.Omega.{arith}
 use lib.Dec.{eqb}
+use lib.ListN.{length}
 use borrow.Author.Tests.{eqb-false}
-use Rattle.plain.specs.Lists.{filter, elem, In}
+use Rattle.plain.specs.Lists.{filter, elem, In, Once}
 use Rattle.plain.specs.Search.{Edge}
 use Rattle.plain.specs.Table.{Table, row, graphOf}
-use Rattle.plain.specs.Refusals.{sameEdge}
+use Rattle.plain.specs.Refusals.{sameEdge, present, repeated}
 use Rattle.plain.specs.Machine.{Change, add, cut, named, without, apply}
-use Rattle.plain.proofs.Tests.{contra, either, not-true, same, self, in-nil, in-head, in-tail, in-cases, filter-yes, filter-no}
-use Rattle.plain.proofs.Edges.{Has, has-head, has-tail, has-cases, has-nil, same-edge}
+use Rattle.plain.proofs.Tests.{contra, either, not-true, same, self, in-nil, in-head, in-tail, in-cases, not-in, or-false, none-cons, filter-yes, filter-no}
+use Rattle.plain.proofs.Edges.{Has, has-head, has-tail, has-cases, has-nil, same-edge, same-self}
 use Rattle.plain.proofs.Prefix.{Agree}
 
 pub row-yes : (e : Edge) (es : List Edge) (s : ℕ) → eqb (e .0) s ≡ true → row (e ∷ es) s ≡ e .1 ∷ row es s
@@ -47,6 +49,27 @@ has-row (e ∷ es) x y h = ⊎-elim
     (λ t. rw (row-yes e es x t) (in-tail y (e .1) (row es x) (has-row es x y j)))
     (λ f. rw (row-no e es x f) (has-row es x y j)) (either (eqb (e .0) x))) (has-cases (x, y) e es h)
 
+-- a row is no longer than the list of edges
+pub row-short : (es : List Edge) (v : ℕ) → length (row es v) ≤ length es
+row-short [] v = omega (arith, ap length (row-nil v))
+row-short (e ∷ es) v = ⊎-elim
+    (λ h. omega (arith, ap length (row-yes e es v h), row-short es v))
+    (λ h. omega (arith, ap length (row-no e es v h), row-short es v)) (either (eqb (e .0) v))
+
+-- and repeats no state, where the list repeats no edge
+pub row-once : (es : List Edge) (v : ℕ) → repeated es ≡ false → Once (row es v)
+unfolding repeated
+row-once [] v r = rw row-nil tt
+row-once (e ∷ es) v r =
+    let w = or-false (present es e) (repeated es) r in
+    ⊎-elim (λ h. rw (row-yes e es v h) (fresh h (w .0), row-once es v (w .1))) (λ h. rw (row-no e es v h) (row-once es v (w .1))) (either (eqb (e .0) v))
+  where
+    fresh : eqb (e .0) v ≡ true → present es e ≡ false → elem (e .1) (row es v) ≡ false
+    fresh h n = not-in (e .1) (row es v) (λ i.
+        let z : v ≡ e .0 = sym (same h) in
+        let f : (v, e .1) ≡ e = λ j. (z j, e .1) in
+        contra (rw f at (row-has es v (e .1) i)) n)
+
 -- ---- an added edge is the newest of its row, and the other rows stay
 
 pub row-add : (es : List Edge) (e : Edge) → row (es ++ (e ∷ [])) (e .0) ≡ row es (e .0) ++ (e .1 ∷ [])
@@ -71,14 +94,22 @@ cut-no : (e f : Edge) (es : List Edge) → sameEdge e f ≡ false → without e 
 unfolding without
 cut-no e f es h = filter-yes (λ x. not (sameEdge e x)) f es (rw h)
 
+-- an edge that is not there: nothing is taken out
+without-none : (es : List Edge) (e : Edge) → present es e ≡ false → without e es ≡ es
+unfolding present without filter
+without-none [] e n = refl
+without-none (f ∷ es) e n =
+    let w = none-cons (sameEdge e) f es n in
+    cut-no e f es (w .0) ∙ ap (λ (l : List Edge). f ∷ l) (without-none es e (w .1))
+
 -- the targets of a row but for y
 abbrev pub but : ℕ → List ℕ → List ℕ
 but y ys = filter (λ x. not (eqb y x)) ys
 
-but-yes : (y x : ℕ) (xs : List ℕ) → eqb y x ≡ true → but y (x ∷ xs) ≡ but y xs
+pub but-yes : (y x : ℕ) (xs : List ℕ) → eqb y x ≡ true → but y (x ∷ xs) ≡ but y xs
 but-yes y x xs h = filter-no (λ z. not (eqb y z)) x xs (rw h)
 
-but-no : (y x : ℕ) (xs : List ℕ) → eqb y x ≡ false → but y (x ∷ xs) ≡ x ∷ but y xs
+pub but-no : (y x : ℕ) (xs : List ℕ) → eqb y x ≡ false → but y (x ∷ xs) ≡ x ∷ but y xs
 but-no y x xs h = filter-yes (λ z. not (eqb y z)) x xs (rw h)
 
 cut-gone : (es : List Edge) (e f : Edge) → sameEdge e f ≡ true → row (without e es) (e .0) ≡ but (e .1) (row es (e .0))
@@ -116,6 +147,17 @@ row-cut-other (f ∷ es) e x n = ⊎-elim
     (λ h. ap (λ (l : List Edge). row l x) (cut-no e f es h) ∙ ⊎-elim
     (λ a. row-yes f (without e es) x a ∙ rw (row-cut-other es e x n, row-yes f es x a))
     (λ a. row-no f (without e es) x a ∙ rw (row-cut-other es e x n, row-no f es x a)) (either (eqb (f .0) x)))
+    (either (sameEdge e f))
+
+-- a cut takes one edge
+pub without-length : (es : List Edge) (e : Edge) → repeated es ≡ false → Has es e → suc (length (without e es)) ≡ length es
+unfolding repeated
+without-length [] e r h = has-nil e h
+without-length (f ∷ es) e r h =
+    let w = or-false (present es f) (repeated es) r in
+    ⊎-elim
+    (λ z. let y : e ≡ f = same-edge e f z in omega (arith, ap length (cut-yes e f es z), ap length (without-none es e (rw y (w .0)))))
+    (λ z. omega (arith, ap length (cut-no e f es z), without-length es e (w .1) (⊎-elim (λ y. absurd (contra (rw y (same-self f)) z)) (λ i. i) (has-cases e f es h))))
     (either (sameEdge e f))
 
 -- an edge that is cut and added again is the newest of its row
