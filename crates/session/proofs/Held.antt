@@ -1,0 +1,190 @@
+-- A table that a session holds: its limits, its refusals and its rows, read off the arrays. Assumes nothing.
+use mathlib.Core.Path.{_≡_, refl, sym, ap, subst, _∙_}
+use mathlib.Core.Logic.{⊎-elim}
+use mathlib.Core.Bool.{Bool, true, false, not}
+use mathlib.Core.List.{List, [], _∷_, _++_}
+use Prim.Native.Nat.{ℕ, zero, suc, _+_, _≤_, _<_}
+use native.Mathlib.Omega.{arith}
+use lib.Dec.{eqb, ltb, leb}
+use lib.ListN.{length, getD, take, drop, length-append}
+use borrow.Author.Tests.{ltb-true, ltb-false, lt-ltb, le-ltb, leb-false, eqb-true, eqb-false, not-false}
+use Rattle.plain.specs.Lists.{any, filter, elem, In, Once}
+use Rattle.plain.specs.Search.{Graph, Edge}
+use Rattle.plain.specs.Table.{Table, row, graphOf}
+use Rattle.plain.specs.Refusals.{Trial, accepted, refused, firstHeld, present, repeated, badSize, outside, full, addTrial, cutTrial, shortRoom, selfLoop}
+use Rattle.plain.specs.Machine.{Change, add, cut, without, apply, changeTrial}
+use Rattle.plain.proofs.Tests.{contra, either, not-true, same, self, or-false, in-nil, in-head, in-tail, in-cases, filter-yes, filter-no}
+use Rattle.plain.proofs.Rows.{row-has, has-row, row-short, row-once, row-add, row-add-other, row-cut, row-cut-other, without-length, but, but-yes, but-no}
+use Rattle.plain.proofs.Trials.{passed}
+use Rattle.plain.proofs.Tables.{Valid, valid}
+use Rattle.plain.proofs.Demands.{upto, in-upto, once-upto, length-upto, total-le, start-in, target-in}
+use Rattle.rows.specs.Rows.{rowAt, degreeAt, edgeCount, placeOf, Compressed, Inserted, Removed}
+use Rattle.rows.proofs.Entries.{row-length, place-in, place-out, place-le}
+use Rattle.search.proofs.Resumed.{Small}
+use Rattle.session.specs.declared.Op.{Op}
+use Rattle.session.specs.declared.Op.the-variants.{Add, Cut}
+use Rattle.session.specs.declared.Session.{Session}
+use Rattle.session.specs.Model.{numberOf, rowTrial, FiledOne}
+use Rattle.session.specs.Promises.{changeOf, Holds}
+
+-- ---- limits
+
+size-few : (n : ℕ) → badSize n ≡ false → n ≤ 512
+unfolding badSize
+size-few n f = ltb-false 512 n (or-false (eqb n 0) (ltb 512 n) f .1)
+
+-- a table of a session is a small graph
+pub small : (t : Table) → Valid t → Small (graphOf t)
+small t v = record {
+  us = upto (t .size);
+  start-in = start-in t v;
+  stays = target-in t v;
+  below = λ x i. omega (arith, in-upto x (t .size) i, size-few (t .size) (v .size-ok));
+  few = omega (arith, length-upto (t .size), size-few (t .size) (v .size-ok));
+  rows-short = λ x. omega (arith, row-short (t .edges) x, v .count-ok);
+  edges-few = omega (arith, total-le (t .edges) (upto (t .size)) (once-upto (t .size)), v .count-ok);
+}
+
+-- ---- an edge is present exactly when its target has a place in its row
+
+place-hit : (y x : ℕ) (xs : List ℕ) → eqb y x ≡ true → placeOf y (x ∷ xs) ≡ 0
+unfolding placeOf
+place-hit y x xs e = rw (e, placeOf)
+
+place-miss : (y x : ℕ) (xs : List ℕ) → eqb y x ≡ false → placeOf y (x ∷ xs) ≡ suc (placeOf y xs)
+unfolding placeOf
+place-miss y x xs e = rw (e, placeOf)
+
+in-place : (y : ℕ) (xs : List ℕ) → In y xs → placeOf y xs < length xs
+in-place y [] i = absurd (in-nil y i)
+in-place y (x ∷ xs) i = ⊎-elim
+    (λ e. omega (arith, place-hit y x xs e))
+    (λ e. omega (arith, place-miss y x xs e, in-place y xs (⊎-elim (λ z. absurd (eqb-false y x e z)) (λ j. j) (in-cases y x xs i)))) (either (eqb y x))
+
+place-in-list : (y : ℕ) (xs : List ℕ) → placeOf y xs < length xs → In y xs
+place-in-list y [] h = absurd (omega arith)
+place-in-list y (x ∷ xs) h = ⊎-elim
+    (λ e. let z : y ≡ x = eqb-true y x e in rw z (in-head x xs))
+    (λ e. in-tail y x xs (place-in-list y xs (omega (arith, place-miss y x xs e)))) (either (eqb y x))
+
+pub present-place : (es : List Edge) (v y : ℕ) → present es (v, y) ≡ ltb (placeOf y (row es v)) (length (row es v))
+present-place es v y = ⊎-elim
+    (λ p. p ∙ sym (lt-ltb (placeOf y (row es v)) (length (row es v)) (in-place y (row es v) (has-row es v y p))))
+    (λ n. n ∙ sym (not-true (ltb (placeOf y (row es v)) (length (row es v))) (λ l. contra (row-has es v y (place-in-list y (row es v) (ltb-true (placeOf y (row es v)) (length (row es v)) l))) n)))
+    (either (present es (v, y)))
+
+-- ---- the refusals read off the rows are the table's
+
+module _ (s : Session) (t : Table) (h : Holds s t) where
+  present-here : (v y : ℕ) → ltb (placeOf y (rowAt (s .targets) (s .starts) v)) (degreeAt (s .starts) v) ≡ present (t .edges) (v, y)
+  present-here v y =
+      ap (λ (n : ℕ). ltb (placeOf y (rowAt (s .targets) (s .starts) v)) n) (sym (row-length (s .targets) (s .starts) v))
+      ∙ ap (λ (r : List ℕ). ltb (placeOf y r) (length r)) (h .rows-are v) ∙ sym (present-place (t .edges) v y)
+
+  pub trial-same : (op : Op) (from to room : ℕ) → rowTrial op (s .size) (s .targets) (s .starts) from to room ≡ changeTrial (changeOf op from to) t room
+  unfolding rowTrial changeTrial addTrial cutTrial full
+  trial-same Add from to room = λ i. firstHeld (
+      (6, outside (h .size-is i) (from, to))
+      ∷ (7, selfLoop (from, to))
+      ∷ (8, present-here from to i)
+      ∷ (9, leb 2048 (h .count-is i))
+      ∷ (11, shortRoom (h .size-is i) room)
+      ∷ [])
+  trial-same Cut from to room = λ i. firstHeld (
+      (6, outside (h .size-is i) (from, to))
+      ∷ (7, selfLoop (from, to))
+      ∷ (10, not (present-here from to i))
+      ∷ (11, shortRoom (h .size-is i) room)
+      ∷ [])
+
+-- ---- no refusal has the number 0
+
+no-zero : (cs : List (ℕ × Bool)) → any (λ (c : ℕ × Bool). eqb (c .0) 0) cs ≡ false → numberOf (firstHeld cs) ≡ 0 → firstHeld cs ≡ accepted
+unfolding firstHeld any
+no-zero [] z e = refl
+no-zero (c ∷ cs) z e =
+    let w = or-false (eqb (c .0) 0) (any (λ (c : ℕ × Bool). eqb (c .0) 0) cs) z in
+    ⊎-elim
+    (λ b. absurd (eqb-false (c .0) 0 (w .0) (sym (ap numberOf (first b)) ∙ e)))
+    (λ b. later b ∙ no-zero cs (w .1) (sym (ap numberOf (later b)) ∙ e)) (either (c .1))
+  where
+    first : c .1 ≡ true → firstHeld (c ∷ cs) ≡ refused (c .0)
+    first b = rw (b, firstHeld)
+
+    later : c .1 ≡ false → firstHeld (c ∷ cs) ≡ firstHeld cs
+    later b = rw (b, firstHeld)
+
+pub row-trial-zero : (op : Op) (size : ℕ) (targets starts : List ℕ) (from to room : ℕ) → numberOf (rowTrial op size targets starts from to room) ≡ 0
+    → rowTrial op size targets starts from to room ≡ accepted
+unfolding rowTrial any
+row-trial-zero Add size targets starts from to room e = no-zero _ refl e
+row-trial-zero Cut size targets starts from to room e = no-zero _ refl e
+
+-- ---- the rows after a change are the changed table's
+
+-- what an accepted change's move keeps
+pub source-below : (c : Op) (t : Table) (from to room : ℕ) → Valid t → changeTrial (changeOf c from to) t room ≡ accepted → from < 512
+unfolding changeTrial addTrial cutTrial outside
+source-below Add t from to room v e = omega (arith, leb-false (t .size) from (or-false (leb (t .size) from) (leb (t .size) to) (passed _ _ _ e .0) .0), size-few (t .size) (v .size-ok))
+source-below Cut t from to room v e = omega (arith, leb-false (t .size) from (or-false (leb (t .size) from) (leb (t .size) to) (passed _ _ _ e .0) .0), size-few (t .size) (v .size-ok))
+
+but-none : (y : ℕ) (xs : List ℕ) → elem y xs ≡ false → but y xs ≡ xs
+unfolding elem filter
+but-none y [] o = refl
+but-none y (x ∷ xs) o =
+    let w = or-false (eqb y x) (elem y xs) o in
+    but-no y x xs (w .0) ∙ ap (λ (l : List ℕ). x ∷ l) (but-none y xs (w .1))
+
+-- taking out the entry at its place takes out the entry
+remove-place : (y : ℕ) (xs : List ℕ) → Once xs → placeOf y xs < length xs → take (placeOf y xs) xs ++ drop (suc (placeOf y xs)) xs ≡ but y xs
+remove-place y [] o h = absurd (omega arith)
+remove-place y (x ∷ xs) o h = ⊎-elim
+    (λ e. let z : y ≡ x = eqb-true y x e in
+        ap (λ (k : ℕ). take k (x ∷ xs) ++ drop (suc k) (x ∷ xs)) (place-hit y x xs e) ∙ sym (but-yes y x xs e ∙ but-none y xs (rw z (o .0))))
+    (λ e. ap (λ (k : ℕ). take k (x ∷ xs) ++ drop (suc k) (x ∷ xs)) (place-miss y x xs e)
+        ∙ ap (λ (l : List ℕ). x ∷ l) (remove-place y xs (o .1) (omega (arith, place-miss y x xs e))) ∙ sym (but-no y x xs e)) (either (eqb y x))
+
+-- the rows of the changed table
+pub record Refiled (targets starts : List ℕ) (t : Table) : Type 0 where
+  pub compressed : Compressed targets starts
+  pub rows-are : (v : ℕ) → rowAt targets starts v ≡ row (t .edges) v
+  pub count-is : edgeCount starts ≡ length (t .edges)
+
+module _ (s : Session) (t : Table) (h : Holds s t) (from to : ℕ) (targets starts : List ℕ) where
+  -- either way another state's row is as it was
+  other-rows : (e : Edge) (es : List Edge) → ((u : ℕ) → (u ≡ e .0 → ⊥) → rowAt targets starts u ≡ rowAt (s .targets) (s .starts) u) → rowAt targets starts (e .0) ≡ row es (e .0)
+      → ((u : ℕ) → eqb (e .0) u ≡ false → row es u ≡ row (t .edges) u) → (v : ℕ) → rowAt targets starts v ≡ row es v
+  other-rows e es o here same v = ⊎-elim
+      (λ z. let y : e .0 ≡ v = eqb-true (e .0) v z in rw (← y) here)
+      (λ z. o v (λ y. eqb-false (e .0) v z (sym y)) ∙ h .rows-are v ∙ sym (same v z)) (either (eqb (e .0) v))
+
+  pub refiled : (op : Op) (room : ℕ) → changeTrial (changeOf op from to) t room ≡ accepted → FiledOne op from to (s .targets) (s .starts) targets starts
+      → Refiled targets starts (apply (changeOf op from to) t)
+  unfolding changeTrial addTrial cutTrial apply full
+  refiled Add room e f =
+      let v = valid t (h .arises) in
+      let p = passed _ _ _ (passed _ _ _ (passed _ _ _ (passed _ _ _ e .1) .1) .1) in
+      let i = f .added refl (h .compressed) (source-below-add e) (omega (arith, leb-false 2048 (length (t .edges)) (p .0), h .count-is)) in
+      record {
+        compressed = i .rows .compressed;
+        rows-are = other-rows (from, to) (t .edges ++ ((from, to) ∷ [])) (i .rows .others)
+            (i .rows .here ∙ ap (λ (l : List ℕ). l ++ (to ∷ [])) (h .rows-are from) ∙ sym (row-add (t .edges) (from, to))) (λ u z. row-add-other (t .edges) (from, to) u z);
+        count-is = i .count ∙ omega (arith, h .count-is, length-append (t .edges) ((from, to) ∷ []));
+      }
+    where
+      source-below-add : changeTrial (add (from, to)) t room ≡ accepted → from < 512
+      source-below-add e = source-below Add t from to room (valid t (h .arises)) e
+  refiled Cut room e f =
+      let v = valid t (h .arises) in
+      let p = passed _ _ _ (passed _ _ _ (passed _ _ _ e .1) .1) in
+      let there : present (t .edges) (from, to) ≡ true = not-false (present (t .edges) (from, to)) (p .0) in
+      let place : placeOf to (rowAt (s .targets) (s .starts) from) < degreeAt (s .starts) from = ltb-true _ _ (present-here s t h from to ∙ there) in
+      let i = f .removed refl (h .compressed) (source-below Cut t from to room v e) place in
+      let size : length (rowAt (s .targets) (s .starts) from) ≡ degreeAt (s .starts) from = row-length (s .targets) (s .starts) from in
+      let once : Once (rowAt (s .targets) (s .starts) from) = subst (λ (l : List ℕ). Once l) (sym (h .rows-are from)) (row-once (t .edges) from (v .once)) in
+      record {
+        compressed = i .rows .compressed;
+        rows-are = other-rows (from, to) (without (from, to) (t .edges)) (i .rows .others)
+            (i .rows .here ∙ remove-place to (rowAt (s .targets) (s .starts) from) once (omega arith) ∙ ap (but to) (h .rows-are from) ∙ sym (row-cut (t .edges) (from, to))) (λ u z. row-cut-other (t .edges) (from, to) u z);
+        count-is = omega (arith, i .count, h .count-is, without-length (t .edges) (from, to) (v .once) there);
+      }
