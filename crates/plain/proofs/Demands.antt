@@ -121,10 +121,14 @@ module _ (t : Table) (v : Valid t) where
       upto-in y (t .size) (leb-false (t .size) y (or-false (leb (t .size) x) (leb (t .size) y) f .1))
 
   -- The search ends within its budget.
-  pub ends : verdict (final t) ≢ unfinished
-  unfolding final budget
-  ends = ended-by (graphOf t) (upto (t .size)) start-in target-in (budget t)
+  pub ended-within : (n : ℕ) → budget t ≤ n → verdict (run (graphOf t) n) ≢ unfinished
+  unfolding budget
+  ended-within n h = ended-by (graphOf t) (upto (t .size)) start-in target-in n
       (omega (arith, total-le (t .edges) (upto (t .size)) (once-upto (t .size)), length-upto (t .size)))
+
+  pub ends : verdict (final t) ≢ unfinished
+  unfolding final
+  ends = ended-within (budget t) (omega arith)
 
   looks-twice : count (final t) ≤ 2 * length (t .edges)
   unfolding final

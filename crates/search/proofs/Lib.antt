@@ -3,3 +3,4 @@ pub mod Places
 pub mod OneStep
 pub mod Rewind
 pub mod Resumed
+pub mod Ended

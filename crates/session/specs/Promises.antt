@@ -35,11 +35,11 @@ changeOf Cut from to = cut (from, to)
 abbrev pub callOf : Op → ℕ → ℕ → List ℕ → Call
 callOf op from to lent = record { change = changeOf op from to; room = length lent }
 
--- the walk that the session keeps is that of the verdict
-abbrev pub Told : Session → Verdict → Type 0
-Told s none = s .length ≡ 0
-Told s (lasso stem cycle) = (s .stem ≡ length stem) × (s .length ≡ length stem + length cycle) × Begins (stem ++ cycle) (s .walk) × (0 < length cycle)
-Told s unfinished = ⊥
+-- the walk that is kept, with the length of its stem and its own, is that of the verdict
+abbrev pub Tells : ℕ → ℕ → List ℕ → Verdict → Type 0
+Tells stemLength walkLength walk none = (stemLength ≡ 0) × (walkLength ≡ 0)
+Tells stemLength walkLength walk (lasso stem cycle) = (stemLength ≡ length stem) × (walkLength ≡ length stem + length cycle) × Begins (stem ++ cycle) walk × (0 < length cycle)
+Tells stemLength walkLength walk unfinished = ⊥
 
 -- The session holds the plain table t: its rows are the table's, and its records are those of the plain search on it, at its end.
 pub record Holds (s : Session) (t : Table) : Type 0 where
@@ -53,7 +53,7 @@ pub record Holds (s : Session) (t : Table) : Type 0 where
   pub steps : ℕ
   pub ended : verdict (run (graphOf t) steps) ≢ unfinished
   pub archived : Archived (graphOf t) steps (s .number) (s .parent) (s .index) (s .probes) (s .stamp) (s .walk)
-  pub told : Told s (verdict (final t))
+  pub told : Tells (s .stem) (s .length) (s .walk) (verdict (final t))
   pub total-is : s .total ≡ count (final t)
 
 -- A LOAD: its answer and the lent list are those of the plain table, and the session of an accepted one holds that table.
