@@ -10,7 +10,7 @@ use lib.ListN.{length, getD, take, drop, length-append}
 use borrow.Author.Tests.{ltb-true, ltb-false, lt-ltb, le-ltb, leb-false, eqb-true, eqb-false, not-false}
 use Rattle.plain.specs.Lists.{any, filter, elem, In, Once}
 use Rattle.plain.specs.Search.{Graph, Edge}
-use Rattle.plain.specs.Table.{Table, row, graphOf}
+use Rattle.plain.specs.Table.{Table, row, graphOf, budget}
 use Rattle.plain.specs.Refusals.{Trial, accepted, refused, firstHeld, present, repeated, badSize, outside, full, addTrial, cutTrial, shortRoom, selfLoop}
 use Rattle.plain.specs.Machine.{Change, add, cut, without, apply, changeTrial}
 use Rattle.plain.proofs.Tests.{contra, either, not-true, same, self, or-false, in-nil, in-head, in-tail, in-cases, filter-yes, filter-no}
@@ -32,6 +32,11 @@ use Rattle.session.specs.Promises.{changeOf, Holds}
 size-few : (n : ℕ) → badSize n ≡ false → n ≤ 512
 unfolding badSize
 size-few n f = ltb-false 512 n (or-false (eqb n 0) (ltb 512 n) f .1)
+
+-- the bound of the largest table is enough
+pub budget-bound : (t : Table) → Valid t → budget t ≤ 5634
+unfolding budget
+budget-bound t v = omega (arith, v .count-ok, size-few (t .size) (v .size-ok))
 
 -- a table of a session is a small graph
 pub small : (t : Table) → Valid t → Small (graphOf t)

@@ -1,0 +1,75 @@
+-- A search of the arrays, begun or resumed to its end: what it has come to is what the plain search on the table comes to. Assumes nothing.
+use mathlib.Core.Path.{_≡_, refl, sym, ap, subst, _∙_}
+use mathlib.Core.Logic.{_≢_}
+use mathlib.Core.List.{List, [], _∷_, _++_}
+use Prim.Native.Nat.{ℕ, zero, suc, _+_, _-_, _≤_, _<_}
+use native.Mathlib.Omega.{arith}
+use lib.ListN.{length, getD}
+use Rattle.plain.specs.Search.{Graph, Config, run, Verdict as PlainVerdict, none, lasso, unfinished, verdict, count}
+use Rattle.plain.specs.Table.{Table, graphOf, final, accepts}
+use Rattle.plain.specs.Notes.{notes}
+use Rattle.plain.proofs.Tables.{Valid}
+use Rattle.plain.proofs.Demands.{ended-within, run-final, verdict-right}
+use Rattle.rows.specs.Rows.{rowAt}
+use Rattle.search.specs.declared.Phase.{Phase}
+use Rattle.search.specs.declared.Phase.the-variants.{Exhausted, Found}
+use Rattle.search.specs.declared.Walker.{Walker}
+use Rattle.search.specs.Core.{Core, runFor, plus}
+use Rattle.search.proofs.Represents.{Matches, plus-more}
+use Rattle.search.proofs.OneStep.{Fits}
+use Rattle.search.proofs.Resumed.{Small, limits, at-run, Archived, archived}
+use Rattle.search.proofs.Ended.{Spoken, spoken, run-kept}
+use Rattle.session.specs.declared.Verdict.{Verdict}
+use Rattle.session.specs.Model.{stemIn, verdictOf, bound}
+use Rattle.session.specs.Promises.{Tells}
+use Rattle.session.proofs.Held.{small, budget-bound, Refiled}
+
+-- the rows and words are those of the table's graph
+pub matches : (t : Table) (targets starts words : List ℕ) → Refiled targets starts t → words ≡ t .words → Matches (graphOf t) targets starts words
+matches t targets starts words r e = record { rows = λ v. sym (r .rows-are v); acceptance = λ v. ap (λ (w : List ℕ). accepts w v) (sym e) }
+
+spoken-tells : (g : Graph) (c : Core) (w : PlainVerdict) → Spoken g c w → ((stem cycle : List ℕ) → w ≡ lasso stem cycle → 0 < length cycle)
+    → Tells (verdictOf (c .walker) (c .spent) .stem) (verdictOf (c .walker) (c .spent) .length) (c .walk) w
+unfolding verdictOf
+spoken-tells g c none s p = (ap (λ (f : Phase). stemIn f (c .walker .height)) s, ap (λ (f : Phase). stemIn f (c .walker .top)) s)
+spoken-tells g c (lasso stem cycle) s p = (
+  ap (λ (f : Phase). stemIn f (c .walker .height)) (s .phase-is) ∙ s .stem-is,
+  ap (λ (f : Phase). stemIn f (c .walker .top)) (s .phase-is) ∙ s .top-is,
+  s .walk-is,
+  p stem cycle refl,
+)
+spoken-tells g c unfinished s p = absurd s
+
+-- what a search that stood at step n and took `bound` steps more has come to
+pub record Reached (t : Table) (start-at : ℕ) (c : Core) : Type 0 where
+  pub steps : ℕ
+  pub ended : verdict (run (graphOf t) steps) ≢ unfinished
+  pub kept-archive : Archived (graphOf t) steps (c .number) (c .parent) (c .index) (c .probes) (c .stamp) (c .walk)
+  pub tells : Tells (verdictOf (c .walker) (c .spent) .stem) (verdictOf (c .walker) (c .spent) .length) (c .walk) (verdict (final t))
+  pub kept-is : c .walker .kept ≡ count (run (graphOf t) start-at)
+  pub adds-up : c .walker .kept + c .spent ≡ count (final t)
+  pub total-is : plus (c .walker .kept) (c .spent) ≡ count (final t)
+
+module _ (t : Table) (v : Valid t) (targets starts words : List ℕ) (m : Matches (graphOf t) targets starts words) where
+  pub reached : (n : ℕ) (s : Core) → s .spent ≡ 0 → Fits (graphOf t) s (notes (graphOf t) n) (run (graphOf t) n) → Reached t n (runFor targets starts words bound s)
+  reached n s unspent a =
+      let g = graphOf t in
+      let c = runFor targets starts words bound s in
+      let f = at-run g (small t v) targets starts words m bound n s a in
+      let e : verdict (run g (n + bound)) ≢ unfinished = ended-within t v (n + bound) (omega (arith, budget-bound t v)) in
+      let z : run g (n + bound) ≡ final t = run-final t v (n + bound) e in
+      let k : c .walker .kept ≡ count (run g n) = run-kept targets starts words bound s ∙ omega (arith, a .0 .probes-right) in
+      let sum : c .walker .kept + c .spent ≡ count (final t) = f .0 .probes-right ∙ ap count z in
+      let few : count (final t) ≤ 4096 = omega (arith, ap count z, limits g (small t v) (n + bound) .probes-few) in
+      record {
+        steps = n + bound;
+        ended = e;
+        kept-archive = archived g (n + bound) c f;
+        tells = spoken-tells g c (verdict (final t)) (subst (λ (x : Config). Spoken g c (verdict x)) z (spoken g c (run g (n + bound)) (f .1) e)) nonempty;
+        kept-is = k;
+        adds-up = sum;
+        total-is = plus-more (c .walker .kept) (c .spent) (omega arith) ∙ sum;
+      }
+    where
+      nonempty : (stem cycle : List ℕ) → verdict (final t) ≡ lasso stem cycle → 0 < length cycle
+      nonempty stem cycle e = let w = verdict-right t v .walk stem cycle e in omega (arith, ap length (w .cycle-is))

@@ -1,0 +1,66 @@
+-- The answer and the written walk are those of the verdict. Assumes nothing.
+use mathlib.Core.Path.{_≡_, refl, sym, ap, _∙_}
+use mathlib.Core.Bool.{Bool, true, false}
+use mathlib.Core.List.{List, [], _∷_, _++_, append-assoc}
+use Prim.Native.Nat.{ℕ, _+_, _-_, _≤_, _<_}
+use native.Mathlib.Omega.{arith}
+use lib.Dec.{eqb}
+use lib.ListN.{length, take, drop, length-append}
+use lib.Seq.{take-at}
+use borrow.Author.Tests.{eq-eqb, ne-eqb}
+use Rattle.plain.specs.Search.{Verdict as PlainVerdict, none, lasso, unfinished}
+use Rattle.plain.specs.Machine.{answer, written}
+use Rattle.session.specs.declared.Answer.{Answer}
+use Rattle.session.specs.declared.Answer.the-variants.{Refused, Clear, Round}
+use Rattle.session.specs.declared.Verdict.{Verdict}
+use Rattle.session.specs.Model.{pickAnswer, answerIs, shownWalk}
+use Rattle.session.specs.Promises.{shown, Tells}
+
+same-clear : {a b c d : ℕ} → a ≡ c → b ≡ d → _≡_ {A = Answer} (Clear a b) (Clear c d)
+same-clear e f = λ i. Clear (e i) (f i)
+
+same-round : {a b c d a′ b′ c′ d′ : ℕ} → a ≡ a′ → b ≡ b′ → c ≡ c′ → d ≡ d′ → _≡_ {A = Answer} (Round a b c d) (Round a′ b′ c′ d′)
+same-round e f g h = λ i. Round (e i) (f i) (g i) (h i)
+
+answer-clear : (v : Verdict) → v .length ≡ 0 → answerIs v ≡ Clear (v .spent) (v .kept)
+unfolding answerIs
+answer-clear v e = ap (λ (b : Bool). pickAnswer b (Clear (v .spent) (v .kept)) (Round (v .spent) (v .kept) (v .stem) (v .length - v .stem))) (eq-eqb (v .length) 0 e)
+
+answer-round : (v : Verdict) → 0 < v .length → answerIs v ≡ Round (v .spent) (v .kept) (v .stem) (v .length - v .stem)
+unfolding answerIs
+answer-round v h = ap (λ (b : Bool). pickAnswer b (Clear (v .spent) (v .kept)) (Round (v .spent) (v .kept) (v .stem) (v .length - v .stem))) (ne-eqb (v .length) 0 (λ e. omega arith))
+
+-- the answer
+pub tells-answer : (v : Verdict) (w : PlainVerdict) (walk : List ℕ) (spent kept : ℕ) → Tells (v .stem) (v .length) walk w → v .spent ≡ spent → v .kept ≡ kept
+    → answerIs v ≡ shown (answer w spent kept)
+unfolding shown
+tells-answer v none walk spent kept t e f = answer-clear v (t .1) ∙ same-clear e f
+tells-answer v (lasso stem cycle) walk spent kept t e f = answer-round v (omega (arith, t .1, t .3)) ∙ same-round e f (t .0) (omega (arith, t .0, t .1))
+tells-answer v unfinished walk spent kept t e f = absurd t
+
+-- the list lent for the walk
+pub tells-written : (v : Verdict) (w : PlainVerdict) (walk lent : List ℕ) (spent kept : ℕ) → Tells (v .stem) (v .length) walk w
+    → shownWalk (v .length) walk lent ≡ written (answer w spent kept) lent
+unfolding shownWalk written
+tells-written v none walk lent spent kept t = ap (λ (n : ℕ). take n walk ++ drop n lent) (t .1)
+tells-written v (lasso stem cycle) walk lent spent kept t =
+    let n : length (stem ++ cycle) ≡ v .length = length-append stem cycle ∙ sym (t .1) in
+    let first : take (v .length) walk ≡ stem ++ cycle = ap (λ (l : List ℕ). take (v .length) l) (t .2 .1) ∙ take-at (stem ++ cycle) (t .2 .0) (v .length) n in
+    ap (λ (l : List ℕ). l ++ drop (v .length) lent) first ∙ append-assoc stem cycle (drop (v .length) lent) ∙ ap (λ (i : ℕ). stem ++ (cycle ++ drop i lent)) (t .1)
+tells-written v unfinished walk lent spent kept t = absurd t
+
+-- the walk fits
+pub tells-fits : (v : Verdict) (w : PlainVerdict) (walk : List ℕ) (size : ℕ) → Tells (v .stem) (v .length) walk w
+    → ((stem cycle : List ℕ) → w ≡ lasso stem cycle → length stem + length cycle ≤ size) → (v .stem ≤ v .length) × (v .length ≤ size)
+tells-fits v none walk size t short = (omega (arith, t .0), omega (arith, t .1))
+tells-fits v (lasso stem cycle) walk size t short = (omega (arith, t .0, t .1), omega (arith, t .1, short stem cycle refl))
+tells-fits v unfinished walk size t short = absurd t
+
+-- an answer that is made of a verdict is no refusal
+pub never-refused : (v : Verdict) (n : ℕ) → answerIs v ≡ Refused n → ⊥
+unfolding answerIs
+never-refused v n e = by-test (eqb (v .length) 0) e
+  where
+    by-test : (b : Bool) → pickAnswer b (Clear (v .spent) (v .kept)) (Round (v .spent) (v .kept) (v .stem) (v .length - v .stem)) ≡ Refused n → ⊥
+    by-test true e = let z : _≡_ {A = ℕ} 0 1 = cc in omega arith
+    by-test false e = let z : _≡_ {A = ℕ} 0 1 = cc in omega arith
