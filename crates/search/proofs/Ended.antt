@@ -77,6 +77,6 @@ module _ (targets starts words : List ℕ) where
   run-kept zero s = refl
   run-kept (suc n) s = run-kept n (step targets starts words s) ∙ step-kept s
 
-pub rewound-kept : (start s spent : ℕ) (number parent index probes stamp walk : List ℕ) → rewound start s spent number parent index probes stamp walk .walker .kept ≡ getD probes s 0
+pub rewound-spent : (start s spent : ℕ) (number parent index probes stamp walk : List ℕ) → rewound start s spent number parent index probes stamp walk .spent ≡ spent
 unfolding rewound
-rewound-kept start s spent number parent index probes stamp walk = refl
+rewound-spent start s spent number parent index probes stamp walk = refl

@@ -1,4 +1,5 @@
 pub mod Held
 pub mod Told
 pub mod Sought
+pub mod Accepted
 pub mod Demand3
