@@ -11,11 +11,12 @@ use borrow.Author.Tests.{ltb-false}
 use Rattle.plain.specs.Lists.{elem, In}
 use Rattle.plain.specs.Search.{Graph, Config, discoveredOf, markedOf, meets, run, Verdict as PlainVerdict, lasso, unfinished, verdict, count}
 use Rattle.plain.specs.Table.{Table, graphOf, final, firstMeeting}
-use Rattle.plain.specs.Refusals.{Trial, accepted, addTrial, cutTrial, shortRoom}
-use Rattle.plain.specs.Machine.{Change, named, apply, kept, answer, changeTrial, trialOf, answerTo, tableAfter, changeAnswer, after, written}
-use Rattle.plain.specs.Notes.{Notes, notes}
+use Rattle.plain.specs.Refusals.{Trial, accepted, refused, addTrial, cutTrial, shortRoom}
+use Rattle.plain.specs.Machine.{Change, named, apply, kept, Answer as PlainAnswer, refusal, answer, changeTrial, trialOf, answerTo, tableAfter, changeAnswer, after, written}
+use Rattle.plain.specs.Notes.{Note, Notes}
 use Rattle.plain.specs.Claims.{Arises, changed}
 use Rattle.plain.proofs.Tests.{contra, either, not-true, in-one}
+use Rattle.plain.proofs.Restore.{noted-run}
 use Rattle.plain.proofs.Prefix.{meets-one, unmet-one}
 use Rattle.plain.proofs.Resume.{Holds as Searched}
 use Rattle.plain.proofs.Trials.{passed}
@@ -28,13 +29,14 @@ use Rattle.search.proofs.Rewind.{notesOf}
 use Rattle.search.proofs.Ended.{rewound-spent}
 use Rattle.search.proofs.OneStep.{Fits}
 use Rattle.search.proofs.Resumed.{Archived, resume-fits, limits}
+use Rattle.session.specs.declared.Answer.the-variants.{Refused}
 use Rattle.session.specs.declared.Op.{Op}
 use Rattle.session.specs.declared.Op.the-variants.{Add, Cut}
 use Rattle.session.specs.declared.Session.{Session}
 use Rattle.session.specs.declared.Verdict.{Verdict}
 use Rattle.session.specs.Model.{numberOf, rowTrial, FiledOne, Sought, verdictOf, bound, answerIs, shownWalk}
 use Rattle.session.specs.Promises.{shown, changeOf, callOf, Tells, Holds, Changes}
-use Rattle.session.proofs.Held.{small, trial-same, row-trial-zero, source-below, Refiled, refiled}
+use Rattle.session.proofs.Held.{size-few, small, trial-same, row-trial-zero, source-below, Refiled, refiled}
 use Rattle.session.proofs.Told.{tells-answer, tells-written, tells-fits, never-refused}
 use Rattle.session.proofs.Sought.{matches, Reached, reached}
 
@@ -158,3 +160,149 @@ module _ (op : Op) (from to : ℕ) (s : Session) (targets starts number parent i
         adds-up = g .adds-up;
         total-is = g .total-is;
       })
+
+  -- the records are those of the changed table, either way
+  settled : Settled t′ (named c) v number parent index probes stamp walk
+  settled = ⊎-elim
+      (λ i. settled-met (λ e. met-number i e) i)
+      (λ f. settled-unmet (h .archived .undiscovered from (source-below op t from to room ok yes-it-is) f) f)
+      (either (elem from (discoveredOf (run (graphOf t) (h .steps)))))
+    where
+      met-number : In from (discoveredOf (run (graphOf t) (h .steps))) → getD (s .number) from 0 ≡ none → ⊥
+      met-number i e =
+          let n = noted-run (graphOf t) (h .steps) in
+          omega (
+            arith,
+            ap (λ (x : Note). x .number) (h .archived .holds .notes-right from i),
+            n .counted .0 from i,
+            limits (graphOf t) (small t ok) (h .steps) .few,
+          )
+
+  -- the session that is returned
+  abbrev next : Session
+  next = record {
+    size = s .size;
+    start = s .start;
+    words = s .words;
+    targets = targets;
+    starts = starts;
+    number = number;
+    parent = parent;
+    index = index;
+    probes = probes;
+    stamp = stamp;
+    walk = walk;
+    stem = v .stem;
+    length = v .length;
+    total = plus (v .kept) (v .spent);
+  }
+
+  next-holds : Holds next t′
+  unfolding trialOf
+  next-holds =
+      let f = refiled s t h from to targets starts op room yes-it-is filed in
+      let w = settled in
+      record {
+        arises = changed t (record { change = c; room = room }) (h .arises) yes-it-is;
+        size-is = h .size-is ∙ sym (changed-size op from to t);
+        start-is = h .start-is ∙ sym (changed-start op from to t);
+        words-are = h .words-are ∙ sym (changed-words op from to t);
+        compressed = f .compressed;
+        rows-are = f .rows-are;
+        count-is = f .count-is;
+        steps = w .steps;
+        ended = w .ended;
+        archived = w .archive;
+        told = w .tells;
+        total-is = w .total-is;
+      }
+
+  -- the plain table's answer
+  abbrev plain : PlainAnswer
+  plain = answer (verdict (final t′)) (count (final t′) - kept (named c) t′) (kept (named c) t′)
+
+  next-answer : answerIs v ≡ shown plain
+  next-answer = let w = settled in tells-answer v (verdict (final t′)) walk (count (final t′) - kept (named c) t′) (kept (named c) t′) (w .tells) (omega (arith, w .kept-is, w .adds-up)) (w .kept-is)
+
+  next-written : (lent lent′ : List ℕ) → room ≤ length lent → (v .stem ≤ v .length → v .length ≤ 512 → v .length ≤ length lent → lent′ ≡ shownWalk (v .length) walk lent) → lent′ ≡ written plain lent
+  next-written lent lent′ e wrote =
+      let w = settled in
+      let f = tells-fits v (verdict (final t′)) walk (t′ .size) (w .tells) (verdict-right t′ ok′ .short) in
+      let size : t′ .size ≡ t .size = changed-size op from to t in
+      wrote (f .0) (omega (arith, f .1, size-few (t′ .size) (ok′ .size-ok))) (omega (arith, f .1, size, room-enough op from to t room yes-it-is))
+      ∙ tells-written v (verdict (final t′)) walk lent (count (final t′) - kept (named c) t′) (kept (named c) t′) (w .tells)
+
+-- ---- the contract of a change
+
+answer-accepted : (c : Change) (room : ℕ) (t : Table) → changeTrial c t room ≡ accepted
+    → answerTo (record { change = c; room = room }) t ≡ answer (verdict (final (apply c t))) (count (final (apply c t)) - kept (named c) (apply c t)) (kept (named c) (apply c t))
+unfolding answerTo changeAnswer trialOf
+answer-accepted c room t e = ap (λ (x : Trial). changeAnswer x (named c) (apply c t)) e
+
+table-accepted : (c : Change) (room : ℕ) (t : Table) → changeTrial c t room ≡ accepted → tableAfter (record { change = c; room = room }) t ≡ apply c t
+unfolding tableAfter trialOf
+table-accepted c room t e = ap (λ (x : Trial). after x (apply c t) t) e
+
+answer-refused : (c : Change) (room : ℕ) (t : Table) (n : ℕ) → changeTrial c t room ≡ refused n → answerTo (record { change = c; room = room }) t ≡ refusal n
+unfolding answerTo changeAnswer trialOf
+answer-refused c room t n e = ap (λ (x : Trial). changeAnswer x (named c) (apply c t)) e
+
+table-refused : (c : Change) (room : ℕ) (t : Table) (n : ℕ) → changeTrial c t room ≡ refused n → tableAfter (record { change = c; room = room }) t ≡ t
+unfolding tableAfter trialOf
+table-refused c room t n e = ap (λ (x : Trial). after x (apply c t) t) e
+
+-- a trial with a number that is not 0 is a refusal
+number-refused : (x : Trial) (n : ℕ) → n ≡ numberOf x → n ≢ 0 → x ≡ refused n
+number-refused accepted n e z = absurd (z e)
+number-refused (refused m) n e z = ap refused (sym e)
+
+pub change-refused : (op : Op) (from to : ℕ) (s : Session) (lent : List ℕ) (n : ℕ) → n ≡ numberOf (rowTrial op (s .size) (s .targets) (s .starts) from to (length lent)) → n ≢ 0
+    → Changes op from to s lent (record { answer = Refused n; session = s }) lent
+unfolding shown written
+change-refused op from to s lent n e z = record {
+  answers = λ t h. sym (ap shown (answer-refused (changeOf op from to) (length lent) t n (is t h)));
+  writes = λ t h. sym (ap (λ (a : PlainAnswer). written a lent) (answer-refused (changeOf op from to) (length lent) t n (is t h)));
+  holds = λ t h. subst (λ (x : Table). Holds s x) (sym (table-refused (changeOf op from to) (length lent) t n (is t h))) h;
+  refused = λ m a. (refl, refl);
+}
+  where
+    is : (t : Table) → Holds s t → changeTrial (changeOf op from to) t (length lent) ≡ refused n
+    is t h = sym (trial-same s t h op from to (length lent)) ∙ number-refused (rowTrial op (s .size) (s .targets) (s .starts) from to (length lent)) n e z
+
+pub change-accepted : (op : Op) (from to : ℕ) (s : Session) (lent lent′ targets starts number parent index probes stamp walk : List ℕ) (v : Verdict)
+    → numberOf (rowTrial op (s .size) (s .targets) (s .starts) from to (length lent)) ≡ 0
+    → FiledOne op from to (s .targets) (s .starts) targets starts
+    → Sought targets starts (s .words) (s .start) from (record { stem = s .stem; length = s .length; spent = 0; kept = s .total })
+        (s .number) (s .parent) (s .index) (s .probes) (s .stamp) (s .walk) v number parent index probes stamp walk
+    → (v .stem ≤ v .length → v .length ≤ 512 → v .length ≤ length lent → lent′ ≡ shownWalk (v .length) walk lent)
+    → Changes op from to s lent (record {
+      answer = answerIs v;
+      session = record {
+        size = s .size;
+        start = s .start;
+        words = s .words;
+        targets = targets;
+        starts = starts;
+        number = number;
+        parent = parent;
+        index = index;
+        probes = probes;
+        stamp = stamp;
+        walk = walk;
+        stem = v .stem;
+        length = v .length;
+        total = plus (v .kept) (v .spent);
+      };
+    }) lent′
+change-accepted op from to s lent lent′ targets starts number parent index probes stamp walk v e filed sought wrote = record {
+  answers = λ t h. next-answer op from to s targets starts number parent index probes stamp walk v filed sought t h (length lent) (is t h)
+      ∙ sym (ap shown (answer-accepted (changeOf op from to) (length lent) t (is t h)));
+  writes = λ t h. next-written op from to s targets starts number parent index probes stamp walk v filed sought t h (length lent) (is t h) lent lent′ (omega arith) wrote
+      ∙ sym (ap (λ (a : PlainAnswer). written a lent) (answer-accepted (changeOf op from to) (length lent) t (is t h)));
+  holds = λ t h. subst (λ (x : Table). Holds (next op from to s targets starts number parent index probes stamp walk v filed sought t h (length lent) (is t h)) x) (sym (table-accepted (changeOf op from to) (length lent) t (is t h)))
+      (next-holds op from to s targets starts number parent index probes stamp walk v filed sought t h (length lent) (is t h));
+  refused = λ m a. absurd (never-refused v m a);
+}
+  where
+    is : (t : Table) → Holds s t → changeTrial (changeOf op from to) t (length lent) ≡ accepted
+    is t h = sym (trial-same s t h op from to (length lent)) ∙ row-trial-zero op (s .size) (s .targets) (s .starts) from to (length lent) e

@@ -29,7 +29,7 @@ use Rattle.session.specs.Promises.{changeOf, Holds}
 
 -- ---- limits
 
-size-few : (n : ℕ) → badSize n ≡ false → n ≤ 512
+pub size-few : (n : ℕ) → badSize n ≡ false → n ≤ 512
 unfolding badSize
 size-few n f = ltb-false 512 n (or-false (eqb n 0) (ltb 512 n) f .1)
 
