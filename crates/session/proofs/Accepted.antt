@@ -36,7 +36,7 @@ use Rattle.session.specs.declared.Session.{Session}
 use Rattle.session.specs.declared.Verdict.{Verdict}
 use Rattle.session.specs.Model.{numberOf, rowTrial, FiledOne, Sought, verdictOf, bound, answerIs, shownWalk}
 use Rattle.session.specs.Promises.{shown, changeOf, callOf, Tells, Holds, Changes}
-use Rattle.session.proofs.Held.{size-few, small, trial-same, row-trial-zero, source-below, Refiled, refiled}
+use Rattle.session.proofs.Held.{size-few, small, trial-same, row-trial-zero, number-refused, source-below, Refiled, refiled}
 use Rattle.session.proofs.Told.{tells-answer, tells-written, tells-fits, never-refused}
 use Rattle.session.proofs.Sought.{matches, Reached, reached}
 
@@ -250,11 +250,6 @@ answer-refused c room t n e = ap (λ (x : Trial). changeAnswer x (named c) (appl
 table-refused : (c : Change) (room : ℕ) (t : Table) (n : ℕ) → changeTrial c t room ≡ refused n → tableAfter (record { change = c; room = room }) t ≡ t
 unfolding tableAfter trialOf
 table-refused c room t n e = ap (λ (x : Trial). after x (apply c t) t) e
-
--- a trial with a number that is not 0 is a refusal
-number-refused : (x : Trial) (n : ℕ) → n ≡ numberOf x → n ≢ 0 → x ≡ refused n
-number-refused accepted n e z = absurd (z e)
-number-refused (refused m) n e z = ap refused (sym e)
 
 pub change-refused : (op : Op) (from to : ℕ) (s : Session) (lent : List ℕ) (n : ℕ) → n ≡ numberOf (rowTrial op (s .size) (s .targets) (s .starts) from to (length lent)) → n ≢ 0
     → Changes op from to s lent (record { answer = Refused n; session = s }) lent

@@ -1,6 +1,6 @@
 -- A table that a session holds: its limits, its refusals and its rows, read off the arrays. Assumes nothing.
 use mathlib.Core.Path.{_≡_, refl, sym, ap, subst, _∙_}
-use mathlib.Core.Logic.{⊎-elim}
+use mathlib.Core.Logic.{_≢_, ⊎-elim}
 use mathlib.Core.Bool.{Bool, true, false, not}
 use mathlib.Core.List.{List, [], _∷_, _++_}
 use Prim.Native.Nat.{ℕ, zero, suc, _+_, _≤_, _<_}
@@ -11,7 +11,7 @@ use borrow.Author.Tests.{ltb-true, ltb-false, lt-ltb, le-ltb, leb-false, eqb-tru
 use Rattle.plain.specs.Lists.{any, filter, elem, In, Once}
 use Rattle.plain.specs.Search.{Graph, Edge}
 use Rattle.plain.specs.Table.{Table, row, graphOf, budget}
-use Rattle.plain.specs.Refusals.{Trial, accepted, refused, firstHeld, present, repeated, badSize, outside, full, addTrial, cutTrial, shortRoom, selfLoop}
+use Rattle.plain.specs.Refusals.{Trial, accepted, refused, firstHeld, present, repeated, badSize, outside, full, addTrial, cutTrial, shortRoom, selfLoop, Load, loadTrial}
 use Rattle.plain.specs.Machine.{Change, add, cut, without, apply, changeTrial}
 use Rattle.plain.proofs.Tests.{contra, either, not-true, same, self, or-false, in-nil, in-head, in-tail, in-cases, filter-yes, filter-no}
 use Rattle.plain.proofs.Rows.{row-has, has-row, row-short, row-once, row-add, row-add-other, row-cut, row-cut-other, without-length, but, but-yes, but-no}
@@ -124,6 +124,15 @@ pub row-trial-zero : (op : Op) (size : ℕ) (targets starts : List ℕ) (from to
 unfolding rowTrial any
 row-trial-zero Add size targets starts from to room e = no-zero _ refl e
 row-trial-zero Cut size targets starts from to room e = no-zero _ refl e
+
+-- a trial with a number that is not 0 is a refusal
+pub number-refused : (x : Trial) (n : ℕ) → n ≡ numberOf x → n ≢ 0 → x ≡ refused n
+number-refused accepted n e z = absurd (z e)
+number-refused (refused m) n e z = ap refused (sym e)
+
+pub load-trial-zero : (l : Load) (room : ℕ) → numberOf (loadTrial l room) ≡ 0 → loadTrial l room ≡ accepted
+unfolding loadTrial any
+load-trial-zero l room e = no-zero _ refl e
 
 -- ---- the rows after a change are the changed table's
 

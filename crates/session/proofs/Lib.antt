@@ -2,4 +2,5 @@ pub mod Held
 pub mod Told
 pub mod Sought
 pub mod Accepted
+pub mod Loaded
 pub mod Demand3
