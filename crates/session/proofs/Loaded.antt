@@ -22,7 +22,7 @@ use Rattle.session.specs.declared.Answer.the-variants.{Refused}
 use Rattle.session.specs.declared.Session.{Session}
 use Rattle.session.specs.declared.Verdict.{Verdict}
 use Rattle.session.specs.Model.{numberOf, Tried, Filed, Sought, verdictOf, bound, answerIs, shownWalk}
-use Rattle.session.specs.Promises.{shown, Holds, Loads}
+use Rattle.session.specs.Promises.{shown, Tells, Holds, Loads}
 use Rattle.session.proofs.Held.{size-few, small, Refiled, load-trial-zero, number-refused}
 use Rattle.session.proofs.Told.{tells-answer, tells-written, tells-fits}
 use Rattle.session.proofs.Sought.{matches, Reached, reached}
@@ -107,3 +107,42 @@ module _ (l : Load) (lent lent′ targets starts number parent index probes stam
     length = v .length;
     total = plus (v .kept) (v .spent);
   }
+
+  -- what the arrays of a core are, the arrays are
+  made-as : (c : Core) → Reached t 0 c → v ≡ verdictOf (c .walker) (c .spent) → number ≡ c .number → parent ≡ c .parent → index ≡ c .index → probes ≡ c .probes → stamp ≡ c .stamp → walk ≡ c .walk
+      → Holds made t × (answerIs v ≡ shown (answer (verdict (final t)) (count (final t)) 0)) × (lent′ ≡ written (answer (verdict (final t)) (count (final t)) 0) lent)
+  unfolding tableOf verdictOf steps
+  made-as c g e₀ e₁ e₂ e₃ e₄ e₅ e₆ =
+      let none-kept : v .kept ≡ 0 = ap (λ (x : Verdict). x .kept) e₀ ∙ g .kept-is in
+      let told : Tells (v .stem) (v .length) walk (verdict (final t)) = rw (e₀, e₆) (g .tells) in
+      let sum : v .kept + v .spent ≡ count (final t) = rw e₀ (g .adds-up) in
+      let fit = tells-fits v (verdict (final t)) walk (l .size) told (verdict-right t ok .short) in (
+        record {
+          arises = arises;
+          size-is = refl;
+          start-is = refl;
+          words-are = refl;
+          compressed = filed .compressed;
+          rows-are = filed .rows;
+          count-is = filed .count;
+          steps = g .steps;
+          ended = g .ended;
+          archived = rw (e₁, e₂, e₃, e₄, e₅, e₆) (g .kept-archive);
+          told = told;
+          total-is = rw e₀ (g .total-is);
+        },
+        tells-answer v (verdict (final t)) walk (count (final t)) 0 told (omega arith) none-kept,
+        wrote (fit .0) (omega (arith, fit .1, size-few (l .size) (ok .size-ok))) (omega (arith, fit .1, room-enough l (length lent) yes-it-is))
+            ∙ tells-written v (verdict (final t)) walk lent (count (final t)) 0 told,
+      )
+
+  pub load-accepted : Loads l lent (record { answer = answerIs v; session = made }) lent′
+  load-accepted =
+      let b = begun in
+      let w = made-as (b .0) (b .1) (b .2) (b .3) (b .4) (b .5) (b .6) (b .7) (b .8) in
+      record {
+        answers = w .1 ∙ sym (ap shown (answer-accepted l lent yes-it-is));
+        writes = w .2 ∙ sym (ap (λ (a : PlainAnswer). written a lent) (answer-accepted l lent yes-it-is));
+        holds = λ a. w .0;
+        empty = λ n a. absurd (let z : accepted ≡ refused n = sym yes-it-is ∙ a in let q : _≡_ {A = ℕ} 0 1 = cc in omega arith);
+      }
