@@ -3,8 +3,9 @@ use Prim.Native.Nat.{ℕ, _+_, _<_}
 use mathlib.Core.Path.{_≡_}
 use mathlib.Core.Logic.{_≢_}
 use mathlib.Core.List.{List, [], _∷_, _++_, map}
-use lib.ListN.{length}
+use lib.ListN.{length, take, drop}
 use Rattle.plain.specs.Search.{Verdict, none, lasso, unfinished, verdict, count, run}
+use Rattle.plain.specs.Cycles.{FreeRound, Lasso}
 use Rattle.plain.specs.Table.{Table, row, graphOf, final}
 use Rattle.plain.specs.Refusals.{Load, accepted, refused, loadTrial}
 use Rattle.plain.specs.Machine.{Change, add, cut, Answer as PlainAnswer, refusal, answer, loadAnswer, tableOf, Call, answerTo, tableAfter, answers, written}
@@ -105,3 +106,17 @@ AllWritten (x ∷ xs) (a ∷ rest) = (x .after ≡ written a (x .lent)) × AllWr
 pub record AsPlain (t : Table) (xs : List Exchange) : Type 0 where
   pub answers-same : map (λ (x : Exchange). x .answered) xs ≡ map shown (answers (map callIn xs) t)
   pub walks-same : AllWritten xs (answers (map callIn xs) t)
+
+-- ---- demand 2
+
+-- What an answer and the list that was lent say of the table: "none" that no free round can be reached; "round" that the list holds, from its head, a stem
+-- and a round of the table.
+abbrev pub Truth : Answer → List ℕ → Table → Type 0
+Truth (Refused n) list t = Unit {0}
+Truth (Clear spent kept) list t = FreeRound (graphOf t) → ⊥
+Truth (Round spent kept stem cycle) list t = Lasso (graphOf t) (take stem list) (take cycle (drop stem list))
+
+-- every answer of a list of calls is true of the table as the call leaves it
+abbrev pub AllTrue : List Exchange → Table → Type 0
+AllTrue [] t = Unit {0}
+AllTrue (x ∷ xs) t = Truth (x .answered) (x .after) (tableAfter (callIn x) t) × AllTrue xs (tableAfter (callIn x) t)
