@@ -19,7 +19,7 @@ use Rattle.plain.specs.Claims.{Arises, changed, VerdictRight, KeptRight}
 use Rattle.plain.proofs.Tests.{either, same, not-in, in-nil, in-head, in-tail, in-cases, or-first, or-false, none-cons, any-in}
 use Rattle.plain.proofs.Runs.{lasso-free, lasso-inside}
 use Rattle.plain.proofs.Lassos.{sound, none-right}
-use Rattle.plain.proofs.Bounds.{left, left-drop, probes-twice, ended-by}
+use Rattle.plain.proofs.Bounds.{left, once-short, probes-twice, ended-by}
 use Rattle.plain.proofs.Prefix.{FirstMeeting, first-meeting}
 use Rattle.plain.proofs.Resume.{one-end, one-until, met-at-end, until-end, until-at, probes-grow, Holds, holds-notes, unchanged, resumed}
 use Rattle.plain.proofs.Edges.{Has, has-cases, has-nil}
@@ -102,18 +102,6 @@ total-nil (u ∷ us) = omega (arith, ap length (row-nil u), total-nil us)
 total-le : (es : List Edge) (us : List ℕ) → Once us → total es us ≤ length es
 total-le [] us o = omega (arith, total-nil us)
 total-le (e ∷ es) us o = omega (arith, total-cons e es us, times-once (e .0) us o, total-le es us o)
-
--- ---- a list of different states of us is no longer than us
-
-left-ones : (us : List ℕ) → left (λ x. 1) [] us ≡ length us
-unfolding left elem
-left-ones [] = refl
-left-ones (u ∷ us) = omega (arith, left-ones us)
-
-once-short : (xs us : List ℕ) → Once xs → ((x : ℕ) → In x xs → In x us) → left (λ x. 1) xs us + length xs ≤ length us
-once-short [] us o i = omega (arith, left-ones us)
-once-short (x ∷ xs) us o i =
-    omega (arith, left-drop (λ x. 1) x xs us (o .0) (i x (in-head x xs)), once-short xs us (o .1) (λ y j. i y (in-tail y x xs j)))
 
 has-inside : (n : ℕ) (es : List Edge) (e : Edge) → any (outside n) es ≡ false → Has es e → outside n e ≡ false
 has-inside n [] e f h = has-nil e h

@@ -1,0 +1,5 @@
+pub mod Paste
+pub mod Entries
+pub mod Empty
+pub mod Shifts
+pub mod Change
