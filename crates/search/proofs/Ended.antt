@@ -1,13 +1,13 @@
 -- What a search that has ended has come to, read off the walker. Assumes nothing.
-use mathlib.Core.Path.{_≡_, refl, sym, ap, _∙_}
-use mathlib.Core.Logic.{_≢_, _⊎_, inl, inr}
+use mathlib.Core.Path.{_≡_, refl, _∙_}
+use mathlib.Core.Logic.{_≢_}
 use mathlib.Core.Bool.{Bool, true, false}
-use mathlib.Core.List.{List, [], _∷_}
+use mathlib.Core.List.{List}
 use Prim.Native.Nat.{ℕ, zero, suc}
 use lib.Dec.{eqb, ltb}
-use lib.ListN.{length, getD}
+use lib.ListN.{getD}
 use Rattle.plain.specs.Table.{accepts}
-use Rattle.plain.specs.Search.{Graph, Config, outer, nested, exhausted, found, frame, Verdict, none, lasso, unfinished, verdict}
+use Rattle.plain.specs.Search.{Graph, Config, outer, nested, exhausted, found, Verdict, none, lasso, unfinished, verdict}
 use Rattle.search.specs.declared.Phase.{Phase}
 use Rattle.search.specs.declared.Phase.the-variants.{Outer, Nested, Exhausted, Found}
 use Rattle.search.specs.Core.{Core, none as none′, choose, withWalker, probed, skipped, exhausted as over′, closed, returned, onOpenPath, targetOf, hasEdge, outerProbe, finish, outerStep, nestedProbe, nestedStep, byPhase, step, runFor, rewound, discover, leave, nest, deepen}

@@ -2,8 +2,8 @@
 use mathlib.Core.Path.{_≡_, refl, sym, ap, subst, _∙_}
 use mathlib.Core.Logic.{⊎-elim}
 use mathlib.Core.Bool.{Bool, true, false}
-use mathlib.Core.List.{List, [], _∷_, _++_, append-assoc, append-nil}
-use Prim.Native.Nat.{ℕ, zero, suc, _+_, _-_, _≤_, _<_}
+use mathlib.Core.List.{List, [], _∷_, _++_, append-assoc}
+use Prim.Native.Nat.{ℕ, suc, _+_, _-_, _≤_, _<_}
 use native.Mathlib.Omega.{arith}
 use lib.Dec.{eqb, ltb}
 use lib.ListN.{length, getD, set, drop, length-append, length-set, length-drop}
@@ -12,19 +12,19 @@ use borrow.Author.Tests.{lt-ltb, le-ltb, eq-eqb, ne-eqb}
 use Rattle.plain.specs.Lists.{elem, In, before, from}
 use Rattle.plain.specs.Search.{Graph, Edge, Frame, frame, onPath, Config, outer, nested, exhausted as ended, found, discoveredOf, markedOf, count, visit, finish as finishes, probe, step as stepOf, statesOf, stemOf, cycleOf}
 use Rattle.plain.specs.Notes.{Note, Notes, put, noteVisit, noteMark, noteProbe, noteOf, noted, Below}
-use Rattle.plain.proofs.Tests.{contra, either, not-true, same, in-head, in-tail, in-cases, in-out}
+use Rattle.plain.proofs.Tests.{contra, not-true, in-head, in-tail, in-cases, in-out}
 use Rattle.plain.proofs.Paths.{On, Off, Distinct, on-head}
 use Rattle.plain.proofs.Invariant.{Linked, Outer as OuterInv, Marks, Nested as NestedInv, Inv, next-known}
 use Rattle.plain.proofs.Lassos.{path-run, before-from}
-use Rattle.plain.proofs.Restore.{put-same, put-hit, put-other, Shape, ShapeOf, Counted}
-use Rattle.rows.specs.Rows.{rowAt, degreeAt}
+use Rattle.plain.proofs.Restore.{put-same, put-hit, put-other, ShapeOf, Counted}
+use Rattle.rows.specs.Rows.{degreeAt}
 use Rattle.rows.proofs.Entries.{row-length}
 use Rattle.search.specs.declared.Phase.{Phase}
 use Rattle.search.specs.declared.Phase.the-variants.{Outer, Nested, Exhausted, Found}
 use Rattle.search.specs.declared.Walker.{Walker}
 use Rattle.search.specs.Core.{Core, Sized, none, up, plus, choose, coreOf, skipped, left, nesting, returned, exhausted, closed, withWalker, probed, discover, leave, nest, deepen, onOpenPath, targetOf, hasEdge, outerProbe, finish, outerStep, nestedProbe, nestedStep, byPhase, step}
-use Rattle.search.proofs.Represents.{view, Records, Begins, Placed, Cursors, AtOuter, AtNested, AtReturn, AtFound, Stands, Matches, Limits, up-more, plus-more, no-edge, edge-left, drop-up}
-use Rattle.search.proofs.Places.{begins-push, begins-pop, begins-at, states-length, placed-set, placed-at, on-test, stem-length, cursors-set}
+use Rattle.search.proofs.Represents.{view, Records, Begins, Placed, AtOuter, AtNested, AtReturn, Stands, Matches, Limits, up-more, plus-more, no-edge, edge-left, drop-up}
+use Rattle.search.proofs.Places.{begins-push, begins-pop, begins-at, states-length, placed-set, on-test, stem-length, cursors-set}
 
 -- ---- the ways of a step of the arrays
 

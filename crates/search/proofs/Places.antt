@@ -1,19 +1,18 @@
 -- The walk and the places of the open path: pushed, popped, tested. Assumes nothing.
 use mathlib.Core.Path.{_≡_, refl, sym, ap, _∙_}
 use mathlib.Core.Logic.{⊎-elim}
-use mathlib.Core.Bool.{Bool, true, false, _&&_}
+use mathlib.Core.Bool.{true, false}
 use mathlib.Core.List.{List, [], _∷_, _++_, append-assoc}
 use Prim.Native.Nat.{ℕ, zero, suc, _+_, _≤_, _<_}
 use native.Mathlib.Omega.{arith}
-use native.Mathlib.Numerals.{add-one}
 use lib.Dec.{eqb, ltb}
 use lib.ListN.{length, getD, set, drop, length-append, List·getD-append}
-use lib.Seq.{getD-append-seam, set-append-seam, getD-set-same, getD-set-other}
+use lib.Seq.{getD-append-seam, set-append-seam, getD-set-other}
 use borrow.Author.Tests.{ltb-true, lt-ltb, eq-eqb, eqb-false}
 use Rattle.plain.specs.Lists.{elem, In, before}
 use Rattle.plain.specs.Search.{Graph, Frame, frame, onPath, statesOf}
-use Rattle.plain.proofs.Tests.{contra, either, not-true, same, self, and-true, in-nil, in-head, in-tail, in-cases, in-append, not-in, or-false}
-use Rattle.plain.proofs.Paths.{On, Off, Distinct, on-head, on-tail, on-cases, off-nil}
+use Rattle.plain.proofs.Tests.{contra, either, not-true, same, self, and-true, in-nil, in-head, in-tail, in-cases, not-in, or-false}
+use Rattle.plain.proofs.Paths.{On, Off, Distinct, on-cases}
 use Rattle.plain.proofs.Lassos.{on-states, states-on, before-hit, before-miss}
 use Rattle.search.specs.Core.{onOpenPath}
 use Rattle.search.proofs.Represents.{Begins, Placed, Cursors}

@@ -1,23 +1,21 @@
 -- When the arrays of the search stand for a configuration of the plain search. Assumes nothing.
-use mathlib.Core.Path.{_≡_, refl, sym, ap, _∙_}
+use mathlib.Core.Path.{_≡_, sym, ap, _∙_}
 use mathlib.Core.Logic.{⊎-elim}
-use mathlib.Core.Bool.{Bool, true, false}
+use mathlib.Core.Bool.{false}
 use mathlib.Core.List.{List, [], _∷_, _++_}
-use Prim.Native.Nat.{ℕ, suc, _+_, _-_, _≤_, _<_}
+use Prim.Native.Nat.{ℕ, suc, _+_, _≤_, _<_}
 use native.Mathlib.Numerals.{add-one}
 use native.Mathlib.Omega.{arith}
-use lib.Dec.{ltb, leb}
+use lib.Dec.{ltb}
 use lib.ListN.{length, getD, drop, drop-of-length-le}
 use lib.Seq.{drop-cons}
 use borrow.Author.Tests.{ltb-true, ltb-false, lt-ltb, le-ltb, le-leb}
 use Rattle.plain.specs.Lists.{elem, In}
 use Rattle.plain.specs.Search.{Graph, Frame, frame, Config, outer, nested, exhausted, found, discoveredOf, markedOf, count, statesOf, stemOf, cycleOf}
 use Rattle.plain.specs.Table.{accepts}
-use Rattle.plain.specs.Notes.{Note, Notes}
+use Rattle.plain.specs.Notes.{Notes}
 use Rattle.plain.proofs.Tests.{either}
-use Rattle.plain.proofs.Paths.{On}
-use Rattle.rows.specs.Rows.{rowAt, degreeAt}
-use Rattle.rows.proofs.Entries.{row-length}
+use Rattle.rows.specs.Rows.{rowAt}
 use Rattle.search.specs.declared.Phase.the-variants.{Outer, Nested, Exhausted, Found}
 use Rattle.search.specs.Core.{Core, Sized, none, up, plus}
 

@@ -1,20 +1,19 @@
 -- The search of the arrays is the plain search: from its beginning, and from where it is resumed after a change. Assumes nothing.
-use mathlib.Core.Path.{_≡_, refl, sym, ap, subst, _∙_}
-use mathlib.Core.Logic.{_≢_, _⊎_, ⊎-elim}
+use mathlib.Core.Path.{_≡_, refl, sym, subst, _∙_}
+use mathlib.Core.Logic.{⊎-elim}
 use mathlib.Core.Bool.{Bool, true, false}
 use mathlib.Core.List.{List, [], _∷_, _++_}
-use Prim.Native.Nat.{ℕ, zero, suc, _+_, _*_, _≤_, _<_}
+use Prim.Native.Nat.{ℕ, zero, suc, _+_, _≤_, _<_}
 use native.Mathlib.Nat.{add-zero, add-suc, suc-add}
 use native.Mathlib.Omega.{arith}
 use lib.Dec.{leb}
 use lib.ListN.{length, getD, set, drop, replicate, length-append, length-set, length-replicate, getD-replicate, length-drop}
 use lib.Seq.{getD-set-same, getD-set-other}
 use borrow.Author.Tests.{leb-true, leb-false}
-use Rattle.plain.specs.Lists.{filter, elem, In, Once}
-use Rattle.plain.specs.Search.{Graph, Edge, Frame, frame, onPath, Config, outer, nested, exhausted, found, discoveredOf, markedOf, probesOf, count, meets, begin, step as stepOf, steps, run, statesOf, unfinished, verdict}
+use Rattle.plain.specs.Lists.{filter, elem, In}
+use Rattle.plain.specs.Search.{Graph, frame, onPath, Config, outer, nested, exhausted, found, discoveredOf, markedOf, steps, run, statesOf}
 use Rattle.plain.specs.Notes.{Note, Notes, notes}
 use Rattle.plain.proofs.Tests.{contra, either, not-true, in-nil, in-head, in-tail, in-cases, in-one, filter-yes, filter-no, in-append}
-use Rattle.plain.proofs.Paths.{On, on-head}
 use Rattle.plain.proofs.Invariant.{Inv, inv-run}
 use Rattle.plain.proofs.Lassos.{states-on, once-states, walk-once}
 use Rattle.plain.proofs.Bounds.{left, once-short, run-within, discovered-few, probes-twice}
@@ -22,7 +21,7 @@ use Rattle.plain.proofs.Prefix.{discovery, Agree, FirstMeeting}
 use Rattle.plain.proofs.Restore.{Restored, noted-run}
 use Rattle.plain.proofs.Resume.{Holds, resumed, resumed-from}
 use Rattle.search.specs.Core.{Core, none, runFor, step, rewound, Kept}
-use Rattle.search.proofs.Represents.{view, Records, Stands, Matches, Limits, WalkFew}
+use Rattle.search.proofs.Represents.{Matches, Limits, WalkFew}
 use Rattle.search.proofs.Places.{states-length}
 use Rattle.search.proofs.OneStep.{Fits, one-step}
 use Rattle.search.proofs.Rewind.{notesOf, Resumable, rewound-fits}

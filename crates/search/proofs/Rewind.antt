@@ -1,25 +1,24 @@
 -- The arrays rewound to a discovery stand for the configuration of that discovery. Assumes nothing.
 use mathlib.Core.Path.{_≡_, refl, sym, ap, subst, _∙_}
-use mathlib.Core.Logic.{⊎-elim}
-use mathlib.Core.Bool.{Bool, true, false}
+use mathlib.Core.Bool.{false}
 use mathlib.Core.List.{List, [], _∷_, _++_, append-assoc, map}
-use Prim.Native.Nat.{ℕ, zero, suc, _+_, _≤_, _<_}
+use Prim.Native.Nat.{ℕ, zero, suc, _≤_, _<_}
 use native.Mathlib.Nat.{add-zero}
 use native.Mathlib.Omega.{arith}
-use lib.Dec.{eqb, leb}
-use lib.ListN.{length, getD, set, drop, replicate, length-set, length-map, length-replicate, List·getD-map}
+use lib.Dec.{eqb}
+use lib.ListN.{length, getD, set, drop, replicate, length-set, length-map, length-replicate}
 use lib.Seq.{drop-cons, drop-set-add, getD-set-same, getD-set-other}
 use borrow.Author.Tests.{eq-eqb, ne-eqb, le-leb, lt-leb, eqb-false}
 use Rattle.plain.specs.Lists.{elem, In}
-use Rattle.plain.specs.Search.{Graph, Edge, Frame, frame, onPath, Config, outer, discoveredOf, markedOf, statesOf}
+use Rattle.plain.specs.Search.{Graph, Edge, Frame, frame, onPath, Config, statesOf}
 use Rattle.plain.specs.Notes.{Note, Notes, Below}
-use Rattle.plain.proofs.Tests.{contra, or-false, in-head, in-tail}
+use Rattle.plain.proofs.Tests.{contra, or-false}
 use Rattle.plain.proofs.Paths.{On, Off, Distinct, on-head, on-tail}
 use Rattle.plain.proofs.Invariant.{Inv}
 use Rattle.plain.proofs.Prefix.{discovery}
 use Rattle.search.specs.declared.Phase.the-variants.{Outer}
-use Rattle.search.specs.Core.{Core, none, up, choose, coreOf, upTo, climb, retraceWalk, retraceDepth, rewound, Kept}
-use Rattle.search.proofs.Represents.{view, Records, Begins, Placed, Stands, Limits, up-more}
+use Rattle.search.specs.Core.{Core, none, up, coreOf, upTo, climb, retraceWalk, retraceDepth, rewound, Kept}
+use Rattle.search.proofs.Represents.{view, Placed, Limits, up-more}
 use Rattle.search.proofs.OneStep.{Fits}
 
 -- ---- what is numbered up to a limit

@@ -1,42 +1,40 @@
 -- An accepted change: the session that it returns holds the changed table, and the answer and the walk are the plain table's. Assumes nothing.
 use mathlib.Core.Path.{_≡_, refl, sym, ap, subst, _∙_}
 use mathlib.Core.Logic.{_≢_, ⊎-elim}
-use mathlib.Core.Bool.{Bool, true, false}
-use mathlib.Core.List.{List, [], _∷_, _++_}
-use Prim.Native.Nat.{ℕ, zero, suc, _+_, _-_, _≤_, _<_}
+use mathlib.Core.Bool.{true, false}
+use mathlib.Core.List.{List, [], _∷_}
+use Prim.Native.Nat.{ℕ, _+_, _-_, _≤_}
 use native.Mathlib.Omega.{arith}
-use lib.Dec.{ltb}
 use lib.ListN.{length, getD}
 use borrow.Author.Tests.{ltb-false}
 use Rattle.plain.specs.Lists.{elem, In}
-use Rattle.plain.specs.Search.{Graph, Config, discoveredOf, markedOf, meets, run, Verdict as PlainVerdict, lasso, unfinished, verdict, count}
+use Rattle.plain.specs.Search.{Graph, discoveredOf, meets, run, unfinished, verdict, count}
 use Rattle.plain.specs.Table.{Table, graphOf, final, firstMeeting}
 use Rattle.plain.specs.Refusals.{Trial, accepted, refused, addTrial, cutTrial, shortRoom}
 use Rattle.plain.specs.Machine.{Change, named, apply, kept, Answer as PlainAnswer, refusal, answer, changeTrial, trialOf, answerTo, tableAfter, changeAnswer, after, written}
 use Rattle.plain.specs.Notes.{Note, Notes}
-use Rattle.plain.specs.Claims.{Arises, changed}
-use Rattle.plain.proofs.Tests.{contra, either, not-true, in-one}
+use Rattle.plain.specs.Claims.{changed}
+use Rattle.plain.proofs.Tests.{either, in-one}
 use Rattle.plain.proofs.Restore.{noted-run}
 use Rattle.plain.proofs.Prefix.{meets-one, unmet-one}
 use Rattle.plain.proofs.Resume.{Holds as Searched}
 use Rattle.plain.proofs.Trials.{passed}
 use Rattle.plain.proofs.Rows.{agree}
 use Rattle.plain.proofs.Tables.{Valid, valid, valid-change}
-use Rattle.plain.proofs.Demands.{run-final, verdict-right, Unmet, change-unmet, Met, change-met, kept-right}
+use Rattle.plain.proofs.Demands.{run-final, verdict-right, change-unmet, change-met}
 use Rattle.search.specs.Core.{Core, none, rewound, runFor, plus}
 use Rattle.search.proofs.Represents.{plus-more}
 use Rattle.search.proofs.Rewind.{notesOf}
 use Rattle.search.proofs.Ended.{rewound-spent}
-use Rattle.search.proofs.OneStep.{Fits}
 use Rattle.search.proofs.Resumed.{Archived, resume-fits, limits}
 use Rattle.session.specs.declared.Answer.the-variants.{Refused}
 use Rattle.session.specs.declared.Op.{Op}
 use Rattle.session.specs.declared.Op.the-variants.{Add, Cut}
 use Rattle.session.specs.declared.Session.{Session}
 use Rattle.session.specs.declared.Verdict.{Verdict}
-use Rattle.session.specs.Model.{numberOf, rowTrial, FiledOne, Sought, verdictOf, bound, answerIs, shownWalk}
-use Rattle.session.specs.Promises.{shown, changeOf, callOf, Tells, Holds, Changes}
-use Rattle.session.proofs.Held.{size-few, small, trial-same, row-trial-zero, number-refused, source-below, Refiled, refiled}
+use Rattle.session.specs.Model.{numberOf, rowTrial, FiledOne, Sought, verdictOf, bound, sessionOf, answerIs, shownWalk}
+use Rattle.session.specs.Promises.{shown, changeOf, Tells, Holds, Changes}
+use Rattle.session.proofs.Held.{size-few, small, trial-same, row-trial-zero, number-refused, source-below, refiled}
 use Rattle.session.proofs.Told.{tells-answer, tells-written, tells-fits, never-refused}
 use Rattle.session.proofs.Sought.{matches, Reached, reached}
 
@@ -90,7 +88,7 @@ archive-moved g h n number parent index probes stamp walk a w e = record {
 module _ (op : Op) (from to : ℕ) (s : Session) (targets starts number parent index probes stamp walk : List ℕ) (v : Verdict)
     (filed : FiledOne op from to (s .targets) (s .starts) targets starts)
     (sought : Sought targets starts (s .words) (s .start) from (record { stem = s .stem; length = s .length; spent = 0; kept = s .total })
-        (s .number) (s .parent) (s .index) (s .probes) (s .stamp) (s .walk) v number parent index probes stamp walk)
+    (s .number) (s .parent) (s .index) (s .probes) (s .stamp) (s .walk) v number parent index probes stamp walk)
     (t : Table) (h : Holds s t) (room : ℕ) (yes-it-is : changeTrial (changeOf op from to) t room ≡ accepted) where
   abbrev c : Change
   c = changeOf op from to
@@ -142,7 +140,7 @@ module _ (op : Op) (from to : ℕ) (s : Session) (targets starts number parent i
       let fit = resume-fits (named c) (graphOf t) (graphOf t′) (agree c t) (small t′ ok′) (h .steps) (s .number) (s .parent) (s .index) (s .probes) (s .stamp) (s .walk) (h .archived) w in
       let back = rewound (t′ .start) (w .meeting .state) 0 (s .number) (s .parent) (s .index) (s .probes) (s .stamp) (s .walk) in
       let g = reached t′ ok′ targets starts (s .words) (matches t′ targets starts (s .words) (refiled s t h from to targets starts op room yes-it-is filed) (h .words-are ∙ sym (changed-words op from to t)))
-          (w .at) back (rewound-spent (t′ .start) (w .meeting .state) 0 (s .number) (s .parent) (s .index) (s .probes) (s .stamp) (s .walk)) fit in
+      (w .at) back (rewound-spent (t′ .start) (w .meeting .state) 0 (s .number) (s .parent) (s .index) (s .probes) (s .stamp) (s .walk)) fit in
       let same : q .0 ≡ runFor targets starts (s .words) bound back = q .1 ∙ ap (λ (x : Core). runFor targets starts (s .words) bound x) (same-start (h .start-is ∙ sym (changed-start op from to t)) (sym here)) in
       settle (q .0) (w .at) (subst (λ (x : Core). Reached t′ (w .at) x) (sym same) g) (q .2) (q .3) (q .4) (q .5) (q .6) (q .7) (q .8) (ap count (u .kept-here))
     where
@@ -180,22 +178,7 @@ module _ (op : Op) (from to : ℕ) (s : Session) (targets starts number parent i
 
   -- the session that is returned
   abbrev next : Session
-  next = record {
-    size = s .size;
-    start = s .start;
-    words = s .words;
-    targets = targets;
-    starts = starts;
-    number = number;
-    parent = parent;
-    index = index;
-    probes = probes;
-    stamp = stamp;
-    walk = walk;
-    stem = v .stem;
-    length = v .length;
-    total = plus (v .kept) (v .spent);
-  }
+  next = sessionOf (s .size) (s .start) (s .words) targets starts number parent index probes stamp walk v
 
   next-holds : Holds next t′
   unfolding trialOf
@@ -268,26 +251,11 @@ pub change-accepted : (op : Op) (from to : ℕ) (s : Session) (lent lent′ targ
     → numberOf (rowTrial op (s .size) (s .targets) (s .starts) from to (length lent)) ≡ 0
     → FiledOne op from to (s .targets) (s .starts) targets starts
     → Sought targets starts (s .words) (s .start) from (record { stem = s .stem; length = s .length; spent = 0; kept = s .total })
-        (s .number) (s .parent) (s .index) (s .probes) (s .stamp) (s .walk) v number parent index probes stamp walk
+    (s .number) (s .parent) (s .index) (s .probes) (s .stamp) (s .walk) v number parent index probes stamp walk
     → (v .stem ≤ v .length → v .length ≤ 512 → v .length ≤ length lent → lent′ ≡ shownWalk (v .length) walk lent)
     → Changes op from to s lent (record {
       answer = answerIs v;
-      session = record {
-        size = s .size;
-        start = s .start;
-        words = s .words;
-        targets = targets;
-        starts = starts;
-        number = number;
-        parent = parent;
-        index = index;
-        probes = probes;
-        stamp = stamp;
-        walk = walk;
-        stem = v .stem;
-        length = v .length;
-        total = plus (v .kept) (v .spent);
-      };
+      session = sessionOf (s .size) (s .start) (s .words) targets starts number parent index probes stamp walk v;
     }) lent′
 change-accepted op from to s lent lent′ targets starts number parent index probes stamp walk v e filed sought wrote = record {
   answers = λ t h. next-answer op from to s targets starts number parent index probes stamp walk v filed sought t h (length lent) (is t h)

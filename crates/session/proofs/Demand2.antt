@@ -1,17 +1,15 @@
 -- DEMAND 2 for the session's answers: they are true of the table as each call leaves it. Assumes nothing.
-use mathlib.Core.Path.{_≡_, refl, sym, ap, subst, _∙_}
-use mathlib.Core.List.{List, [], _∷_, _++_}
+use mathlib.Core.Path.{_≡_, refl, ap, _∙_}
+use mathlib.Core.List.{List, _++_}
 use Prim.Native.Nat.{ℕ, _+_, _-_}
 use lib.ListN.{length, take, drop}
 use lib.Seq.{take-append-seam, drop-append-seam}
 use Rattle.plain.specs.Search.{Verdict, none, lasso, unfinished, verdict, count}
-use Rattle.plain.specs.Cycles.{FreeRound, Lasso}
-use Rattle.plain.specs.Table.{Table, graphOf, final}
+use Rattle.plain.specs.Table.{Table, final}
 use Rattle.plain.specs.Refusals.{Trial, accepted, refused, Load, loadTrial}
-use Rattle.plain.specs.Machine.{Answer as PlainAnswer, answer, refusal, named, apply, kept, loadAnswer, tableOf, changeAnswer, after, Call, trialOf, answerTo, tableAfter, written}
+use Rattle.plain.specs.Machine.{answer, named, apply, kept, loadAnswer, tableOf, changeAnswer, after, Call, trialOf, answerTo, tableAfter, written}
 use Rattle.plain.specs.Claims.{Arises, loaded, changed, VerdictRight}
 use Rattle.plain.proofs.Demands.{demand-2}
-use Rattle.session.specs.declared.Answer.{Answer}
 use Rattle.session.specs.declared.Session.{Session}
 use Rattle.session.specs.declared.Outcome.{Outcome}
 use Rattle.session.specs.Promises.{shown, Holds, Loads, callIn, Exchange, Served, done, call, Truth, AllTrue}

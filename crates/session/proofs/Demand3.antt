@@ -1,12 +1,11 @@
 -- DEMAND 3: for every list of calls, of any length, accepted and refused in any order, from an accepted load on. Assumes nothing.
-use mathlib.Core.Path.{_≡_, refl, sym, ap, _∙_}
+use mathlib.Core.Path.{_≡_, refl}
 use Prim.Native.Nat.{ℕ}
-use mathlib.Core.List.{List, [], _∷_, map}
+use mathlib.Core.List.{List, _∷_}
 use lib.ListN.{length}
 use Rattle.plain.specs.Table.{Table}
 use Rattle.plain.specs.Refusals.{Load, accepted, loadTrial}
 use Rattle.plain.specs.Machine.{tableOf, answerTo, tableAfter, answers, written}
-use Rattle.session.specs.declared.Answer.{Answer}
 use Rattle.session.specs.declared.Session.{Session}
 use Rattle.session.specs.declared.Outcome.{Outcome}
 use Rattle.session.specs.Promises.{shown, callIn, Holds, Loads, Exchange, Served, done, call, AsPlain}

@@ -3,23 +3,23 @@ use mathlib.Core.Path.{_≡_, refl, sym, ap, subst, _∙_}
 use mathlib.Core.Logic.{_≢_, ⊎-elim}
 use mathlib.Core.Bool.{Bool, true, false, not}
 use mathlib.Core.List.{List, [], _∷_, _++_}
-use Prim.Native.Nat.{ℕ, zero, suc, _+_, _≤_, _<_}
+use Prim.Native.Nat.{ℕ, suc, _≤_, _<_}
 use native.Mathlib.Omega.{arith}
 use lib.Dec.{eqb, ltb, leb}
-use lib.ListN.{length, getD, take, drop, length-append}
-use borrow.Author.Tests.{ltb-true, ltb-false, lt-ltb, le-ltb, leb-false, eqb-true, eqb-false, not-false}
+use lib.ListN.{length, take, drop, length-append}
+use borrow.Author.Tests.{ltb-true, ltb-false, lt-ltb, leb-false, eqb-true, eqb-false, not-false}
 use Rattle.plain.specs.Lists.{any, filter, elem, In, Once}
-use Rattle.plain.specs.Search.{Graph, Edge}
+use Rattle.plain.specs.Search.{Edge}
 use Rattle.plain.specs.Table.{Table, row, graphOf, budget}
-use Rattle.plain.specs.Refusals.{Trial, accepted, refused, firstHeld, present, repeated, badSize, outside, full, addTrial, cutTrial, shortRoom, selfLoop, Load, loadTrial}
-use Rattle.plain.specs.Machine.{Change, add, cut, without, apply, changeTrial}
-use Rattle.plain.proofs.Tests.{contra, either, not-true, same, self, or-false, in-nil, in-head, in-tail, in-cases, filter-yes, filter-no}
+use Rattle.plain.specs.Refusals.{Trial, accepted, refused, firstHeld, present, badSize, outside, full, addTrial, cutTrial, shortRoom, selfLoop, Load, loadTrial}
+use Rattle.plain.specs.Machine.{add, without, apply, changeTrial}
+use Rattle.plain.proofs.Tests.{contra, either, not-true, same, or-false, in-nil, in-head, in-tail, in-cases}
 use Rattle.plain.proofs.Rows.{row-has, has-row, row-short, row-once, row-add, row-add-other, row-cut, row-cut-other, without-length, but, but-yes, but-no}
 use Rattle.plain.proofs.Trials.{passed}
 use Rattle.plain.proofs.Tables.{Valid, valid}
 use Rattle.plain.proofs.Demands.{upto, in-upto, once-upto, length-upto, total-le, start-in, target-in}
-use Rattle.rows.specs.Rows.{rowAt, degreeAt, edgeCount, placeOf, Compressed, Inserted, Removed}
-use Rattle.rows.proofs.Entries.{row-length, place-in, place-out, place-le}
+use Rattle.rows.specs.Rows.{rowAt, degreeAt, edgeCount, placeOf, Compressed}
+use Rattle.rows.proofs.Entries.{row-length}
 use Rattle.search.proofs.Resumed.{Small}
 use Rattle.session.specs.declared.Op.{Op}
 use Rattle.session.specs.declared.Op.the-variants.{Add, Cut}
@@ -154,9 +154,9 @@ remove-place : (y : ℕ) (xs : List ℕ) → Once xs → placeOf y xs < length x
 remove-place y [] o h = absurd (omega arith)
 remove-place y (x ∷ xs) o h = ⊎-elim
     (λ e. let z : y ≡ x = eqb-true y x e in
-        ap (λ (k : ℕ). take k (x ∷ xs) ++ drop (suc k) (x ∷ xs)) (place-hit y x xs e) ∙ sym (but-yes y x xs e ∙ but-none y xs (rw z (o .0))))
+    ap (λ (k : ℕ). take k (x ∷ xs) ++ drop (suc k) (x ∷ xs)) (place-hit y x xs e) ∙ sym (but-yes y x xs e ∙ but-none y xs (rw z (o .0))))
     (λ e. ap (λ (k : ℕ). take k (x ∷ xs) ++ drop (suc k) (x ∷ xs)) (place-miss y x xs e)
-        ∙ ap (λ (l : List ℕ). x ∷ l) (remove-place y xs (o .1) (omega (arith, place-miss y x xs e))) ∙ sym (but-no y x xs e)) (either (eqb y x))
+    ∙ ap (λ (l : List ℕ). x ∷ l) (remove-place y xs (o .1) (omega (arith, place-miss y x xs e))) ∙ sym (but-no y x xs e)) (either (eqb y x))
 
 -- the rows of the changed table
 pub record Refiled (targets starts : List ℕ) (t : Table) : Type 0 where

@@ -1,13 +1,13 @@
 -- A load: the session of an accepted one holds its table, and the answer and the walk are the plain table's. Assumes nothing.
 use mathlib.Core.Path.{_≡_, refl, sym, ap, subst, _∙_}
 use mathlib.Core.Logic.{_≢_}
-use mathlib.Core.List.{List, [], _∷_, _++_}
-use Prim.Native.Nat.{ℕ, zero, suc, _+_, _-_, _≤_, _<_}
+use mathlib.Core.List.{List}
+use Prim.Native.Nat.{ℕ, _+_, _≤_, _<_}
 use native.Mathlib.Omega.{arith}
 use lib.ListN.{length, getD, set, replicate, length-replicate}
 use lib.Seq.{getD-set-same}
 use borrow.Author.Tests.{ltb-false, leb-false}
-use Rattle.plain.specs.Search.{Verdict as PlainVerdict, run, steps, verdict, count}
+use Rattle.plain.specs.Search.{steps, verdict, count}
 use Rattle.plain.specs.Table.{Table, graphOf, final}
 use Rattle.plain.specs.Refusals.{Trial, accepted, refused, Load, loadTrial, shortRoom, badStart}
 use Rattle.plain.specs.Machine.{Answer as PlainAnswer, refusal, answer, tableOf, loadAnswer, written}
@@ -15,15 +15,15 @@ use Rattle.plain.specs.Claims.{Arises, loaded}
 use Rattle.plain.proofs.Trials.{passed}
 use Rattle.plain.proofs.Tables.{Valid, valid}
 use Rattle.plain.proofs.Demands.{verdict-right}
-use Rattle.search.specs.Core.{Core, none, rewound, runFor, plus}
+use Rattle.search.specs.Core.{Core, none, rewound, plus}
 use Rattle.search.proofs.Ended.{rewound-spent}
 use Rattle.search.proofs.Resumed.{begin-fits}
 use Rattle.session.specs.declared.Answer.the-variants.{Refused}
 use Rattle.session.specs.declared.Session.{Session}
 use Rattle.session.specs.declared.Verdict.{Verdict}
-use Rattle.session.specs.Model.{numberOf, Tried, Filed, Sought, verdictOf, bound, answerIs, shownWalk}
+use Rattle.session.specs.Model.{numberOf, Filed, Sought, verdictOf, sessionOf, answerIs, shownWalk}
 use Rattle.session.specs.Promises.{shown, Tells, Holds, Loads}
-use Rattle.session.proofs.Held.{size-few, small, Refiled, load-trial-zero, number-refused}
+use Rattle.session.proofs.Held.{size-few, small, Refiled, number-refused}
 use Rattle.session.proofs.Told.{tells-answer, tells-written, tells-fits}
 use Rattle.session.proofs.Sought.{matches, Reached, reached}
 
@@ -55,7 +55,7 @@ room-enough l room e =
 module _ (l : Load) (lent lent′ targets starts number parent index probes stamp walk blank-walk : List ℕ) (v : Verdict)
     (yes-it-is : loadTrial l (length lent) ≡ accepted) (filed : Filed (l .numbers) targets starts) (blank-size : length blank-walk ≡ 512)
     (sought : Sought targets starts (l .words) (l .start) (l .start) (record { stem = 0; length = 0; spent = 0; kept = 0 })
-        (set (replicate 512 none) (l .start) 0) (replicate 512 (l .start)) (replicate 512 0) (replicate 512 0) (replicate 512 none) blank-walk v number parent index probes stamp walk)
+    (set (replicate 512 none) (l .start) 0) (replicate 512 (l .start)) (replicate 512 0) (replicate 512 0) (replicate 512 none) blank-walk v number parent index probes stamp walk)
     (wrote : v .stem ≤ v .length → v .length ≤ 512 → v .length ≤ length lent → lent′ ≡ shownWalk (v .length) walk lent) where
   abbrev t : Table
   t = tableOf l
@@ -86,27 +86,12 @@ module _ (l : Load) (lent lent′ targets starts number parent index probes stam
       let q = sought .met start-met in
       let back = rewound (l .start) (l .start) 0 (set (replicate 512 none) (l .start) 0) (replicate 512 (l .start)) (replicate 512 0) (replicate 512 0) (replicate 512 none) blank-walk in
       let g = reached t ok targets starts (l .words) (matches t targets starts (l .words) refiled refl) 0 back
-          (rewound-spent (l .start) (l .start) 0 (set (replicate 512 none) (l .start) 0) (replicate 512 (l .start)) (replicate 512 0) (replicate 512 0) (replicate 512 none) blank-walk)
-          (begin-fits (graphOf t) (small t ok) blank-walk blank-size) in
+      (rewound-spent (l .start) (l .start) 0 (set (replicate 512 none) (l .start) 0) (replicate 512 (l .start)) (replicate 512 0) (replicate 512 0) (replicate 512 none) blank-walk)
+      (begin-fits (graphOf t) (small t ok) blank-walk blank-size) in
       (q .0, subst (λ (x : Core). Reached t 0 x) (sym (q .1)) g, q .2, q .3, q .4, q .5, q .6, q .7, q .8)
 
   abbrev made : Session
-  made = record {
-    size = l .size;
-    start = l .start;
-    words = l .words;
-    targets = targets;
-    starts = starts;
-    number = number;
-    parent = parent;
-    index = index;
-    probes = probes;
-    stamp = stamp;
-    walk = walk;
-    stem = v .stem;
-    length = v .length;
-    total = plus (v .kept) (v .spent);
-  }
+  made = sessionOf (l .size) (l .start) (l .words) targets starts number parent index probes stamp walk v
 
   -- what the arrays of a core are, the arrays are
   made-as : (c : Core) → Reached t 0 c → v ≡ verdictOf (c .walker) (c .spent) → number ≡ c .number → parent ≡ c .parent → index ≡ c .index → probes ≡ c .probes → stamp ≡ c .stamp → walk ≡ c .walk

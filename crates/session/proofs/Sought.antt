@@ -1,25 +1,21 @@
 -- A search of the arrays, begun or resumed to its end: what it has come to is what the plain search on the table comes to. Assumes nothing.
 use mathlib.Core.Path.{_≡_, refl, sym, ap, subst, _∙_}
 use mathlib.Core.Logic.{_≢_}
-use mathlib.Core.List.{List, [], _∷_, _++_}
-use Prim.Native.Nat.{ℕ, zero, suc, _+_, _-_, _≤_, _<_}
+use mathlib.Core.List.{List}
+use Prim.Native.Nat.{ℕ, _+_, _≤_, _<_}
 use native.Mathlib.Omega.{arith}
-use lib.ListN.{length, getD}
+use lib.ListN.{length}
 use Rattle.plain.specs.Search.{Graph, Config, run, Verdict as PlainVerdict, none, lasso, unfinished, verdict, count}
 use Rattle.plain.specs.Table.{Table, graphOf, final, accepts}
 use Rattle.plain.specs.Notes.{notes}
 use Rattle.plain.proofs.Tables.{Valid}
 use Rattle.plain.proofs.Demands.{ended-within, run-final, verdict-right}
-use Rattle.rows.specs.Rows.{rowAt}
 use Rattle.search.specs.declared.Phase.{Phase}
-use Rattle.search.specs.declared.Phase.the-variants.{Exhausted, Found}
-use Rattle.search.specs.declared.Walker.{Walker}
 use Rattle.search.specs.Core.{Core, runFor, plus}
 use Rattle.search.proofs.Represents.{Matches, plus-more}
 use Rattle.search.proofs.OneStep.{Fits}
-use Rattle.search.proofs.Resumed.{Small, limits, at-run, Archived, archived}
+use Rattle.search.proofs.Resumed.{limits, at-run, Archived, archived}
 use Rattle.search.proofs.Ended.{Spoken, spoken, run-kept}
-use Rattle.session.specs.declared.Verdict.{Verdict}
 use Rattle.session.specs.Model.{stemIn, verdictOf, bound}
 use Rattle.session.specs.Promises.{Tells}
 use Rattle.session.proofs.Held.{small, budget-bound, Refiled}

@@ -1,7 +1,7 @@
 -- What the inner functions of the session do, over the lists that its arrays hold. Cited by their contracts alone. Assumes nothing.
-use Prim.Native.Nat.{ℕ, zero, suc, _+_, _-_, _≤_, _<_}
+use Prim.Native.Nat.{ℕ, _-_, _≤_, _<_}
 use mathlib.Core.Path.{_≡_}
-use mathlib.Core.Bool.{Bool, true, false, _||_, not}
+use mathlib.Core.Bool.{Bool, true, false, not}
 use mathlib.Core.List.{List, [], _∷_, _++_}
 use lib.Dec.{eqb, ltb, leb}
 use lib.ListN.{length, getD, take, drop, replicate}
@@ -16,8 +16,9 @@ use Rattle.search.specs.Core.{Core, none, runFor, rewound, plus}
 use Rattle.session.specs.declared.Op.{Op}
 use Rattle.session.specs.declared.Op.the-variants.{Add, Cut}
 use Rattle.session.specs.declared.Verdict.{Verdict}
+use Rattle.session.specs.declared.Session.{Session}
 use Rattle.session.specs.declared.Answer.{Answer}
-use Rattle.session.specs.declared.Answer.the-variants.{Refused, Clear, Round}
+use Rattle.session.specs.declared.Answer.the-variants.{Clear, Round}
 
 -- the number of a refusal, 0 where there is none
 abbrev pub numberOf : Trial → ℕ
@@ -97,6 +98,25 @@ pub record Sought (targets starts words : List ℕ) (start s : ℕ) (old : Verdi
   pub met : (getD number s 0 ≡ none → ⊥) → (c : Core) × (c ≡ runFor targets starts words bound (rewound start s 0 number parent index probes stamp walk))
       × (r ≡ verdictOf (c .walker) (c .spent))
       × (number′ ≡ c .number) × (parent′ ≡ c .parent) × (index′ ≡ c .index) × (probes′ ≡ c .probes) × (stamp′ ≡ c .stamp) × (walk′ ≡ c .walk)
+
+-- the session that is made of the table, the records of a search and its verdict
+abbrev pub sessionOf : ℕ → ℕ → List ℕ → List ℕ → List ℕ → List ℕ → List ℕ → List ℕ → List ℕ → List ℕ → List ℕ → Verdict → Session
+sessionOf size start words targets starts number parent index probes stamp walk v = record {
+  size = size;
+  start = start;
+  words = words;
+  targets = targets;
+  starts = starts;
+  number = number;
+  parent = parent;
+  index = index;
+  probes = probes;
+  stamp = stamp;
+  walk = walk;
+  stem = v .stem;
+  length = v .length;
+  total = plus (v .kept) (v .spent);
+}
 
 -- the answer that a verdict makes
 abbrev pub pickAnswer : Bool → Answer → Answer → Answer

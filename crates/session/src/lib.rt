@@ -1,7 +1,15 @@
 pub enum Answer {
     Refused(u16),
-    Clear { spent: u16, kept: u16 },
-    Round { spent: u16, kept: u16, stem: u16, cycle: u16 },
+    Clear {
+        spent: u16,
+        kept: u16,
+    },
+    Round {
+        spent: u16,
+        kept: u16,
+        stem: u16,
+        cycle: u16,
+    },
 }
 
 pub enum Op {
