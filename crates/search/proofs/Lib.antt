@@ -1,4 +1,5 @@
 pub mod Represents
+pub mod Ways
 pub mod Places
 pub mod OneStep
 pub mod Rewind

@@ -1,0 +1,52 @@
+-- `deepen` meets its contract: each call writes one array. Assumes nothing.
+use mathlib.Core.Path.{refl, _∙_}
+use denote.Ref.{now}
+use lib.ListN.{set}
+use Rattle.search.specs.Core.{deepen}
+use Rattle.search.proofs.Ways.{same-walker, same-core}
+use borrow.Author.Needs.{needs}
+use Rattle.search.proofs.deepen.Statement.{statement}
+use Rattle.search.proofs.deepen.Tie as tie
+
+put-requires : tie.Need-put-requires
+put-requires c κs = search needs
+
+put-requires-2 : tie.Need-put-requires-2
+put-requires-2 c κs = search needs
+
+down-requires : tie.Need-down-requires
+down-requires c κs = search needs
+
+up-requires : tie.Need-up-requires
+up-requires c κs = search needs
+
+put-requires-3 : tie.Need-put-requires-3
+put-requires-3 c κs = search needs
+
+up-requires-2 : tie.Need-up-requires-2
+up-requires-2 c κs = search needs
+
+returns : tie.Need-returns
+unfolding deepen
+returns c = λ spent number parent index probes depth.
+    let p3 = c .before in
+    let u = p3 .before in
+    let d = u .before in
+    let p2 = d .before .before in
+    let p1 = p2 .before .before in
+    let a = p1 .before .before .args in
+    same-core _ _ refl refl refl refl (p1 .put .ensures) (p2 .put2 .ensures) refl
+    (p3 .put3 .ensures ∙ λ i. set (now (a .cursor)) (d .down .ensures i) (u .up .ensures i)) refl
+    (same-walker _ _ refl refl refl refl (c .up2 .ensures) refl refl)
+
+pub deepen-spec : {M : Type 1} → statement M
+deepen-spec =
+    tie.close
+    (tie.spec
+    put-requires
+    put-requires-2
+    down-requires
+    up-requires
+    put-requires-3
+    up-requires-2
+    returns)

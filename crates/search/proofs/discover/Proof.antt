@@ -1,0 +1,67 @@
+-- `discover` meets its contract: each call writes one array. Assumes nothing.
+use mathlib.Core.Path.{refl, ap, _∙_}
+use denote.Ref.{now}
+use lib.ListN.{set}
+use Rattle.search.specs.Core.{discover}
+use Rattle.search.proofs.Ways.{same-walker, same-core}
+use borrow.Author.Needs.{needs}
+use Rattle.search.proofs.discover.Statement.{statement}
+use Rattle.search.proofs.discover.Tie as tie
+
+put-requires : tie.Need-put-requires
+put-requires c κs = search needs
+
+put-requires-2 : tie.Need-put-requires-2
+put-requires-2 c κs = search needs
+
+put-requires-3 : tie.Need-put-requires-3
+put-requires-3 c κs = search needs
+
+plus-requires : tie.Need-plus-requires
+plus-requires c κs = search needs
+
+put-requires-4 : tie.Need-put-requires-4
+put-requires-4 c κs = search needs
+
+put-requires-5 : tie.Need-put-requires-5
+put-requires-5 c κs = search needs
+
+put-requires-6 : tie.Need-put-requires-6
+put-requires-6 c κs = search needs
+
+up-requires : tie.Need-up-requires
+up-requires c κs = search needs
+
+up-requires-2 : tie.Need-up-requires-2
+up-requires-2 c κs = search needs
+
+returns : tie.Need-returns
+unfolding discover
+returns c = λ stamp cursor.
+    let u = c .before in
+    let p6 = u .before in
+    let p5 = p6 .before .before in
+    let p4 = p5 .before .before in
+    let sum = p4 .before in
+    let p3 = sum .before .before in
+    let p2 = p3 .before .before in
+    let p1 = p2 .before .before in
+    let a = p1 .before .before .args in
+    same-core _ _ (p1 .put .ensures) (p2 .put2 .ensures) (p3 .put3 .ensures) (p4 .put4 .ensures ∙ ap (set (now (a .probes)) (a .t)) (sum .plus .ensures))
+    refl (p5 .put5 .ensures) (p6 .put6 .ensures) refl refl
+    (same-walker _ _ refl refl refl (u .up .ensures) (u .up .ensures) (c .up2 .ensures) refl)
+
+pub discover-spec : {M : Type 1} → statement M
+discover-spec =
+    tie.close
+    (tie.spec
+    put-requires
+    put-requires-2
+    put-requires-3
+    plus-requires
+    put-requires-4
+    put-requires-5
+    put-requires-6
+    up-requires
+    up-requires-2
+    returns)

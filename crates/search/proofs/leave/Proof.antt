@@ -1,0 +1,28 @@
+-- `leave` meets its contract. Assumes nothing.
+use mathlib.Core.Path.{refl, ap, _∙_}
+use Rattle.search.specs.Core.{up}
+use Rattle.search.proofs.Ways.{same-walker}
+use borrow.Author.Needs.{needs}
+use Rattle.search.proofs.leave.Statement.{statement}
+use Rattle.search.proofs.leave.Tie as tie
+
+down-requires : tie.Need-down-requires
+down-requires c κs = search needs
+
+get-requires : tie.Need-get-requires
+get-requires c κs = search needs
+
+get-requires-2 : tie.Need-get-requires-2
+get-requires-2 c κs = search needs
+
+up-requires : tie.Need-up-requires
+up-requires c κs = search needs
+
+returns : tie.Need-returns
+returns c =
+    let g = c .before .before in
+    let d = g .before in
+    same-walker _ _ refl (g .get .ensures) (c .up .ensures ∙ ap up (c .before .get2 .ensures)) (d .down .ensures) (d .down .ensures) refl refl
+
+pub leave-spec : {M : Type 1} → statement M
+leave-spec = tie.close (tie.spec down-requires get-requires get-requires-2 up-requires returns)

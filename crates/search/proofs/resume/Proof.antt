@@ -1,0 +1,95 @@
+-- `resume` meets its contract: what it makes of the arrays is the search as it stood, and `run` goes on from there. Assumes nothing.
+use mathlib.Core.Path.{_≡_, sym, ap, subst, _∙_}
+use denote.Ref.{now}
+use lib.ListN.{replicate}
+use Rattle.search.specs.declared.Phase.the-variants.{Outer}
+use Rattle.search.specs.Core.{Core, Sized, coreOf, rewound, runFor, result}
+use Rattle.search.proofs.Ways.{rewound-by, rewound-sized}
+use borrow.Author.Needs.{needs}
+use Rattle.search.proofs.resume.Statement.{statement}
+use Rattle.search.proofs.resume.Tie as tie
+
+-- where the first array is read; where each later call has returned
+abbrev reading : tie.After-get2 → tie.After-get
+reading c = c .before .before .before .before .before .before .before .before .before .before .before .before .before
+
+abbrev begun : tie.After-get2 → tie.Start
+begun c = reading c .before .before
+
+-- the arrays and the walker that `run` is lent
+abbrev lent : tie.After-get2 → Core
+lent c =
+    let u = c .before .before in
+    let r = u .before in
+    let m = r .before .before .before .before in
+    let k2 = m .before .before in
+    let k1 = k2 .before .before in
+    let a = begun c .args in
+    coreOf (record { phase = Outer; cur = a .s; next = 0; height = m .climb .result; top = m .climb .result; met = u .up .result; kept = c .get2 .result })
+    (now (a .spent)) (k1 .keep-up-to .last .0) (now (a .parent)) (now (a .index)) (now (a .probes)) (k2 .keep-up-to2 .last .0) (r .retrace .last .1 .0)
+    (r .retrace .last .1 .1 .0) (replicate 512 0)
+
+abbrev wanted : tie.Start → Core
+wanted b =
+    let a = b .args in
+    rewound (a .start) (a .s) (now (a .spent)) (now (a .number)) (now (a .parent)) (now (a .index)) (now (a .probes)) (now (a .stamp)) (now (a .walk))
+
+lent-is : (c : tie.After-get2) → lent c ≡ wanted (begun c)
+lent-is c =
+    let u = c .before .before in
+    let r = u .before in
+    let m = r .before .before .before .before in
+    let k2 = m .before .before in
+    let k1 = k2 .before .before in
+    let a = begun c .args in
+    rewound-by (a .start) (a .s) (now (a .spent)) (now (a .number)) (now (a .parent)) (now (a .index)) (now (a .probes)) (now (a .stamp)) (now (a .walk))
+    (reading c .get .result) (m .climb .result) (u .up .result) (c .get2 .result) (k1 .keep-up-to .last .0) (k2 .keep-up-to2 .last .0)
+    (r .retrace .last .1 .0) (r .retrace .last .1 .1 .0) (reading c .get .ensures) (k1 .keep-up-to .ensures) (k2 .keep-up-to2 .ensures) (m .climb .ensures)
+    (r .retrace .ensures .0) (r .retrace .ensures .1) (u .up .ensures) (c .get2 .ensures)
+
+get-requires : tie.Need-get-requires
+get-requires c κs = search needs
+
+keep-up-to-requires : tie.Need-keep-up-to-requires
+keep-up-to-requires c κs = search needs
+
+keep-up-to-requires-2 : tie.Need-keep-up-to-requires-2
+keep-up-to-requires-2 c κs = search needs
+
+climb-requires : tie.Need-climb-requires
+climb-requires c κs = search needs
+
+retrace-requires : tie.Need-retrace-requires
+retrace-requires c κs = search needs
+
+up-requires : tie.Need-up-requires
+up-requires c κs = search needs
+
+get-requires-2 : tie.Need-get-requires-2
+get-requires-2 c κs = search needs
+
+run-requires : tie.Need-run-requires
+run-requires c κs =
+    let g = c .before .before .before .before .before .before .before .before .before in
+    let b = begun g in
+    (b .pre .0, subst Sized (sym (lent-is g)) (rewound-sized _ _ _ _ _ _ _ _ _ (b .pre .1)))
+
+returns : tie.Need-returns
+returns c =
+    let g = c .before .before .before .before .before .before .before .before .before .before in
+    let a = begun g .args in
+    ap result (c .run .ensures ∙ ap (runFor (now (a .targets)) (now (a .starts)) (now (a .words)) (a .budget)) (lent-is g))
+
+pub resume-spec : {M : Type 1} → statement M
+resume-spec =
+    tie.close
+    (tie.spec
+    get-requires
+    keep-up-to-requires
+    keep-up-to-requires-2
+    climb-requires
+    retrace-requires
+    up-requires
+    get-requires-2
+    run-requires
+    returns)

@@ -1,0 +1,72 @@
+-- `step` meets its contract: the phase tells the way. Assumes nothing.
+use mathlib.Core.Path.{_∙_}
+use denote.Ref.{now}
+use Rattle.search.specs.declared.Phase.the-variants.{Outer, Nested, Exhausted, Found}
+use Rattle.search.specs.Core.{Core, coreOf}
+use Rattle.search.proofs.Ways.{step-at}
+use borrow.Author.Needs.{needs}
+use Rattle.search.proofs.step.Statement.{statement}
+use Rattle.search.proofs.step.Tie as tie
+
+-- the arrays and the walker at the start
+abbrev at : tie.Start → Core
+at c =
+    let a = c .args in
+    coreOf (a .w) (now (a .spent)) (now (a .number)) (now (a .parent)) (now (a .index)) (now (a .probes)) (now (a .stamp)) (now (a .walk)) (now (a .depth))
+    (now (a .cursor))
+
+enum-told : tie.Need-enum-told
+enum-told c = search needs
+
+outer-step-requires : tie.Need-outer-step-requires
+outer-step-requires c κs = search needs
+
+enum-told-2 : tie.Need-enum-told-2
+enum-told-2 c = search needs
+
+nested-step-requires : tie.Need-nested-step-requires
+nested-step-requires c κs = search needs
+
+enum-told-3 : tie.Need-enum-told-3
+enum-told-3 c = search needs
+
+enum-told-4 : tie.Need-enum-told-4
+enum-told-4 c = search needs
+
+returns : tie.Need-returns
+returns c =
+    let k = c .before .before .before .before .before .before .before .before .before in
+    let b = k .before .before in
+    c .outer-step .ensures (now (b .args .cursor)) ∙ step-at (now (b .args .targets)) (now (b .args .starts)) (now (b .args .words)) (at b) Outer (k .enum-told .given .1)
+
+returns-2 : tie.Need-returns-2
+returns-2 c =
+    let k = c .before .before .before .before .before .before .before .before in
+    let b = k .before .before in
+    c .nested-step .ensures (now (b .args .words)) (now (b .args .number)) (now (b .args .probes))
+    ∙ step-at (now (b .args .targets)) (now (b .args .starts)) (now (b .args .words)) (at b) Nested (k .enum-told2 .given .1)
+
+returns-3 : tie.Need-returns-3
+returns-3 c =
+    let b = c .before .before in
+    step-at (now (b .args .targets)) (now (b .args .starts)) (now (b .args .words)) (at b) Exhausted (c .enum-told3 .given .1)
+
+returns-4 : tie.Need-returns-4
+returns-4 c =
+    let b = c .before .before in
+    step-at (now (b .args .targets)) (now (b .args .starts)) (now (b .args .words)) (at b) Found (c .enum-told4 .given .1)
+
+pub step-spec : {M : Type 1} → statement M
+step-spec =
+    tie.close
+    (tie.spec
+    enum-told
+    outer-step-requires
+    enum-told-2
+    nested-step-requires
+    enum-told-3
+    enum-told-4
+    returns
+    returns-2
+    returns-3
+    returns-4)
