@@ -4,12 +4,13 @@ use mathlib.Core.Logic.{⊎-elim}
 use mathlib.Core.Bool.{true}
 use Prim.Native.Nat.{ℕ, suc}
 use native.Mathlib.Omega.{arith}
-use borrow.Author.Tests.{ltb-false, leb-false}
+use borrow.Author.Tests.{ltb-true, ltb-false, leb-false}
 use denote.Ref.{now}
 use lib.ListN.{getD}
 use Rattle.rows.specs.Rows.{edgeCount}
 use Rattle.rows.specs.Shift.{opened, turned}
 use Rattle.rows.proofs.Paste.{same-place}
+use Rattle.rows.proofs.Shifts.{opened-size, turned-size}
 use Rattle.rows.proofs.Change.{row-end, inserted}
 use borrow.Author.Needs.{needs}
 use Rattle.rows.proofs.insert.Statement.{statement}
@@ -58,22 +59,30 @@ returns c =
     let a = start w .args in
     let xs = now (a .targets) in
     let ss = now (a .starts) in
-    λ good small free.
-    inserted xs ss (a .v) (a .t) good small free _ _
-    (c .before .before .shift-up .ensures ∙ ap₂ (λ (at count : ℕ). opened xs at count (a .t)) (found w .0) (found w .1))
-    (c .turn .ensures ∙ ap (turned true ss) (omega arith))
+    let sizes = start w .pre in (
+      λ good small free. inserted xs ss (a .v) (a .t) good small free _ _
+          (c .before .before .shift-up .ensures ∙ ap₂ (λ (at count : ℕ). opened xs at count (a .t)) (found w .0) (found w .1))
+          (c .turn .ensures ∙ ap (turned true ss) (omega arith)),
+      (
+        opened-size xs (w .before .before .before .wide2 .result) (w .wide3 .result) (a .t) (search needs) (omega (arith, ltb-true, sizes .0)) _ (c .before .before .shift-up .ensures) ∙ sizes .0,
+        turned-size true ss _ (sizes .1) (omega arith) _ (c .turn .ensures),
+      ),
+    )
 
 returns-2 : tie.Need-returns-2
 returns-2 c =
     let w = c .before in
     let a = start w .args in
     let e = found w in
-    λ good small free.
-    let end = row-end (now (a .targets)) (now (a .starts)) good (a .v) small in
-    let no : ⊥ =
-    ⊎-elim (λ l. omega (arith, ltb-false)) (⊎-elim (λ l. omega (arith, leb-false)) (λ l. omega arith)) (c .if1 .came)
-    in
-    absurd no
+    let sizes = start w .pre in (
+      λ good small free.
+          let end = row-end (now (a .targets)) (now (a .starts)) good (a .v) small in
+          let no : ⊥ =
+          ⊎-elim (λ l. omega (arith, ltb-false)) (⊎-elim (λ l. omega (arith, leb-false)) (λ l. omega arith)) (c .if1 .came)
+          in
+          absurd no,
+      sizes,
+    )
 
 pub insert-spec : {M : Type 1} → statement M
 insert-spec =
