@@ -139,6 +139,7 @@ pub fn insert(targets: &mut [u16; 2048], starts: &mut [u16; 513], v: u16, t: u16
 pub fn remove(targets: &mut [u16; 2048], starts: &mut [u16; 513], v: u16, k: u16)
     requires { ⌜ (length (now targets) ≡ 2048) × (length (now starts) ≡ 513) ⌝ }
     ensures { λ r. ⌜ (Compressed (now (targets .entry)) (now (starts .entry)) → v < 512 → k < degreeAt (now (starts .entry)) v → Removed (now (targets .entry)) (now (starts .entry)) v k (now (targets .exit)) (now (starts .exit))) ⌝ }
+    ensures { λ r. ⌜ (length (now (targets .exit)) ≡ 2048) × (length (now (starts .exit)) ≡ 513) ⌝ }
 {
     let i = wide(v);
     let at = wide(start_of(starts, i)) + wide(k);

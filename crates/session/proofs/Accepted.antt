@@ -27,6 +27,7 @@ use Rattle.search.proofs.Represents.{plus-more}
 use Rattle.search.proofs.Rewind.{notesOf}
 use Rattle.search.proofs.Ended.{rewound-spent}
 use Rattle.search.proofs.Resumed.{Archived, resume-fits, limits}
+use Rattle.session.specs.declared.Answer.{Answer}
 use Rattle.session.specs.declared.Answer.the-variants.{Refused}
 use Rattle.session.specs.declared.Op.{Op}
 use Rattle.session.specs.declared.Op.the-variants.{Add, Cut}
@@ -178,7 +179,7 @@ module _ (op : Op) (from to : ℕ) (s : Session) (targets starts number parent i
 
   -- the session that is returned
   abbrev next : Session
-  next = sessionOf (s .size) (s .start) (s .words) targets starts number parent index probes stamp walk v
+  next = sessionOf (s .size) (s .start) (s .words) targets starts number parent index probes stamp walk v (plus (v .kept) (v .spent))
 
   next-holds : Holds next t′
   unfolding trialOf
@@ -253,19 +254,20 @@ pub change-accepted : (op : Op) (from to : ℕ) (s : Session) (lent lent′ targ
     → Sought targets starts (s .words) (s .start) from (record { stem = s .stem; length = s .length; spent = 0; kept = s .total })
     (s .number) (s .parent) (s .index) (s .probes) (s .stamp) (s .walk) v number parent index probes stamp walk
     → (v .stem ≤ v .length → v .length ≤ 512 → v .length ≤ length lent → lent′ ≡ shownWalk (v .length) walk lent)
+    → (a : Answer) (total : ℕ) → a ≡ answerIs v → total ≡ plus (v .kept) (v .spent)
     → Changes op from to s lent (record {
-      answer = answerIs v;
-      session = sessionOf (s .size) (s .start) (s .words) targets starts number parent index probes stamp walk v;
+      answer = a;
+      session = sessionOf (s .size) (s .start) (s .words) targets starts number parent index probes stamp walk v total;
     }) lent′
-change-accepted op from to s lent lent′ targets starts number parent index probes stamp walk v e filed sought wrote = record {
+change-accepted op from to s lent lent′ targets starts number parent index probes stamp walk v e filed sought wrote a total f g = rw (f, g) (record {
   answers = λ t h. next-answer op from to s targets starts number parent index probes stamp walk v filed sought t h (length lent) (is t h)
       ∙ sym (ap shown (answer-accepted (changeOf op from to) (length lent) t (is t h)));
   writes = λ t h. next-written op from to s targets starts number parent index probes stamp walk v filed sought t h (length lent) (is t h) lent lent′ (omega arith) wrote
       ∙ sym (ap (λ (a : PlainAnswer). written a lent) (answer-accepted (changeOf op from to) (length lent) t (is t h)));
   holds = λ t h. subst (λ (x : Table). Holds (next op from to s targets starts number parent index probes stamp walk v filed sought t h (length lent) (is t h)) x) (sym (table-accepted (changeOf op from to) (length lent) t (is t h)))
       (next-holds op from to s targets starts number parent index probes stamp walk v filed sought t h (length lent) (is t h));
-  refused = λ m a. absurd (never-refused v m a);
-}
+  refused = λ m z. absurd (never-refused v m z);
+})
   where
     is : (t : Table) → Holds s t → changeTrial (changeOf op from to) t (length lent) ≡ accepted
     is t h = sym (trial-same s t h op from to (length lent)) ∙ row-trial-zero op (s .size) (s .targets) (s .starts) from to (length lent) e

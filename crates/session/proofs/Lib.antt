@@ -1,3 +1,7 @@
+pub mod Pairs
+pub mod Trying
+pub mod Filing
+pub mod Writing
 pub mod Held
 pub mod Told
 pub mod Sought

@@ -18,6 +18,7 @@ use Rattle.plain.proofs.Demands.{verdict-right}
 use Rattle.search.specs.Core.{Core, none, rewound, plus}
 use Rattle.search.proofs.Ended.{rewound-spent}
 use Rattle.search.proofs.Resumed.{begin-fits}
+use Rattle.session.specs.declared.Answer.{Answer}
 use Rattle.session.specs.declared.Answer.the-variants.{Refused}
 use Rattle.session.specs.declared.Session.{Session}
 use Rattle.session.specs.declared.Verdict.{Verdict}
@@ -91,7 +92,7 @@ module _ (l : Load) (lent lent′ targets starts number parent index probes stam
       (q .0, subst (λ (x : Core). Reached t 0 x) (sym (q .1)) g, q .2, q .3, q .4, q .5, q .6, q .7, q .8)
 
   abbrev made : Session
-  made = sessionOf (l .size) (l .start) (l .words) targets starts number parent index probes stamp walk v
+  made = sessionOf (l .size) (l .start) (l .words) targets starts number parent index probes stamp walk v (plus (v .kept) (v .spent))
 
   -- what the arrays of a core are, the arrays are
   made-as : (c : Core) → Reached t 0 c → v ≡ verdictOf (c .walker) (c .spent) → number ≡ c .number → parent ≡ c .parent → index ≡ c .index → probes ≡ c .probes → stamp ≡ c .stamp → walk ≡ c .walk
@@ -121,8 +122,8 @@ module _ (l : Load) (lent lent′ targets starts number parent index probes stam
             ∙ tells-written v (verdict (final t)) walk lent (count (final t)) 0 told,
       )
 
-  pub load-accepted : Loads l lent (record { answer = answerIs v; session = made }) lent′
-  load-accepted =
+  loads : Loads l lent (record { answer = answerIs v; session = made }) lent′
+  loads =
       let b = begun in
       let w = made-as (b .0) (b .1) (b .2) (b .3) (b .4) (b .5) (b .6) (b .7) (b .8) in
       record {
@@ -131,3 +132,7 @@ module _ (l : Load) (lent lent′ targets starts number parent index probes stam
         holds = λ a. w .0;
         empty = λ n a. absurd (let z : accepted ≡ refused n = sym yes-it-is ∙ a in let q : _≡_ {A = ℕ} 0 1 = cc in omega arith);
       }
+
+  pub load-accepted : (a : Answer) (total : ℕ) → a ≡ answerIs v → total ≡ plus (v .kept) (v .spent)
+      → Loads l lent (record { answer = a; session = sessionOf (l .size) (l .start) (l .words) targets starts number parent index probes stamp walk v total }) lent′
+  load-accepted a total f g = rw (f, g) loads

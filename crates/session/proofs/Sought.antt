@@ -1,22 +1,25 @@
 -- A search of the arrays, begun or resumed to its end: what it has come to is what the plain search on the table comes to. Assumes nothing.
 use mathlib.Core.Path.{_≡_, refl, sym, ap, subst, _∙_}
-use mathlib.Core.Logic.{_≢_}
+use mathlib.Core.Logic.{_≢_, _⊎_, inl, inr}
 use mathlib.Core.List.{List}
 use Prim.Native.Nat.{ℕ, _+_, _≤_, _<_}
 use native.Mathlib.Omega.{arith}
-use lib.ListN.{length}
+use lib.ListN.{length, getD, List·getD-eq-default}
 use Rattle.plain.specs.Search.{Graph, Config, run, Verdict as PlainVerdict, none, lasso, unfinished, verdict, count}
+use Rattle.session.specs.declared.Verdict.{Verdict}
 use Rattle.plain.specs.Table.{Table, graphOf, final, accepts}
 use Rattle.plain.specs.Notes.{notes}
 use Rattle.plain.proofs.Tables.{Valid}
 use Rattle.plain.proofs.Demands.{ended-within, run-final, verdict-right}
 use Rattle.search.specs.declared.Phase.{Phase}
-use Rattle.search.specs.Core.{Core, runFor, plus}
+use Rattle.search.specs.declared.Walker.{Walker}
+use Rattle.search.specs.Core.{Core, none as noNumber, runFor, rewound, plus, Result, resultOf, result, Kept}
 use Rattle.search.proofs.Represents.{Matches, plus-more}
+use Rattle.search.proofs.Ways.{run-sized, rewound-sized}
 use Rattle.search.proofs.OneStep.{Fits}
 use Rattle.search.proofs.Resumed.{limits, at-run, Archived, archived}
 use Rattle.search.proofs.Ended.{Spoken, spoken, run-kept}
-use Rattle.session.specs.Model.{stemIn, verdictOf, bound}
+use Rattle.session.specs.Model.{stemIn, verdictOf, bound, Sought}
 use Rattle.session.specs.Promises.{Tells}
 use Rattle.session.proofs.Held.{small, budget-bound, Refiled}
 
@@ -69,3 +72,47 @@ module _ (t : Table) (v : Valid t) (targets starts words : List ℕ) (m : Matche
     where
       nonempty : (stem cycle : List ℕ) → verdict (final t) ≡ lasso stem cycle → 0 < length cycle
       nonempty stem cycle e = let w = verdict-right t v .walk stem cycle e in omega (arith, ap length (w .cycle-is))
+
+-- ---- what `seek` leaves
+
+pub sought-unmet : (targets starts words : List ℕ) (start s : ℕ) (old : Verdict) (number parent index probes stamp walk : List ℕ) → getD number s 0 ≡ noNumber
+    → Sought targets starts words start s old number parent index probes stamp walk (record { stem = old .stem; length = old .length; spent = 0; kept = old .kept }) number parent index probes stamp walk
+sought-unmet targets starts words start s old number parent index probes stamp walk e = record {
+  unmet = λ z. (refl, refl, refl, refl, refl, refl, refl);
+  met = λ n. absurd (n e);
+}
+
+pub sought-met : (targets starts words : List ℕ) (start s : ℕ) (old : Verdict) (number parent index probes stamp walk : List ℕ) (w : Walker) (spent : ℕ)
+    (number′ parent′ index′ probes′ stamp′ walk′ : List ℕ) (v : Verdict) → (getD number s 0 ≡ noNumber → ⊥) → v ≡ verdictOf w spent
+    → resultOf w spent number′ parent′ index′ probes′ stamp′ walk′ ≡ result (runFor targets starts words bound (rewound start s 0 number parent index probes stamp walk))
+    → Sought targets starts words start s old number parent index probes stamp walk v number′ parent′ index′ probes′ stamp′ walk′
+sought-met targets starts words start s old number parent index probes stamp walk w spent number′ parent′ index′ probes′ stamp′ walk′ v n e q = record {
+  unmet = λ z. absurd (n z);
+  met = λ z. (
+    runFor targets starts words bound (rewound start s 0 number parent index probes stamp walk),
+    refl,
+    e ∙ (λ i. verdictOf (q i .walker) (q i .spent)),
+    ap (λ (x : Result). x .number) q,
+    ap (λ (x : Result). x .parent) q,
+    ap (λ (x : Result). x .index) q,
+    ap (λ (x : Result). x .probes) q,
+    ap (λ (x : Result). x .stamp) q,
+    ap (λ (x : Result). x .walk) q,
+  );
+}
+
+-- the walk's array keeps its size
+pub walk-sized : (targets starts words : List ℕ) (start s : ℕ) (number parent index probes stamp walk : List ℕ) (w : Walker) (spent : ℕ) (number′ parent′ index′ probes′ stamp′ walk′ : List ℕ)
+    → Kept number parent index probes stamp walk
+    → resultOf w spent number′ parent′ index′ probes′ stamp′ walk′ ≡ result (runFor targets starts words bound (rewound start s 0 number parent index probes stamp walk)) → length walk′ ≡ 512
+walk-sized targets starts words start s number parent index probes stamp walk w spent number′ parent′ index′ probes′ stamp′ walk′ k q =
+    ap (λ (x : Result). length (x .walk)) q
+    ∙ run-sized targets starts words bound (rewound start s 0 number parent index probes stamp walk) (rewound-sized start s 0 number parent index probes stamp walk k) .walk-size
+
+-- a place that is past the end, or holds another number, is not without a number
+pub numbered : (number : List ℕ) (s i : ℕ) → i ≡ s → length number ≡ 512 → (getD number i 0 ≡ noNumber → ⊥) ⊎ (512 ≤ i) → getD number s 0 ≡ noNumber → ⊥
+numbered number s i e size (inl n) z = n (ap (λ (j : ℕ). getD number j 0) e ∙ z)
+numbered number s i e size (inr l) z = omega (arith, past number s (omega arith))
+  where
+    past : (xs : List ℕ) (j : ℕ) → length xs ≤ j → getD xs j 0 ≡ 0
+    past xs j h = List·getD-eq-default xs 0 h

@@ -99,9 +99,9 @@ pub record Sought (targets starts words : List ℕ) (start s : ℕ) (old : Verdi
       × (r ≡ verdictOf (c .walker) (c .spent))
       × (number′ ≡ c .number) × (parent′ ≡ c .parent) × (index′ ≡ c .index) × (probes′ ≡ c .probes) × (stamp′ ≡ c .stamp) × (walk′ ≡ c .walk)
 
--- the session that is made of the table, the records of a search and its verdict
-abbrev pub sessionOf : ℕ → ℕ → List ℕ → List ℕ → List ℕ → List ℕ → List ℕ → List ℕ → List ℕ → List ℕ → List ℕ → Verdict → Session
-sessionOf size start words targets starts number parent index probes stamp walk v = record {
+-- the session that is made of the table, the records of a search, and what it has come to
+abbrev pub sessionOf : ℕ → ℕ → List ℕ → List ℕ → List ℕ → List ℕ → List ℕ → List ℕ → List ℕ → List ℕ → List ℕ → Verdict → ℕ → Session
+sessionOf size start words targets starts number parent index probes stamp walk v total = record {
   size = size;
   start = start;
   words = words;
@@ -115,7 +115,7 @@ sessionOf size start words targets starts number parent index probes stamp walk 
   walk = walk;
   stem = v .stem;
   length = v .length;
-  total = plus (v .kept) (v .spent);
+  total = total;
 }
 
 -- the answer that a verdict makes

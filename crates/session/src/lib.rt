@@ -1,3 +1,16 @@
+// One session: the game's table and the records of its search. It is made by a load and by nothing else.
+ghost use mathlib.Core.Path.{_≡_};
+ghost use mathlib.Core.Bool.{false};
+ghost use mathlib.Core.List.{_++_};
+ghost use Prim.Native.Nat.{_+_, _≤_, _<_};
+ghost use lib.ListN.{length, take, drop};
+ghost use Rattle.plain.specs.Lists.{any};
+ghost use Rattle.plain.specs.Refusals.{badMarks, outside, selfLoop, pairs};
+ghost use Rattle.search.specs.Core.{Tabled, Kept, plus};
+ghost use Rattle.session.specs.Model.{numberOf, earlyTrial, rowTrial, FiledAll, FiledOne, Tried, verdictOf, Sought, answerIs, shownWalk};
+ghost use Rattle.session.specs.Promises.{Loads, Changes};
+
+// The answer to a call: a refusal's number, or the probes spent and kept, and with a round the lengths of stem and round.
 pub enum Answer {
     Refused(u16),
     Clear {
@@ -12,6 +25,7 @@ pub enum Answer {
     },
 }
 
+// A change of the table's moves.
 pub enum Op {
     Add,
     Cut,
@@ -29,13 +43,17 @@ pub struct Session {
     size: u16,
     start: u16,
     words: [u64; 8],
+    // the moves as compressed rows
     targets: [u16; 2048],
     starts: [u16; 513],
+    // by state: discovery number, parent, index of the edge in the parent's row, probes by then
     number: [u16; 512],
     parent: [u16; 512],
     index: [u16; 512],
     probes: [u16; 512],
+    // by state: how many states were discovered when it was marked
     stamp: [u16; 512],
+    // the last walk, the length of its stem and its own (0: none), and the probes of the whole search
     walk: [u16; 512],
     stem: u16,
     length: u16,
@@ -45,4 +63,521 @@ pub struct Session {
 pub struct Outcome {
     pub answer: Answer,
     pub session: Session,
+}
+
+// What stands in an array for "no number".
+const NONE: u16 = 65535;
+
+// 2 × 2,048 + 3 × 512 + 2: no search takes more steps.
+const BOUND: u16 = 5634;
+
+fn wide(x: u16) -> usize
+    ensures { λ r. ⌜ (r ≡ x) × (r < 65536) ⌝ }
+{
+    x as usize
+}
+
+// Is a paying mark set for a number not below the count of states?
+fn marks_outside(words: &[u64; 8], size: u16) -> bool
+    ensures { λ r. ⌜ r ≡ badMarks size (now (words .entry)) ⌝ }
+{
+    let mut s: usize = 512;
+    while 0 < s {
+        s -= 1;
+        if wide(size) <= s {
+            if marks::accepts_in(words, s) {
+                return true;
+            }
+        }
+    }
+    false
+}
+
+// Does a move of the list name a number that is not below the count of states?
+fn any_outside(numbers: &[u16], size: u16) -> bool
+    ensures { λ r. ⌜ r ≡ any (outside size) (pairs (now (numbers .entry))) ⌝ }
+{
+    let mut i: usize = 0;
+    while i + 1 < numbers.len() {
+        if size <= numbers[i] {
+            return true;
+        }
+        if size <= numbers[i + 1] {
+            return true;
+        }
+        i += 2;
+    }
+    false
+}
+
+// Does a move of the list lead from a state to itself?
+fn any_loop(numbers: &[u16]) -> bool
+    ensures { λ r. ⌜ r ≡ any selfLoop (pairs (now (numbers .entry))) ⌝ }
+{
+    let mut i: usize = 0;
+    while i + 1 < numbers.len() {
+        if numbers[i] == numbers[i + 1] {
+            return true;
+        }
+        i += 2;
+    }
+    false
+}
+
+// Refusals 2 to 7 of a load; 0 where there is none.
+fn early_trial(size: u16, start: u16, words: &[u64; 8], numbers: &[u16]) -> u16
+    ensures { λ r. ⌜ r ≡ numberOf (earlyTrial size start (now (words .entry)) (now (numbers .entry))) ⌝ }
+{
+    if size == 0 {
+        return 2;
+    }
+    if 512 < size {
+        return 2;
+    }
+    if size <= start {
+        return 3;
+    }
+    if marks_outside(words, size) {
+        return 4;
+    }
+    if numbers.len() % 2 == 1 {
+        return 5;
+    }
+    if 4096 < numbers.len() {
+        return 5;
+    }
+    if any_outside(numbers, size) {
+        return 6;
+    }
+    if any_loop(numbers) {
+        return 7;
+    }
+    0
+}
+
+// Files the moves of the list, in their order, until one stands twice: was there one?
+fn file_all(numbers: &[u16], targets: &mut [u16; 2048], starts: &mut [u16; 513]) -> bool
+    requires { ⌜ Tabled (now targets) (now starts) ⌝ }
+    ensures { λ r. ⌜ FiledAll (now (numbers .entry)) (now (targets .entry)) (now (starts .entry)) r (now (targets .exit)) (now (starts .exit)) ⌝ }
+    ensures { λ r. ⌜ Tabled (now (targets .exit)) (now (starts .exit)) ⌝ }
+{
+    let mut i: usize = 0;
+    while i + 1 < numbers.len() {
+        let from = numbers[i];
+        let to = numbers[i + 1];
+        if rows::place(targets, starts, from, to) < rows::degree(starts, from) {
+            return true;
+        }
+        rows::insert(targets, starts, from, to);
+        i += 2;
+    }
+    false
+}
+
+// The refusal of a load, 0 where there is none: then the moves are filed.
+fn load_trial(
+    size: u16,
+    start: u16,
+    words: &[u64; 8],
+    numbers: &[u16],
+    targets: &mut [u16; 2048],
+    starts: &mut [u16; 513],
+    room: usize,
+) -> u16
+    requires { ⌜ Tabled (now targets) (now starts) ⌝ }
+    ensures { λ r. ⌜ Tried size start (now (words .entry)) (now (numbers .entry)) room (now (targets .entry)) (now (starts .entry)) r (now (targets .exit)) (now (starts .exit)) ⌝ }
+    ensures { λ r. ⌜ Tabled (now (targets .exit)) (now (starts .exit)) ⌝ }
+{
+    let early = early_trial(size, start, words, numbers);
+    if early != 0 {
+        return early;
+    }
+    if file_all(numbers, targets, starts) {
+        return 8;
+    }
+    if room < wide(size) {
+        return 11;
+    }
+    0
+}
+
+// The refusal of a change, 0 where there is none.
+fn row_trial(
+    op: Op,
+    size: u16,
+    targets: &[u16; 2048],
+    starts: &[u16; 513],
+    from: u16,
+    to: u16,
+    room: usize,
+) -> u16
+    requires { ⌜ Tabled (now targets) (now starts) ⌝ }
+    ensures { λ r. ⌜ r ≡ numberOf (rowTrial op size (now (targets .entry)) (now (starts .entry)) from to room) ⌝ }
+{
+    if size <= from {
+        return 6;
+    }
+    if size <= to {
+        return 6;
+    }
+    if from == to {
+        return 7;
+    }
+    let there = rows::place(targets, starts, from, to) < rows::degree(starts, from);
+    match op {
+        Op::Add => {
+            if there {
+                return 8;
+            }
+            if 2048 <= rows::edge_count(starts) {
+                return 9;
+            }
+        }
+        Op::Cut => {
+            if !there {
+                return 10;
+            }
+        }
+    }
+    if room < wide(size) {
+        return 11;
+    }
+    0
+}
+
+// The change is made in the rows.
+fn file_one(op: Op, targets: &mut [u16; 2048], starts: &mut [u16; 513], from: u16, to: u16)
+    requires { ⌜ Tabled (now targets) (now starts) ⌝ }
+    ensures { λ r. ⌜ FiledOne op from to (now (targets .entry)) (now (starts .entry)) (now (targets .exit)) (now (starts .exit)) ⌝ }
+    ensures { λ r. ⌜ Tabled (now (targets .exit)) (now (starts .exit)) ⌝ }
+{
+    match op {
+        Op::Add => {
+            rows::insert(targets, starts, from, to);
+        }
+        Op::Cut => {
+            let k = rows::place(targets, starts, from, to);
+            rows::remove(targets, starts, from, k);
+        }
+    }
+}
+
+// What the search has come to.
+fn verdict_of(w: search::Walker, spent: u16) -> Verdict
+    ensures { λ r. ⌜ r ≡ verdictOf w spent ⌝ }
+{
+    let phase = w.phase;
+    match phase {
+        search::Phase::Found => Verdict {
+            stem: w.height,
+            length: w.top,
+            spent: spent,
+            kept: w.kept,
+        },
+        search::Phase::Outer => Verdict {
+            stem: 0,
+            length: 0,
+            spent: spent,
+            kept: w.kept,
+        },
+        search::Phase::Nested => Verdict {
+            stem: 0,
+            length: 0,
+            spent: spent,
+            kept: w.kept,
+        },
+        search::Phase::Exhausted => Verdict {
+            stem: 0,
+            length: 0,
+            spent: spent,
+            kept: w.kept,
+        },
+    }
+}
+
+// The search from the discovery of s on. The count of probes spent is 0 here, and only the search raises it. A state that was never discovered needs none.
+fn seek(
+    targets: &[u16; 2048],
+    starts: &[u16; 513],
+    words: &[u64; 8],
+    number: &mut [u16; 512],
+    parent: &mut [u16; 512],
+    index: &mut [u16; 512],
+    probes: &mut [u16; 512],
+    stamp: &mut [u16; 512],
+    walk: &mut [u16; 512],
+    start: u16,
+    s: u16,
+    old: Verdict,
+) -> Verdict
+    requires { ⌜ Tabled (now targets) (now starts) × Kept (now number) (now parent) (now index) (now probes) (now stamp) (now walk) ⌝ }
+    ensures { λ r. ⌜ Sought (now (targets .entry)) (now (starts .entry)) (now (words .entry)) start s old (now (number .entry)) (now (parent .entry)) (now (index .entry)) (now (probes .entry)) (now (stamp .entry)) (now (walk .entry)) r (now (number .exit)) (now (parent .exit)) (now (index .exit)) (now (probes .exit)) (now (stamp .exit)) (now (walk .exit)) ⌝ }
+    ensures { λ r. ⌜ length (now (walk .exit)) ≡ 512 ⌝ }
+{
+    let i = wide(s);
+    if i < 512 {
+        if number[i] == NONE {
+            return Verdict {
+                stem: old.stem,
+                length: old.length,
+                spent: 0,
+                kept: old.kept,
+            };
+        }
+    }
+    let mut spent: u16 = 0;
+    let w = search::resume(
+        targets,
+        starts,
+        words,
+        number,
+        parent,
+        index,
+        probes,
+        stamp,
+        walk,
+        &mut spent,
+        start,
+        s,
+        BOUND,
+    );
+    verdict_of(w, spent)
+}
+
+// The answer that a verdict makes.
+fn answer_of(v: Verdict) -> Answer
+    ensures { λ r. ⌜ r ≡ answerIs v ⌝ }
+{
+    if v.length == 0 {
+        return Answer::Clear {
+            spent: v.spent,
+            kept: v.kept,
+        };
+    }
+    let mut cycle: u16 = 0;
+    if v.stem <= v.length {
+        cycle = v.length - v.stem;
+    }
+    Answer::Round {
+        spent: v.spent,
+        kept: v.kept,
+        stem: v.stem,
+        cycle: cycle,
+    }
+}
+
+// Entries of the walk, from a place on, at the head of the list.
+fn write_part(walk: &[u16; 512], from: u16, count: u16, out: &mut [u16])
+    requires { ⌜ length (now walk) ≡ 512 ⌝ }
+    ensures { λ r. ⌜ (from + count ≤ 512 → count ≤ length (now (out .entry)) → now (out .exit) ≡ take count (drop from (now (walk .entry))) ++ drop count (now (out .entry))) × (length (now (out .exit)) ≡ length (now (out .entry))) ⌝ }
+{
+    let mut i: usize = 0;
+    while i < wide(count) {
+        let at = wide(from) + i;
+        if at < 512 {
+            if i < out.len() {
+                out[i] = walk[at];
+            }
+        }
+        i += 1;
+    }
+}
+
+// Writes the walk: the stem, and the cycle into the part of the list behind the stem.
+fn write_walk(v: Verdict, walk: &[u16; 512], lent: &mut [u16])
+    requires { ⌜ length (now walk) ≡ 512 ⌝ }
+    ensures { λ r. ⌜ (v .stem ≤ v .length → v .length ≤ 512 → v .length ≤ length (now (lent .entry)) → now (lent .exit) ≡ shownWalk (v .length) (now (walk .entry)) (now (lent .entry))) ⌝ }
+{
+    let stem = v.stem;
+    let length = v.length;
+    if stem <= length {
+        if wide(length) <= lent.len() {
+            write_part(walk, 0, stem, lent);
+            let at = wide(stem);
+            write_part(walk, stem, length - stem, &mut lent[at..]);
+        }
+    }
+}
+
+// What stands in place of a session where a load is refused: it has no state, so every change of it is refused.
+fn no_game() -> Session
+    ensures { λ r. ⌜ r .size ≡ 0 ⌝ }
+{
+    Session {
+        size: 0,
+        start: 0,
+        words: [0; 8],
+        targets: [0; 2048],
+        starts: [0; 513],
+        number: [0; 512],
+        parent: [0; 512],
+        index: [0; 512],
+        probes: [0; 512],
+        stamp: [0; 512],
+        walk: [0; 512],
+        stem: 0,
+        length: 0,
+        total: 0,
+    }
+}
+
+// The probes of the whole search.
+fn total_of(v: Verdict) -> u16
+    ensures { λ r. ⌜ r ≡ plus (v .kept) (v .spent) ⌝ }
+{
+    if v.kept <= 65535 - v.spent {
+        v.kept + v.spent
+    } else {
+        65535
+    }
+}
+
+// Loads a game: the count of states, the start state, the paying words, the moves as a list of numbers, and the list lent for the walk.
+pub fn load(size: u16, start: u16, words: [u64; 8], numbers: &[u16], lent: &mut [u16]) -> Outcome
+    ensures { λ r. ⌜ Loads (record { size = size; start = start; words = words; numbers = now (numbers .entry) }) (now (lent .entry)) r (now (lent .exit)) ⌝ }
+{
+    let mut targets: [u16; 2048] = [0; 2048];
+    let mut starts: [u16; 513] = [0; 513];
+    let n = load_trial(
+        size,
+        start,
+        &words,
+        numbers,
+        &mut targets,
+        &mut starts,
+        lent.len(),
+    );
+    if n != 0 {
+        return Outcome {
+            answer: Answer::Refused(n),
+            session: no_game(),
+        };
+    }
+    let mut number: [u16; 512] = [NONE; 512];
+    let at = wide(start);
+    if at < 512 {
+        number[at] = 0;
+    }
+    let mut parent: [u16; 512] = [start; 512];
+    let mut index: [u16; 512] = [0; 512];
+    let mut probes: [u16; 512] = [0; 512];
+    let mut stamp: [u16; 512] = [NONE; 512];
+    let mut walk: [u16; 512] = [0; 512];
+    let old = Verdict {
+        stem: 0,
+        length: 0,
+        spent: 0,
+        kept: 0,
+    };
+    let v = seek(
+        &targets,
+        &starts,
+        &words,
+        &mut number,
+        &mut parent,
+        &mut index,
+        &mut probes,
+        &mut stamp,
+        &mut walk,
+        start,
+        start,
+        old,
+    );
+    write_walk(v, &walk, lent);
+    Outcome {
+        answer: answer_of(v),
+        session: Session {
+            size,
+            start,
+            words,
+            targets,
+            starts,
+            number,
+            parent,
+            index,
+            probes,
+            stamp,
+            walk,
+            stem: v.stem,
+            length: v.length,
+            total: total_of(v),
+        },
+    }
+}
+
+// A change: a move from one state to another is added or cut. The list lent for the walk comes last.
+pub fn change(s: Session, op: Op, from: u16, to: u16, lent: &mut [u16]) -> Outcome
+    ensures { λ r. ⌜ Changes op from to s (now (lent .entry)) r (now (lent .exit)) ⌝ }
+{
+    let mut targets = s.targets;
+    let mut starts = s.starts;
+    let n = row_trial(op, s.size, &targets, &starts, from, to, lent.len());
+    if n != 0 {
+        return Outcome {
+            answer: Answer::Refused(n),
+            session: s,
+        };
+    }
+    file_one(op, &mut targets, &mut starts, from, to);
+    let words = s.words;
+    let mut number = s.number;
+    let mut parent = s.parent;
+    let mut index = s.index;
+    let mut probes = s.probes;
+    let mut stamp = s.stamp;
+    let mut walk = s.walk;
+    let old = Verdict {
+        stem: s.stem,
+        length: s.length,
+        spent: 0,
+        kept: s.total,
+    };
+    let v = seek(
+        &targets,
+        &starts,
+        &words,
+        &mut number,
+        &mut parent,
+        &mut index,
+        &mut probes,
+        &mut stamp,
+        &mut walk,
+        s.start,
+        from,
+        old,
+    );
+    write_walk(v, &walk, lent);
+    Outcome {
+        answer: answer_of(v),
+        session: Session {
+            size: s.size,
+            start: s.start,
+            words,
+            targets,
+            starts,
+            number,
+            parent,
+            index,
+            probes,
+            stamp,
+            walk,
+            stem: v.stem,
+            length: v.length,
+            total: total_of(v),
+        },
+    }
+}
+
+// Adds a move.
+pub fn add(s: Session, from: u16, to: u16, lent: &mut [u16]) -> Outcome
+    ensures { λ r. ⌜ Changes Op.Add from to s (now (lent .entry)) r (now (lent .exit)) ⌝ }
+{
+    change(s, Op::Add, from, to, lent)
+}
+
+// Cuts a move.
+pub fn cut(s: Session, from: u16, to: u16, lent: &mut [u16]) -> Outcome
+    ensures { λ r. ⌜ Changes Op.Cut from to s (now (lent .entry)) r (now (lent .exit)) ⌝ }
+{
+    change(s, Op::Cut, from, to, lent)
 }

@@ -4,12 +4,13 @@ use mathlib.Core.Logic.{⊎-elim}
 use mathlib.Core.Bool.{false}
 use Prim.Native.Nat.{_+_}
 use native.Mathlib.Omega.{arith}
-use borrow.Author.Tests.{ltb-false, leb-false}
+use borrow.Author.Tests.{leb-true, ltb-true, ltb-false, leb-false}
 use denote.Ref.{now}
 use lib.ListN.{getD}
 use Rattle.rows.specs.Rows.{edgeCount}
 use Rattle.rows.specs.Shift.{shut, turned}
 use Rattle.rows.proofs.Paste.{same-place}
+use Rattle.rows.proofs.Shifts.{shut-size, turned-size}
 use Rattle.rows.proofs.Change.{row-end, removed}
 use borrow.Author.Needs.{needs}
 use Rattle.rows.proofs.remove.Statement.{statement}
@@ -62,22 +63,29 @@ returns c =
     let a = start w .args in
     let xs = now (a .targets) in
     let ss = now (a .starts) in
-    λ good small there.
-    removed xs ss (a .v) (a .k) good small there _ _
-    (c .before .before .shift-down .ensures ∙ ap₂ (shut xs) (found w .0) (found w .1))
-    (c .turn .ensures ∙ ap (turned false ss) (omega arith))
+    let sizes = start w .pre in (
+      λ good small there. removed xs ss (a .v) (a .k) good small there _ _
+          (c .before .before .shift-down .ensures ∙ ap₂ (shut xs) (found w .0) (found w .1)) (c .turn .ensures ∙ ap (turned false ss) (omega arith)),
+      (
+        shut-size xs (w .before .before .before .before .wide2 .result + w .before .before .before .wide3 .result) (w .wide4 .result) (omega (arith, ltb-true)) (omega (arith, leb-true, sizes .0)) _ (c .before .before .shift-down .ensures) ∙ sizes .0,
+        turned-size false ss _ (sizes .1) (omega arith) _ (c .turn .ensures),
+      ),
+    )
 
 returns-2 : tie.Need-returns-2
 returns-2 c =
     let w = c .before in
     let a = start w .args in
     let e = found w in
+    let sizes = start w .pre in (
     λ good small there.
     let end = row-end (now (a .targets)) (now (a .starts)) good (a .v) small in
     let no : ⊥ =
     ⊎-elim (λ l. omega (arith, leb-false, good .within)) (⊎-elim (λ l. omega (arith, ltb-false)) (λ l. omega arith)) (c .if1 .came)
     in
-    absurd no
+    absurd no,
+    sizes,
+    )
 
 pub remove-spec : {M : Type 1} → statement M
 remove-spec =
