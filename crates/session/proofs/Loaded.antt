@@ -55,9 +55,14 @@ room-enough l room e =
 
 module _ (l : Load) (lent lent′ targets starts number parent index probes stamp walk blank-walk : List ℕ) (v : Verdict)
     (yes-it-is : loadTrial l (length lent) ≡ accepted) (filed : Filed (l .numbers) targets starts) (blank-size : length blank-walk ≡ 512)
-    (sought : Sought targets starts (l .words) (l .start) (l .start) (record { stem = 0; length = 0; spent = 0; kept = 0 })
-    (set (replicate 512 none) (l .start) 0) (replicate 512 (l .start)) (replicate 512 0) (replicate 512 0) (replicate 512 none) blank-walk v number parent index probes stamp walk)
+    (number₀ : List ℕ) (start-first : number₀ ≡ set (replicate 512 none) (l .start) 0)
+    (made-search : Sought targets starts (l .words) (l .start) (l .start) (record { stem = 0; length = 0; spent = 0; kept = 0 })
+    number₀ (replicate 512 (l .start)) (replicate 512 0) (replicate 512 0) (replicate 512 none) blank-walk v number parent index probes stamp walk)
     (wrote : v .stem ≤ v .length → v .length ≤ 512 → v .length ≤ length lent → lent′ ≡ shownWalk (v .length) walk lent) where
+  sought : Sought targets starts (l .words) (l .start) (l .start) (record { stem = 0; length = 0; spent = 0; kept = 0 })
+      (set (replicate 512 none) (l .start) 0) (replicate 512 (l .start)) (replicate 512 0) (replicate 512 0) (replicate 512 none) blank-walk v number parent index probes stamp walk
+  sought = rw (sym start-first) made-search
+
   abbrev t : Table
   t = tableOf l
 

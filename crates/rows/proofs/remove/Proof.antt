@@ -78,13 +78,13 @@ returns-2 c =
     let a = start w .args in
     let e = found w in
     let sizes = start w .pre in (
-    λ good small there.
-    let end = row-end (now (a .targets)) (now (a .starts)) good (a .v) small in
-    let no : ⊥ =
-    ⊎-elim (λ l. omega (arith, leb-false, good .within)) (⊎-elim (λ l. omega (arith, ltb-false)) (λ l. omega arith)) (c .if1 .came)
-    in
-    absurd no,
-    sizes,
+      λ good small there.
+          let end = row-end (now (a .targets)) (now (a .starts)) good (a .v) small in
+          let no : ⊥ =
+          ⊎-elim (λ l. omega (arith, leb-false, good .within)) (⊎-elim (λ l. omega (arith, ltb-false)) (λ l. omega arith)) (c .if1 .came)
+          in
+          absurd no,
+      sizes,
     )
 
 pub remove-spec : {M : Type 1} → statement M

@@ -50,9 +50,11 @@ returns c =
     let p = d .before .before in
     let turn = p .before .before .before .before .before in
     let s = turn .before in
-    let a = s .before .before .args in
-    (refused (now (a .numbers)) (s .loop .i) (now (a .targets)) (now (a .starts)) (s .loop .targets) (s .loop .starts) (s .loop .inv .2)
-    (turn .loop-test .taken) (p .place .result) (d .degree .result) (p .place .ensures) (d .degree .ensures) (c .if1 .taken), s .loop .inv .1)
+    let a = s .before .before .args in (
+      refused (now (a .numbers)) (s .loop .i) (now (a .targets)) (now (a .starts)) (s .loop .targets) (s .loop .starts) (s .loop .inv .2)
+          (turn .loop-test .taken) (p .place .result) (d .degree .result) (p .place .ensures) (d .degree .ensures) (c .if1 .taken),
+      s .loop .inv .1,
+    )
 
 insert-requires : tie.Need-insert-requires Inv-loop μ-loop
 insert-requires c κs = search needs

@@ -48,12 +48,14 @@ returns-2 : tie.Need-returns-2
 returns-2 c =
     let p = c .before .before .before in
     let t = p .before .before .before in
-    let a = t .before .before .args in
-    (record {
-      added = λ e w v k. absurd (one-only (a .op) e (t .enum-told2 .given .1));
-      removed = λ e. at-place (now (a .targets)) (now (a .starts)) (c .remove .last .0) (c .remove .last .1 .0) (a .from) (p .place .result)
-          (placeOf (a .to) (rowAt (now (a .targets)) (now (a .starts)) (a .from))) (p .place .ensures) (c .remove .ensures .0);
-    }, record { targets-size = c .remove .ensures .1 .0; starts-size = c .remove .ensures .1 .1 })
+    let a = t .before .before .args in (
+      record {
+        added = λ e w v k. absurd (one-only (a .op) e (t .enum-told2 .given .1));
+        removed = λ e. at-place (now (a .targets)) (now (a .starts)) (c .remove .last .0) (c .remove .last .1 .0) (a .from) (p .place .result)
+            (placeOf (a .to) (rowAt (now (a .targets)) (now (a .starts)) (a .from))) (p .place .ensures) (c .remove .ensures .0);
+      },
+      record { targets-size = c .remove .ensures .1 .0; starts-size = c .remove .ensures .1 .1 },
+    )
 
 pub file-one-spec : {M : Type 1} → statement M
 file-one-spec =

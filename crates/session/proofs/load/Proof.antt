@@ -1,3 +1,15 @@
+use mathlib.Core.Path.{_≡_, refl, sym, ap, _∙_}
+use mathlib.Core.Logic.{⊎-elim}
+use mathlib.Core.List.{List}
+use Prim.Native.Nat.{ℕ, zero, _≤_}
+use native.Mathlib.Omega.{arith}
+use Rattle.plain.specs.Refusals.{Load}
+use denote.Ref.{now}
+use lib.ListN.{length, set, replicate, length-set, length-replicate}
+use lib.Seq.{set-out}
+use Rattle.search.specs.Core.{none}
+use Rattle.session.proofs.Loaded.{load-refused, load-accepted}
+use Rattle.session.proofs.Held.{load-trial-zero}
 use borrow.Author.Needs.{needs}
 use Rattle.session.proofs.load.Statement.{statement}
 use Rattle.session.proofs.load.Tie as tie
@@ -21,7 +33,11 @@ no-game-requires c κs = search needs
 
 -- src/lib.rt:447:9
 returns : tie.Need-returns
-returns c = ?
+returns c =
+    let n = c .before .before in
+    let a = n .before .before .before .before .before .before .args in
+    load-refused (record { size = a .size; start = a .start; words = a .t3; numbers = now (a .numbers) }) (now (a .lent)) (c .no-game .result) (n .load-trial .result) (c .no-game .ensures)
+    (n .load-trial .ensures .0 .number-is refl refl) (c .before .if1 .taken)
 
 -- src/lib.rt:453:9
 wide-requires : tie.Need-wide-requires
@@ -35,13 +51,39 @@ mul-number c = search needs
 array-write-number : tie.Need-array-write-number
 array-write-number c = search needs
 
--- src/lib.rt:468:9
+-- the start state is numbered 0, the others have no number
+blank-then : (start at : ℕ) (number : List ℕ) → at ≡ start → number ≡ set (replicate 512 none) at 0 → number ≡ set (replicate 512 none) start 0
+blank-then start at number e w = w ∙ ap (λ (i : ℕ). set (replicate 512 none) i 0) e
+
+blank-else : (start at : ℕ) (number : List ℕ) → at ≡ start → 512 ≤ at → number ≡ replicate 512 none → number ≡ set (replicate 512 none) start 0
+blank-else start at number e f w = w ∙ sym (set-out (replicate 512 none) start 0 (omega (arith, e, f, length-replicate 512 none)))
+
+blank : (j : tie.Joined2) → j .if2 .number ≡ set (replicate 512 none) (j .before .before .before .before .before .before .before .before .before .args .start) 0
+blank j =
+    let start = j .before .before .before .before .before .before .before .before .before .args .start in
+    let e : j .before .wide .result ≡ start = j .before .wide .ensures .0 in
+    ⊎-elim
+    (λ w. blank-then start (j .before .wide .result) (j .if2 .number) e (w .1))
+    (λ w. blank-else start (j .before .wide .result) (j .if2 .number) e (w .0 .left) (w .1))
+    (j .if2 .came)
+
 seek-requires : tie.Need-seek-requires
-seek-requires c κs = ?
+seek-requires c κs =
+    let j = c .before .before .before .before .before .before .before .before .before in (
+      j .before .before .before .load-trial .ensures .1,
+      record {
+        number-size = ap length (blank j) ∙ length-set (replicate 512 none) (j .before .before .before .before .before .before .before .before .before .args .start) 0 ∙ length-replicate 512 none;
+        parent-size = length-replicate 512 (j .before .before .before .before .before .before .before .before .before .args .start);
+        index-size = length-replicate 512 zero;
+        probes-size = length-replicate 512 zero;
+        stamp-size = length-replicate 512 none;
+        walk-size = length-replicate 512 zero;
+      },
+    )
 
 -- src/lib.rt:482:5
 write-walk-requires : tie.Need-write-walk-requires
-write-walk-requires c κs = ?
+write-walk-requires c κs = c .before .before .seek .ensures .1
 
 -- src/lib.rt:484:17
 answer-of-requires : tie.Need-answer-of-requires
@@ -57,7 +99,18 @@ same-length c = search needs
 
 -- src/lib.rt:432:1
 returns-2 : tie.Need-returns-2
-returns-2 c = ?
+returns-2 c =
+    let w = c .before .before .before .before in
+    let k = w .before .before .before in
+    let j = k .before .before .before .before .before .before .before .before .before .before in
+    let e = j .before .before in
+    let n = e .before in
+    let a = n .before .before .before .before .before .before .args in
+    let l : Load = record { size = a .size; start = a .start; words = a .t3; numbers = now (a .numbers) } in
+    load-accepted l (now (a .lent)) _ _ _ _ _ _ _ _ _ (replicate 512 zero) (k .seek .result)
+    (load-trial-zero l (length (now (a .lent))) (sym (n .load-trial .ensures .0 .number-is refl refl) ∙ e .if1 .left)) (n .load-trial .ensures .0 .filed refl refl (e .if1 .left)) (length-replicate 512 zero)
+    (j .if2 .number) (blank j) (k .seek .ensures .0) (w .write-walk .ensures)
+    (c .before .answer-of .result) (c .total-of .result) (c .before .answer-of .ensures) (c .total-of .ensures)
 
 pub load-spec : {M : Type 1} → statement M
 load-spec =
