@@ -9,12 +9,12 @@ use lib.Dec.{eqb, ltb}
 use lib.ListN.{length, getD, set, take, drop, replicate, length-set, length-map, length-replicate}
 use borrow.Author.Tests.{lt-ltb, le-ltb, le-leb, lt-leb, eq-eqb, ne-eqb}
 use Rattle.plain.specs.Table.{accepts}
-use Rattle.rows.specs.Rows.{rowAt, degreeAt}
+use Rattle.rows.specs.Rows.{degreeAt}
 use Rattle.rows.proofs.Paste.{same-place}
 use Rattle.search.specs.declared.Phase.{Phase}
 use Rattle.search.specs.declared.Phase.the-variants.{Outer, Nested, Exhausted, Found}
 use Rattle.search.specs.declared.Walker.{Walker}
-use Rattle.search.specs.Core.{Core, Sized, Kept, none, choose, coreOf, skipped, left, returned, exhausted, closed, withWalker, discover, leave, nest, deepen, onOpenPath, finish, byPhase, over, targetOf, hasEdge, probed, outerProbe, outerStep, nestedProbe, nestedStep, step, runFor, upTo, climb, retraceWalk, retraceDepth, rewound, up}
+use Rattle.search.specs.Core.{Core, Sized, Recorded, Trailed, Kept, none, choose, coreOf, skipped, left, returned, exhausted, closed, withWalker, discover, leave, nest, deepen, onOpenPath, finish, byPhase, over, targetOf, hasEdge, probed, outerProbe, outerStep, nestedProbe, nestedStep, step, runFor, upTo, climb, retraceWalk, retraceDepth, rewound, up}
 
 -- two walkers, and two cores, with the same fields
 pub same-walker : (a b : Walker) → a .phase ≡ b .phase → a .cur ≡ b .cur → a .next ≡ b .next → a .height ≡ b .height → a .top ≡ b .top
@@ -211,6 +211,27 @@ module _ (s : Core) (z : Sized s) where
   unfolding finish
   finish-sized words = either-sized (accepts words (s .walker .cur)) (nest s) (leave s) nest-sized leave-sized
 
+  pub recorded : Recorded (s .number) (s .parent) (s .index) (s .probes) (s .stamp) (s .walk) (s .depth)
+  recorded = record {
+    number-size = z .number-size;
+    parent-size = z .parent-size;
+    index-size = z .index-size;
+    probes-size = z .probes-size;
+    stamp-size = z .stamp-size;
+    walk-size = z .walk-size;
+    depth-size = z .depth-size;
+  }
+
+  pub trailed : Trailed (s .parent) (s .index) (s .stamp) (s .walk) (s .depth) (s .cursor)
+  trailed = record {
+    parent-size = z .parent-size;
+    index-size = z .index-size;
+    stamp-size = z .stamp-size;
+    walk-size = z .walk-size;
+    depth-size = z .depth-size;
+    cursor-size = z .cursor-size;
+  }
+
 module _ (targets starts words : List ℕ) (s : Core) (z : Sized s) where
   abbrev t : ℕ
   t = targetOf targets starts words s
@@ -249,12 +270,6 @@ module _ (targets starts words : List ℕ) (s : Core) (z : Sized s) where
   pub step-sized : Sized (step targets starts words s)
   unfolding step
   step-sized = phase-sized (s .walker .phase) (outerStep targets starts words s) (nestedStep targets starts words s) s outer-sized nested-sized z
-
--- so is a run of any length
-pub run-sized : (targets starts words : List ℕ) (n : ℕ) (s : Core) → Sized s → Sized (runFor targets starts words n s)
-unfolding runFor
-run-sized targets starts words zero s z = z
-run-sized targets starts words (suc n) s z = run-sized targets starts words n (step targets starts words s) (step-sized targets starts words s z)
 
 -- ---- the loops of a resumption
 

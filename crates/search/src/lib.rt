@@ -309,20 +309,20 @@ fn nested_step(
         return leave(parent, index, w);
     }
     if w.next < rows::degree(starts, w.cur) {
-        let t = look(targets, starts, spent, w.cur, w.next);
-        if on_path(walk, depth, w.height, t) {
+        let u = look(targets, starts, spent, w.cur, w.next);
+        if on_path(walk, depth, w.height, u) {
             return Walker {
                 phase: Phase::Found,
                 cur: w.cur,
                 next: w.next,
-                height: get(depth, t),
+                height: get(depth, u),
                 top: w.top,
                 met: w.met,
                 kept: w.kept,
             };
         }
-        if get(stamp, t) == NONE {
-            return deepen(stamp, walk, cursor, w, t);
+        if get(stamp, u) == NONE {
+            return deepen(stamp, walk, cursor, w, u);
         }
         return skip(w);
     }

@@ -12,7 +12,7 @@ use Rattle.rows.specs.Rows.{rowAt, degreeAt, edgeCount, placeOf, Compressed, In
 use Rattle.search.specs.declared.Phase.{Phase}
 use Rattle.search.specs.declared.Phase.the-variants.{Outer, Nested, Exhausted, Found}
 use Rattle.search.specs.declared.Walker.{Walker}
-use Rattle.search.specs.Core.{Core, none, runFor, rewound, plus}
+use Rattle.search.specs.Core.{Core, none, runFor, rewound}
 use Rattle.session.specs.declared.Op.{Op}
 use Rattle.session.specs.declared.Op.the-variants.{Add, Cut}
 use Rattle.session.specs.declared.Verdict.{Verdict}

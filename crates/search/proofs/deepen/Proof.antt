@@ -4,27 +4,26 @@ use denote.Ref.{now}
 use lib.ListN.{set}
 use Rattle.search.specs.Core.{deepen}
 use Rattle.search.proofs.Ways.{same-walker, same-core}
-use borrow.Author.Needs.{needs}
 use Rattle.search.proofs.deepen.Statement.{statement}
 use Rattle.search.proofs.deepen.Tie as tie
 
 put-requires : tie.Need-put-requires
-put-requires c κs = search needs
+put-requires c κs = c .before .pre .0
 
 put-requires-2 : tie.Need-put-requires-2
-put-requires-2 c κs = search needs
+put-requires-2 c κs = c .before .before .before .pre .1
 
 down-requires : tie.Need-down-requires
-down-requires c κs = search needs
+down-requires c κs = tt
 
 up-requires : tie.Need-up-requires
-up-requires c κs = search needs
+up-requires c κs = tt
 
 put-requires-3 : tie.Need-put-requires-3
-put-requires-3 c κs = search needs
+put-requires-3 c κs = c .before .before .before .before .before .before .before .pre .2
 
 up-requires-2 : tie.Need-up-requires-2
-up-requires-2 c κs = search needs
+up-requires-2 c κs = tt
 
 returns : tie.Need-returns
 unfolding deepen

@@ -4,36 +4,35 @@ use denote.Ref.{now}
 use lib.ListN.{set}
 use Rattle.search.specs.Core.{discover}
 use Rattle.search.proofs.Ways.{same-walker, same-core}
-use borrow.Author.Needs.{needs}
 use Rattle.search.proofs.discover.Statement.{statement}
 use Rattle.search.proofs.discover.Tie as tie
 
 put-requires : tie.Need-put-requires
-put-requires c κs = search needs
+put-requires c κs = c .before .pre .0
 
 put-requires-2 : tie.Need-put-requires-2
-put-requires-2 c κs = search needs
+put-requires-2 c κs = c .before .before .before .pre .1
 
 put-requires-3 : tie.Need-put-requires-3
-put-requires-3 c κs = search needs
+put-requires-3 c κs = c .before .before .before .before .before .pre .2
 
 plus-requires : tie.Need-plus-requires
-plus-requires c κs = search needs
+plus-requires c κs = tt
 
 put-requires-4 : tie.Need-put-requires-4
-put-requires-4 c κs = search needs
+put-requires-4 c κs = c .before .before .before .before .before .before .before .before .pre .3
 
 put-requires-5 : tie.Need-put-requires-5
-put-requires-5 c κs = search needs
+put-requires-5 c κs = c .before .before .before .before .before .before .before .before .before .before .pre .4
 
 put-requires-6 : tie.Need-put-requires-6
-put-requires-6 c κs = search needs
+put-requires-6 c κs = c .before .before .before .before .before .before .before .before .before .before .before .before .pre .5
 
 up-requires : tie.Need-up-requires
-up-requires c κs = search needs
+up-requires c κs = tt
 
 up-requires-2 : tie.Need-up-requires-2
-up-requires-2 c κs = search needs
+up-requires-2 c κs = tt
 
 returns : tie.Need-returns
 unfolding discover

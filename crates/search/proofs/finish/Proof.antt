@@ -4,7 +4,6 @@ use denote.Ref.{now}
 use Rattle.plain.specs.Table.{accepts}
 use Rattle.search.specs.Core.{Core, coreOf, nest}
 use Rattle.search.proofs.Ways.{same-core, finish-nests, finish-leaves}
-use borrow.Author.Needs.{needs}
 use Rattle.search.proofs.finish.Statement.{statement}
 use Rattle.search.proofs.finish.Tie as tie
 
@@ -13,13 +12,13 @@ answer : (c : tie.After-accepts-in) → c .accepts-in .result ≡ accepts (now (
 answer c = c .accepts-in .ensures ∙ ap (accepts (now (c .before .before .before .args .words))) (c .before .wide .ensures .0)
 
 wide-requires : tie.Need-wide-requires
-wide-requires c κs = search needs
+wide-requires c κs = tt
 
 accepts-in-requires : tie.Need-accepts-in-requires
-accepts-in-requires c κs = search needs
+accepts-in-requires c κs = tt
 
 put-requires : tie.Need-put-requires
-put-requires c κs = search needs
+put-requires c κs = c .before .before .before .before .before .pre .2
 
 returns : tie.Need-returns
 unfolding nest
@@ -31,7 +30,7 @@ returns c = λ spent number probes walk depth cursor.
     ∙ finish-nests (now (a .words)) s (sym (answer (i .before)) ∙ i .if1 .taken)
 
 leave-requires : tie.Need-leave-requires
-leave-requires c κs = search needs
+leave-requires c κs = (c .before .before .before .before .pre .0, c .before .before .before .before .pre .1)
 
 returns-2 : tie.Need-returns-2
 returns-2 c = λ spent number probes walk depth cursor.

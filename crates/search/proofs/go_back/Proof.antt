@@ -1,12 +1,11 @@
 -- `go_back` meets its contract. Assumes nothing.
 use denote.Ref.{now}
 use Rattle.search.proofs.Ways.{back-out, back-down}
-use borrow.Author.Needs.{needs}
 use Rattle.search.proofs.go_back.Statement.{statement}
 use Rattle.search.proofs.go_back.Tie as tie
 
 down-requires : tie.Need-down-requires
-down-requires c κs = search needs
+down-requires c κs = tt
 
 returns : tie.Need-returns
 returns c =
@@ -15,13 +14,13 @@ returns c =
     back-out (now (a .walk)) (now (a .cursor)) (a .w) _ (d .down .ensures) (c .if1 .taken)
 
 down-requires-2 : tie.Need-down-requires-2
-down-requires-2 c κs = search needs
+down-requires-2 c κs = tt
 
 get-requires : tie.Need-get-requires
-get-requires c κs = search needs
+get-requires c κs = c .before .before .before .before .pre .0
 
 get-requires-2 : tie.Need-get-requires-2
-get-requires-2 c κs = search needs
+get-requires-2 c κs = c .before .before .before .before .before .pre .1
 
 returns-2 : tie.Need-returns-2
 returns-2 c =

@@ -2,21 +2,20 @@
 use mathlib.Core.Path.{refl, ap, _∙_}
 use Rattle.search.specs.Core.{up}
 use Rattle.search.proofs.Ways.{same-walker}
-use borrow.Author.Needs.{needs}
 use Rattle.search.proofs.leave.Statement.{statement}
 use Rattle.search.proofs.leave.Tie as tie
 
 down-requires : tie.Need-down-requires
-down-requires c κs = search needs
+down-requires c κs = tt
 
 get-requires : tie.Need-get-requires
-get-requires c κs = search needs
+get-requires c κs = c .before .pre .0
 
 get-requires-2 : tie.Need-get-requires-2
-get-requires-2 c κs = search needs
+get-requires-2 c κs = c .before .before .pre .1
 
 up-requires : tie.Need-up-requires
-up-requires c κs = search needs
+up-requires c κs = tt
 
 returns : tie.Need-returns
 returns c =

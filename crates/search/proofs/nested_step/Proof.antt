@@ -5,7 +5,6 @@ use Prim.Native.Nat.{ℕ}
 use denote.Ref.{now}
 use Rattle.search.specs.Core.{Core, coreOf}
 use Rattle.search.proofs.Ways.{nested-leaves, nested-closes, nested-deepens, nested-skips, nested-returns}
-use borrow.Author.Needs.{needs}
 use Rattle.search.proofs.nested_step.Statement.{statement}
 use Rattle.search.proofs.nested_step.Tie as tie
 
@@ -16,7 +15,7 @@ at c number probes =
     coreOf (a .w) (now (a .spent)) number (now (a .parent)) (now (a .index)) probes (now (a .stamp)) (now (a .walk)) (now (a .depth)) (now (a .cursor))
 
 leave-requires : tie.Need-leave-requires
-leave-requires c κs = search needs
+leave-requires c κs = let z = c .before .before .pre .1 in (z .parent-size, z .index-size)
 
 returns : tie.Need-returns
 returns c = λ words number probes.
@@ -24,16 +23,16 @@ returns c = λ words number probes.
     nested-leaves (now (b .args .targets)) (now (b .args .starts)) words (at b number probes) _ (c .leave .ensures) (c .before .if1 .taken)
 
 degree-requires : tie.Need-degree-requires
-degree-requires c κs = search needs
+degree-requires c κs = c .before .before .pre .0 .starts-size
 
 look-requires : tie.Need-look-requires
-look-requires c κs = search needs
+look-requires c κs = c .before .before .before .before .before .before .pre .0
 
 on-path-requires : tie.Need-on-path-requires
-on-path-requires c κs = search needs
+on-path-requires c κs = let z = c .before .before .before .before .before .before .before .before .pre .1 in (z .walk-size, z .depth-size)
 
 get-requires : tie.Need-get-requires
-get-requires c κs = search needs
+get-requires c κs = c .before .before .before .before .before .before .before .before .before .before .pre .1 .depth-size
 
 returns-2 : tie.Need-returns-2
 returns-2 c = λ words number probes.
@@ -47,10 +46,10 @@ returns-2 c = λ words number probes.
     (l .look .ensures .1) (m .if2 .taken) (e .if1 .left) _ (c .get .ensures) (sym (o .on-path .ensures) ∙ c .before .if3 .taken)
 
 get-requires-2 : tie.Need-get-requires-2
-get-requires-2 c κs = search needs
+get-requires-2 c κs = c .before .before .before .before .before .before .before .before .before .before .before .pre .1 .stamp-size
 
 deepen-requires : tie.Need-deepen-requires
-deepen-requires c κs = search needs
+deepen-requires c κs = let z = c .before .before .before .before .before .before .before .before .before .before .before .before .before .before .before .before .pre .1 in (z .stamp-size, z .walk-size, z .cursor-size)
 
 returns-3 : tie.Need-returns-3
 returns-3 c = λ words number probes.
@@ -68,7 +67,7 @@ returns-3 c = λ words number probes.
     (l .look .ensures .1) (m .if2 .taken) (e .if1 .left) (sym (o .on-path .ensures) ∙ n .if3 .left) (sym (g .get2 .ensures) ∙ i .if4 .taken)
 
 skip-requires : tie.Need-skip-requires
-skip-requires c κs = search needs
+skip-requires c κs = tt
 
 returns-4 : tie.Need-returns-4
 returns-4 c = λ words number probes.
@@ -85,7 +84,7 @@ returns-4 c = λ words number probes.
     (λ z. c .before .if4 .left (g .get2 .ensures ∙ z))
 
 go-back-requires : tie.Need-go-back-requires
-go-back-requires c κs = search needs
+go-back-requires c κs = let z = c .before .before .before .before .before .before .before .pre .1 in (z .walk-size, z .cursor-size)
 
 returns-5 : tie.Need-returns-5
 returns-5 c = λ words number probes.

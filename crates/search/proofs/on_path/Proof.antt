@@ -1,15 +1,14 @@
 -- `on_path` meets its contract. Assumes nothing.
 use denote.Ref.{now}
 use Rattle.search.proofs.Ways.{on-path-below, on-path-above}
-use borrow.Author.Needs.{needs}
 use Rattle.search.proofs.on_path.Statement.{statement}
 use Rattle.search.proofs.on_path.Tie as tie
 
 get-requires : tie.Need-get-requires
-get-requires c κs = search needs
+get-requires c κs = c .pre .1
 
 get-requires-2 : tie.Need-get-requires-2
-get-requires-2 c κs = search needs
+get-requires-2 c κs = c .before .before .pre .0
 
 returns : tie.Need-returns
 returns c =

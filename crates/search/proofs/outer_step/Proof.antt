@@ -5,7 +5,6 @@ use Prim.Native.Nat.{ℕ}
 use denote.Ref.{now}
 use Rattle.search.specs.Core.{Core, coreOf}
 use Rattle.search.proofs.Ways.{outer-ends, outer-discovers, outer-skips, outer-finishes}
-use borrow.Author.Needs.{needs}
 use Rattle.search.proofs.outer_step.Statement.{statement}
 use Rattle.search.proofs.outer_step.Tie as tie
 
@@ -20,16 +19,16 @@ returns : tie.Need-returns
 returns c = λ cursor. let a = c .before .before .args in outer-ends (now (a .targets)) (now (a .starts)) (now (a .words)) (at (c .before .before) cursor) (c .if1 .taken)
 
 degree-requires : tie.Need-degree-requires
-degree-requires c κs = search needs
+degree-requires c κs = c .before .before .pre .0 .starts-size
 
 look-requires : tie.Need-look-requires
-look-requires c κs = search needs
+look-requires c κs = c .before .before .before .before .before .before .pre .0
 
 get-requires : tie.Need-get-requires
-get-requires c κs = search needs
+get-requires c κs = c .before .before .before .before .before .before .before .before .pre .1 .number-size
 
 discover-requires : tie.Need-discover-requires
-discover-requires c κs = search needs
+discover-requires c κs = let z = c .before .before .before .before .before .before .before .before .before .before .before .before .before .before .before .before .before .pre .1 in (z .number-size, z .parent-size, z .index-size, z .probes-size, z .walk-size, z .depth-size)
 
 returns-2 : tie.Need-returns-2
 returns-2 c = λ cursor.
@@ -45,7 +44,7 @@ returns-2 c = λ cursor.
     (l .look .ensures .1) (m .if2 .taken) (e .if1 .left) (sym (g .get .ensures) ∙ i .if3 .taken)
 
 skip-requires : tie.Need-skip-requires
-skip-requires c κs = search needs
+skip-requires c κs = tt
 
 returns-3 : tie.Need-returns-3
 returns-3 c = λ cursor.
@@ -59,7 +58,7 @@ returns-3 c = λ cursor.
     (l .look .ensures .1) (m .if2 .taken) (e .if1 .left) _ (c .skip .ensures) (λ z. c .before .if3 .left (g .get .ensures ∙ z))
 
 finish-requires : tie.Need-finish-requires
-finish-requires c κs = search needs
+finish-requires c κs = let z = c .before .before .before .before .before .before .before .before .pre .1 in (z .parent-size, z .index-size, z .stamp-size)
 
 returns-4 : tie.Need-returns-4
 returns-4 c = λ cursor.

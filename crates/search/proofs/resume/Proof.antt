@@ -1,11 +1,11 @@
 -- `resume` meets its contract: what it makes of the arrays is the search as it stood, and `run` goes on from there. Assumes nothing.
 use mathlib.Core.Path.{_≡_, sym, ap, subst, _∙_}
+use Prim.Native.Nat.{ℕ}
 use denote.Ref.{now}
-use lib.ListN.{replicate}
+use lib.ListN.{replicate, length-replicate}
 use Rattle.search.specs.declared.Phase.the-variants.{Outer}
 use Rattle.search.specs.Core.{Core, Sized, coreOf, rewound, runFor, result}
 use Rattle.search.proofs.Ways.{rewound-by, rewound-sized}
-use borrow.Author.Needs.{needs}
 use Rattle.search.proofs.resume.Statement.{statement}
 use Rattle.search.proofs.resume.Tie as tie
 
@@ -48,25 +48,25 @@ lent-is c =
     (r .retrace .ensures .0) (r .retrace .ensures .1) (u .up .ensures) (c .get2 .ensures)
 
 get-requires : tie.Need-get-requires
-get-requires c κs = search needs
+get-requires c κs = c .before .pre .1 .number-size
 
 keep-up-to-requires : tie.Need-keep-up-to-requires
-keep-up-to-requires c κs = search needs
+keep-up-to-requires c κs = c .before .before .before .pre .1 .number-size
 
 keep-up-to-requires-2 : tie.Need-keep-up-to-requires-2
-keep-up-to-requires-2 c κs = search needs
+keep-up-to-requires-2 c κs = c .before .before .before .before .before .pre .1 .stamp-size
 
 climb-requires : tie.Need-climb-requires
-climb-requires c κs = search needs
+climb-requires c κs = c .before .before .before .before .before .before .before .pre .1 .parent-size
 
 retrace-requires : tie.Need-retrace-requires
-retrace-requires c κs = search needs
+retrace-requires c κs = let z = c .before .before .before .before .before .before .before .before .before .before .before .pre .1 in (z .parent-size, z .walk-size, length-replicate {A = ℕ} 512 0)
 
 up-requires : tie.Need-up-requires
-up-requires c κs = search needs
+up-requires c κs = tt
 
 get-requires-2 : tie.Need-get-requires-2
-get-requires-2 c κs = search needs
+get-requires-2 c κs = c .before .before .before .before .before .before .before .before .before .before .before .before .before .before .pre .1 .probes-size
 
 run-requires : tie.Need-run-requires
 run-requires c κs =

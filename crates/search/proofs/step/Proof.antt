@@ -3,8 +3,7 @@ use mathlib.Core.Path.{_∙_}
 use denote.Ref.{now}
 use Rattle.search.specs.declared.Phase.the-variants.{Outer, Nested, Exhausted, Found}
 use Rattle.search.specs.Core.{Core, coreOf}
-use Rattle.search.proofs.Ways.{step-at}
-use borrow.Author.Needs.{needs}
+use Rattle.search.proofs.Ways.{recorded, trailed, step-at}
 use Rattle.search.proofs.step.Statement.{statement}
 use Rattle.search.proofs.step.Tie as tie
 
@@ -16,22 +15,22 @@ at c =
     (now (a .cursor))
 
 enum-told : tie.Need-enum-told
-enum-told c = search needs
+enum-told c = c .match .keys1
 
 outer-step-requires : tie.Need-outer-step-requires
-outer-step-requires c κs = search needs
+outer-step-requires c κs = let b = c .before .before .before .before .before .before .before .before .before .before in (b .pre .0, recorded (at b) (b .pre .1))
 
 enum-told-2 : tie.Need-enum-told-2
-enum-told-2 c = search needs
+enum-told-2 c = c .match .keys2
 
 nested-step-requires : tie.Need-nested-step-requires
-nested-step-requires c κs = search needs
+nested-step-requires c κs = let b = c .before .before .before .before .before .before .before .before .before in (b .pre .0, trailed (at b) (b .pre .1))
 
 enum-told-3 : tie.Need-enum-told-3
-enum-told-3 c = search needs
+enum-told-3 c = c .match .keys3
 
 enum-told-4 : tie.Need-enum-told-4
-enum-told-4 c = search needs
+enum-told-4 c = c .match .keys4
 
 returns : tie.Need-returns
 returns c =
