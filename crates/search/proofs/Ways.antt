@@ -271,6 +271,12 @@ module _ (targets starts words : List ℕ) (s : Core) (z : Sized s) where
   unfolding step
   step-sized = phase-sized (s .walker .phase) (outerStep targets starts words s) (nestedStep targets starts words s) s outer-sized nested-sized z
 
+-- so is a run of any length
+pub run-sized : (targets starts words : List ℕ) (n : ℕ) (s : Core) → Sized s → Sized (runFor targets starts words n s)
+unfolding runFor
+run-sized targets starts words zero s z = z
+run-sized targets starts words (suc n) s z = run-sized targets starts words n (step targets starts words s) (step-sized targets starts words s z)
+
 -- ---- the loops of a resumption
 
 -- the first i entries rewritten by f, the rest as they were
