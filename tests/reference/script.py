@@ -1,0 +1,486 @@
+#!/usr/bin/env python3
+"""Scripts for the small test program, and the output expected of it.
+
+    python3 script.py SEED KIND                       the script, to stdout
+    python3 script.py --expected SEED KIND            the expected output
+    python3 script.py --write SEED KIND SCRIPT OUTPUT both, into two files
+    python3 script.py --replay < script               expected output of any script
+    python3 script.py --stats SEED                    what the scripts contain
+
+KIND is games, edges, small, full, or all (the four as one script, one end).
+"""
+
+import random
+import struct
+import sys
+from collections import Counter
+
+import reference
+from reference import Table, flat, words_of
+
+LENT = 600
+LIMITS = {"games": 2500, "edges": 28000, "small": 20000, "full": 13500}   # bytes
+assert sum(LIMITS.values()) <= 64000
+
+
+# ------------------------------------------------------- expected output
+
+def replay(script):
+    """Read a script as the test program does; give its output as bytes."""
+    numbers = iter(struct.unpack("<%dH" % (len(script) // 2), script))
+    take = lambda count: [next(numbers) for _ in range(count)]
+    table = Table()
+    out = []
+    while True:
+        op = next(numbers)
+        if op == 0:
+            break
+        lent = [40000 + i for i in range(LENT)]
+        if op == 1:
+            size, start = take(2)
+            parts = take(32)
+            words = [sum(parts[4 * w + i] << (16 * i) for i in range(4)) for w in range(8)]
+            count = next(numbers)
+            moves = take(count)
+            room = next(numbers)
+            call = lambda: table.load(size, start, words, moves, room)
+        else:
+            assert op in (2, 3)
+            a, b, room = take(3)
+            call = lambda: (table.add if op == 2 else table.cut)(a, b, room)
+        assert room <= LENT
+        answer = call()
+        if answer[0] == "no":
+            out += [0, answer[1]]
+        elif answer[0] == "none":
+            out += [1, answer[1], answer[2]]
+        else:
+            _, spent, kept, stem, round_ = answer
+            walk = stem + round_
+            assert len(walk) <= room
+            lent[:len(walk)] = walk
+            out += [2, spent, kept, len(stem), len(round_)] + walk
+        out.append(sum((i + 1) * x for i, x in enumerate(lent)) % 65521)
+    assert next(numbers, None) is None
+    return "".join("%d\n" % n for n in out).encode()
+
+
+# ------------------------------------------------------- making of scripts
+
+class Script:
+    """Collects calls; runs each at once, so that the next can look at the table."""
+
+    def __init__(self):
+        self.numbers = []
+        self.table = Table()
+        self.answers = []
+
+    def _said(self, answer, want):
+        if want is not None:
+            got = answer[1] if answer[0] == "no" else answer[0]
+            assert got == want, (got, want)
+        self.answers.append(answer)
+        return answer
+
+    def load(self, size, start, pay, numbers, room=None, want=None):
+        """pay: states; want: the verdict or the number that must come out."""
+        room = size if room is None else room
+        words = words_of(pay)
+        self.numbers += [1, size, start]
+        self.numbers += [w >> (16 * i) & 0xFFFF for w in words for i in range(4)]
+        self.numbers += [len(numbers), *numbers, room]
+        return self._said(self.table.load(size, start, words, numbers, room), want)
+
+    def change(self, word, a, b, room=None, want=None):
+        assert self.table.loaded
+        room = self.table.size if room is None else room
+        self.numbers += [2 if word == "add" else 3, a, b, room]
+        return self._said(getattr(self.table, word)(a, b, room), want)
+
+    def add(self, a, b, room=None, want=None):
+        return self.change("add", a, b, room, want)
+
+    def cut(self, a, b, room=None, want=None):
+        return self.change("cut", a, b, room, want)
+
+    def size_in_bytes(self):
+        return 2 * len(self.numbers)
+
+    def data(self):
+        assert all(0 <= n < 65536 for n in self.numbers)
+        return struct.pack("<%dH" % len(self.numbers), *self.numbers)
+
+
+def make_games(s, rng):
+    for name, size, pay, moves, first, changes in reference.GAMES:
+        for room in (size - 1, size):          # refused with 11, then accepted
+            answer = s.load(size, 0, pay, flat(moves), room)
+            assert answer == (("no", 11) if room < size else first), name
+        for word, a, b, wanted in changes:
+            assert s.change(word, a, b) == wanted, name
+        s.add(size, 0, want=6)
+        s.cut(0, size, want=6)
+        s.add(0, 0, want=7)
+        s.cut(0, 0, want=7)
+        if moves:
+            s.add(*s.table.moves[-1], want=8)
+            s.cut(*s.table.moves[0], room=size - 1, want=11)
+            s.cut(*s.table.moves[0], room=LENT)
+
+
+def distinct_moves(rng, size, count, banned=()):
+    moves = set(banned)
+    out = []
+    while len(out) < count:
+        a, b = rng.randrange(size), rng.randrange(size)
+        if a != b and (a, b) not in moves:
+            moves.add((a, b))
+            out.append((a, b))
+    return out
+
+
+def make_edges(s, rng):
+    # the count of states
+    s.load(1, 0, [], [], want="none")
+    s.add(0, 0, want=7)
+    s.add(0, 1, want=6)
+    s.cut(1, 0, want=6)
+    s.load(1, 0, [0], [], want="none")
+    s.load(1, 0, [0], [], room=0, want=11)
+    s.load(1, 0, [], [0, 0], want=7)
+    s.load(1, 0, [], [0, 1], want=6)
+    s.load(0, 0, [], [], want=2)
+    s.load(0, 5, [3], [1], room=0, want=2)
+    s.load(512, 0, [], [], want="none")
+    s.load(513, 0, [], [], room=600, want=2)
+    s.load(513, 513, [511], [7, 7, 7], room=0, want=2)
+    s.load(65535, 0, [], [], room=600, want=2)
+
+    # the start state
+    s.load(512, 511, [511], [511, 0, 0, 511], want="round")
+    s.cut(0, 511, want="none")
+    s.add(0, 511, want="round")
+    s.add(511, 510, want="round")
+    s.load(512, 512, [], [], room=600, want=3)
+    s.load(512, 65535, [], [], room=600, want=3)
+    s.load(2, 2, [2], [0], room=0, want=3)
+    s.load(1, 1, [], [], want=3)
+
+    # marks
+    for n in (1, 63, 64, 65, 127, 128, 448, 511):
+        s.load(n, n - 1, [n], [], want=4)
+    s.load(2, 0, [511], [0], room=0, want=4)
+    s.load(64, 0, [63], [0, 63, 63, 0], want="round")
+    pay = [t for t in range(1, 512) if rng.random() < 0.5]
+    pay = sorted(set(pay) ^ {63, 127})
+    s.load(512, 0, pay, [], want="none")
+    probes = [1, 15, 16, 31, 32, 62, 63, 64, 65, 127, 128, 191, 192, 255, 256, 319, 320,
+              383, 384, 447, 448, 510, 511]
+    for t in probes:
+        s.add(t, 0)
+        s.add(0, t, want="round" if t in pay else "none")
+        s.cut(0, t, want="none")
+
+    # the list
+    s.load(3, 0, [], [0], want=5)
+    s.load(3, 0, [], [0, 1, 1], want=5)
+    s.load(3, 0, [], [3, 0, 1, 1, 9], room=0, want=5)
+    two = [[0, 1], [1, 2]]
+    for bad6 in ([0, 3], [3, 0], [65535, 2]):
+        for at in range(3):                     # 6 first, middle, last
+            rest = two[:at] + [bad6] + two[at:]
+            s.load(3, 0, [], sum(rest, []), want=6)
+    for six in range(4):                        # 6 with 7 and 8, in any place
+        rest = [[1, 1], [0, 1], [0, 1]]
+        rest.insert(six, [0, 3])
+        s.load(3, 0, [], sum(rest, []), room=0, want=6)
+    for seven in range(4):                      # 7 with 8, in any place
+        rest = [[0, 1], [1, 2], [0, 1]]
+        rest.insert(seven, [2, 2])
+        s.load(3, 0, [], sum(rest, []), room=0, want=7)
+    s.load(3, 0, [], [0, 1, 0, 1], want=8)
+    s.load(3, 0, [], [0, 1, 1, 2, 2, 0, 0, 1], room=2, want=8)
+    s.load(3, 0, [], [1, 2, 0, 1, 2, 1, 2, 1], want=8)
+    s.load(3, 0, [], [0, 1, 1, 0], room=3, want="none")
+
+    # the lent list
+    for pay, verdict in (([1], "round"), ([], "none")):
+        moves = [1, 2, 2, 1, 2, 3]
+        s.load(4, 1, pay, moves, room=0, want=11)
+        s.load(4, 1, pay, moves, room=3, want=11)
+        s.load(4, 1, pay, moves, room=5, want=verdict)
+        s.load(4, 1, pay, moves, room=600, want=verdict)
+        s.load(4, 1, pay, moves, room=4, want=verdict)
+        s.add(3, 0, room=3, want=11)
+        s.add(3, 0, room=5, want=verdict)
+        s.add(2, 3, room=3, want=8)
+        s.cut(0, 3, room=0, want=10)
+        s.cut(0, 0, room=0, want=7)
+        s.cut(4, 4, room=0, want=6)
+        s.cut(0, 3, room=4, want=10)
+        s.cut(1, 2, room=0, want=11)            # would be none
+        s.cut(1, 2, room=4, want="none")
+        s.cut(1, 2, room=4, want=10)
+        s.add(1, 2, room=3, want=11)
+        s.add(1, 2, room=600, want=verdict)
+
+    # the longest walk: all 512 states
+    ring = [(i, (i + 1) % 512) for i in range(512)]
+    s.load(512, 0, [511], flat(ring), room=511, want=11)
+    answer = s.load(512, 0, [511], flat(ring), room=600, want="round")
+    assert len(answer[3]) == 0 and len(answer[4]) == 512
+    s.add(511, 510, want="round")
+    s.cut(511, 0, room=511, want=11)
+    answer = s.cut(511, 0, room=512, want="round")
+    assert len(answer[3]) == 510 and len(answer[4]) == 2
+    s.cut(511, 510, want="none")
+    answer = s.add(511, 256, want="round")
+    assert len(answer[3]) == 256 and len(answer[4]) == 256
+
+    # the full table
+    size = 512
+    moves = distinct_moves(rng, size, 2049)
+    pay = rng.sample(range(size), 3)
+    s.load(size, 0, pay, flat(moves), room=600, want=5)
+    moves.pop()
+    s.load(size, 0, pay, flat(moves), room=600)
+    assert len(s.table.moves) == 2048
+    new = distinct_moves(rng, size, 6, moves)
+    s.add(*moves[0], want=8)
+    s.add(*moves[2047], room=0, want=8)
+    s.add(*new[0], want=9)
+    s.add(*new[0], room=0, want=9)
+    s.add(5, 5, room=0, want=7)
+    s.add(5, 512, room=0, want=6)
+    s.cut(*new[0], room=0, want=10)
+    s.cut(*moves[9], room=511, want=11)
+    s.add(*new[0], want=9)
+    s.cut(*moves[9])
+    s.add(*moves[9])                            # cut and added again
+    s.add(*new[0], want=9)
+    for i in range(6):                          # the place of a cut move is free
+        s.cut(*moves[[0, 2047, 1000, 1, 2046, 500][i]])
+        s.add(*new[i], room=511, want=11)
+        s.add(*new[i])
+        s.add(*new[i], want=8)
+        s.add(*moves[0], want=9)
+
+
+def make_small(s, rng, limit):
+    while True:
+        room_left = limit - s.size_in_bytes()
+        if room_left < 900:                     # one session is always below this
+            return
+        small_session(s, rng)
+
+
+def small_room(rng, size):
+    dice = rng.random()
+    if dice < 0.06:
+        return rng.randrange(size)
+    return size if dice < 0.6 else rng.randint(size, LENT)
+
+
+def small_session(s, rng):
+    size = rng.choice((1, 2, 3, 3, 4, 4, 5, 5, 6, 6, 7, 7, 8, 8))
+    every = [(a, b) for a in range(size) for b in range(size) if a != b]
+    wanted = min(len(every), int(size * rng.uniform(0.6, 2.2)))
+    moves = rng.sample(every, wanted)
+    density = rng.choice((0.15, 0.3, 0.5, 0.8))
+    pay = [t for t in range(size) if rng.random() < density]
+    start = rng.randrange(size)
+    numbers = flat(moves)
+    if rng.random() < 0.15:                     # a load that is mostly refused
+        fault = rng.randrange(6)
+        if fault == 0:
+            s.load(rng.choice((0, 513)), start, pay, numbers, small_room(rng, size))
+        elif fault == 1:
+            s.load(size, rng.randint(size, size + 3), pay, numbers, size)
+        elif fault == 2:
+            s.load(size, start, pay + [rng.randint(size, 511)], numbers, size)
+        elif fault == 3:
+            s.load(size, start, pay, numbers + [0], size)
+        else:
+            bad = [[rng.randint(0, size), rng.randint(0, size)] for _ in range(2)]
+            at = 2 * rng.randint(0, len(moves))
+            s.load(size, start, pay, numbers[:at] + sum(bad, []) + numbers[at:], size)
+    if s.load(size, start, pay, numbers, small_room(rng, size))[0] == "no":
+        s.load(size, start, pay, numbers)
+    table = s.table
+    last_cut = None
+
+    def pick(moves):                            # rather one that leaves a met state
+        near = [m for m in moves if m[0] in table.run.met_after]
+        return rng.choice(near if near and rng.random() < 0.6 else moves)
+
+    for _ in range(rng.randint(16, 36) if size > 1 else 3):
+        room = small_room(rng, size)
+        dice = rng.random()
+        absent = [m for m in every if m not in table.moves]
+        if dice < 0.04 or size == 1:
+            a, b = rng.randrange(size), size + rng.choice((0, 0, 1, 57, 60000))
+            if rng.random() < 0.5:
+                a, b = b, a
+            s.change(rng.choice(("add", "cut")), a, b, room)
+            a = rng.randrange(size)
+            s.change(rng.choice(("add", "cut")), a, a, room)
+        elif dice < 0.08 and table.moves:
+            s.add(*rng.choice(table.moves), room)
+        elif dice < 0.12 and absent:
+            s.cut(*rng.choice(absent), room)
+        elif dice < 0.27 and last_cut in absent:
+            s.add(*last_cut, room)
+        elif absent and rng.random() < (0.65 if len(table.moves) < wanted else 0.35):
+            s.add(*pick(absent), room)
+        elif table.moves:
+            move = pick(table.moves)
+            s.cut(*move, room)
+            last_cut = move
+
+
+def make_full(s, rng, limit):
+    """Moves lead mostly onwards in a hidden order; the moves that lead back and
+    close a round through a paying state come and go with the changes."""
+    size = 512
+    order = list(range(size))
+    rng.shuffle(order)
+    start = order[0]
+    place = {t: i for i, t in enumerate(order)}
+    pay = [order[0]] + [order[i] for i in rng.sample(range(1, size), 30)]
+    back_part = []
+
+    def onward(i):
+        far = 12 if rng.random() < 0.9 else 200
+        return order[i], order[min(size - 1, i + rng.randint(1, far))]
+
+    def back(i):
+        return order[i], order[max(0, i - rng.randint(1, 12))]
+
+    moves = []
+    def put(move):
+        if move[0] != move[1] and move not in seen:
+            seen.add(move)
+            moves.append(move)
+    seen = set()
+    # back moves that close no paying round: inside stretches without paying states
+    paying = set(pay)
+    stretches, first = [], 0
+    for i in range(size + 1):
+        if i == size or order[i] in paying:
+            if i - first >= 6:
+                stretches.append((first, i - 1))
+            first = i + 1
+    while len(moves) < 60:
+        low, high = rng.choice(stretches)
+        i, j = sorted((rng.randint(low, high), rng.randint(low, high)))
+        put((order[j], order[i]))
+    while len(moves) < 2044:
+        put(onward(rng.randrange(size - 1)))
+    rng.shuffle(moves)
+    s.load(size, start, pay, flat(moves), want="none")
+
+    table = s.table
+    last_cut = None
+    while s.size_in_bytes() + 40 <= limit:
+        room = size if rng.random() < 0.7 else rng.randint(size, LENT)
+        if rng.random() < 0.02:
+            room = rng.randint(0, size - 1)
+        met = list(table.run.met_after)
+        where = rng.random()
+        if where < 0.10:
+            state = start
+        elif where < 0.30:
+            state = met[rng.randrange(min(len(met), 12))]         # met early
+        elif where < 0.55:
+            state = met[rng.randrange(len(met) // 2, len(met))]   # met late
+        else:
+            state = rng.randrange(size)
+        mine = [m for m in table.moves if m[0] == state]
+        dice = rng.random()
+        if dice < 0.03:
+            s.add(*rng.choice(table.moves), room, want=8)
+        elif dice < 0.05:
+            s.cut(*distinct_moves(rng, size, 1, table.moves)[0], room, want=10)
+        elif dice < 0.06:
+            s.add(state, state, room, want=7)
+        elif dice < 0.07:
+            s.cut(size, state, room, want=6)
+        elif back_part and dice < 0.28:         # open a closed round again
+            walk = table.run.stem + table.run.round
+            on_walk = [m for m in back_part if m[0] in walk and m[1] in walk]
+            move = rng.choice(on_walk or back_part)
+            back_part.remove(move)
+            if move in table.moves:
+                s.cut(*move, room)
+        elif dice < 0.34:                       # a move that may close a round
+            move = back(place[rng.choice(pay)] if rng.random() < 0.4 else place[state])
+            if move[0] != move[1] and move not in table.moves:
+                if s.add(*move, room)[0] != "no":
+                    back_part.append(move)
+        elif dice < 0.42 and last_cut and last_cut not in table.moves:
+            s.add(*last_cut, room)
+        elif mine and dice < (0.95 if len(table.moves) >= 2047 else 0.68):
+            last_cut = rng.choice(mine)
+            s.cut(*last_cut, room)
+            if rng.random() < 0.4:
+                s.add(*last_cut, room)
+        else:
+            move = onward(place[state])
+            if move[0] != move[1] and move not in table.moves:
+                s.add(*move, room)
+
+
+MAKERS = {"games": make_games, "edges": make_edges, "small": make_small, "full": make_full}
+
+
+def make(seed, kind):
+    """The finished Script of a kind."""
+    whole = Script()
+    for name in MAKERS if kind == "all" else [kind]:
+        part = Script()
+        rng = random.Random("%d %s" % (seed, name))
+        if name in ("small", "full"):
+            MAKERS[name](part, rng, LIMITS[name] - 2)
+        else:
+            MAKERS[name](part, rng)
+        assert part.size_in_bytes() + 2 <= LIMITS[name], (name, part.size_in_bytes())
+        whole.numbers += part.numbers
+        whole.answers += part.answers
+    whole.numbers.append(0)
+    return whole
+
+
+def stats(seed):
+    for kind in list(MAKERS) + ["all"]:
+        s = make(seed, kind)
+        print(kind, "script", len(s.data()), "bytes; output", len(replay(s.data())), "bytes;",
+              len(s.answers), "calls")
+        print("   ", dict(sorted(Counter(
+            "no %2d" % a[1] if a[0] == "no" else a[0] for a in s.answers).items())))
+        done = [a for a in s.answers if a[0] != "no"]
+        print("    accepted: kept 0 in %d, spent 0 in %d, both above 0 in %d" % (
+            sum(a[2] == 0 for a in done), sum(a[1] == 0 for a in done),
+            sum(a[1] > 0 and a[2] > 0 for a in done)))
+
+
+def main(args):
+    if len(args) == 2 and args[0] == "--stats":
+        stats(int(args[1]))
+    elif args == ["--replay"]:
+        sys.stdout.buffer.write(replay(sys.stdin.buffer.read()))
+    elif len(args) == 3 and args[0] == "--expected":
+        sys.stdout.buffer.write(replay(make(int(args[1]), args[2]).data()))
+    elif len(args) == 5 and args[0] == "--write":
+        data = make(int(args[1]), args[2]).data()
+        with open(args[3], "wb") as f:
+            f.write(data)
+        with open(args[4], "wb") as f:
+            f.write(replay(data))
+    elif len(args) == 2:
+        sys.stdout.buffer.write(make(int(args[0]), args[1]).data())
+    else:
+        sys.exit(__doc__)
+
+
+if __name__ == "__main__":
+    main(sys.argv[1:])
