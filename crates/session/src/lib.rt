@@ -224,12 +224,13 @@ fn row_trial(
         return 7;
     }
     let there = rows::place(targets, starts, from, to) < rows::degree(starts, from);
+    let full = 2048 <= rows::edge_count(starts);
     match op {
         Op::Add => {
             if there {
                 return 8;
             }
-            if 2048 <= rows::edge_count(starts) {
+            if full {
                 return 9;
             }
         }

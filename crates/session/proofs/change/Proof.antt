@@ -1,3 +1,4 @@
+-- `change` meets its contract: a refusal, or the table changed and its search resumed. Assumes nothing.
 use mathlib.Core.Path.{sym, _∙_}
 use denote.Ref.{now}
 use Rattle.search.specs.Core.{Kept}
@@ -5,30 +6,18 @@ use Rattle.session.proofs.Accepted.{change-refused, change-accepted}
 use borrow.Author.Needs.{needs}
 use Rattle.session.proofs.change.Statement.{statement}
 use Rattle.session.proofs.change.Tie as tie
-use Rattle.session.proofs.change.Reads as reads
-use Rattle.session.proofs.change.Lts as lts
-use Rattle.session.proofs.answer_of.Reads as answer-of-reads
-use Rattle.session.proofs.file_one.Reads as file-one-reads
-use Rattle.session.proofs.row_trial.Reads as row-trial-reads
-use Rattle.session.proofs.seek.Reads as seek-reads
-use Rattle.session.proofs.total_of.Reads as total-of-reads
-use Rattle.session.proofs.write_walk.Reads as write-walk-reads
 
--- src/lib.rt:510:9
 row-trial-requires : tie.Need-row-trial-requires
 row-trial-requires c κs = search needs
 
--- src/lib.rt:512:9
 returns : tie.Need-returns
 returns c =
     let a = c .before .before .before .before .before .before .before .args in
     change-refused (a .op) (a .from) (a .to) (a .s) (now (a .lent)) (c .before .row-trial .result) (c .before .row-trial .ensures) (c .if1 .taken)
 
--- src/lib.rt:517:5
 file-one-requires : tie.Need-file-one-requires
 file-one-requires c κs = search needs
 
--- src/lib.rt:531:9
 -- the arrays of a session have the sizes of their types
 sizes : (b : tie.Start) → Kept (b .args .s .number) (b .args .s .parent) (b .args .s .index) (b .args .s .probes) (b .args .s .stamp) (b .args .s .walk)
 sizes b = record {
@@ -45,23 +34,18 @@ seek-requires c κs =
     let f = c .before .before .before .before .before .before .before .before .before .before .before .before .before .before .before .before in
     (f .file-one .ensures .1, sizes (f .before .before .before .before .before .before .before .before .before .before))
 
--- src/lib.rt:545:5
 write-walk-requires : tie.Need-write-walk-requires
 write-walk-requires c κs = c .before .before .seek .ensures .1
 
--- src/lib.rt:547:17
 answer-of-requires : tie.Need-answer-of-requires
 answer-of-requires c κs = search needs
 
--- src/lib.rt:562:20
 total-of-requires : tie.Need-total-of-requires
 total-of-requires c κs = search needs
 
--- src/lib.rt:505:1
 same-length : tie.Need-same-length
 same-length c = search needs
 
--- src/lib.rt:505:1
 returns-2 : tie.Need-returns-2
 returns-2 c =
     let w = c .before .before .before .before in

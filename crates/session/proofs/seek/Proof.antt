@@ -1,3 +1,4 @@
+-- `seek` meets its contract: a state never discovered leaves all as it was, any other is where the search resumes. Assumes nothing.
 use mathlib.Core.Path.{sym, ap, _∙_}
 use mathlib.Core.Logic.{inl, inr, ⊎-elim}
 use Prim.Native.Nat.{ℕ}
@@ -7,39 +8,27 @@ use Rattle.session.proofs.Sought.{sought-unmet, sought-met, walk-sized,
 use borrow.Author.Needs.{needs}
 use Rattle.session.proofs.seek.Statement.{statement}
 use Rattle.session.proofs.seek.Tie as tie
-use Rattle.session.proofs.seek.Reads as reads
-use Rattle.session.proofs.seek.Lts as lts
-use Rattle.search.proofs.resume.Reads as resume-reads
-use Rattle.session.proofs.verdict_of.Reads as verdict-of-reads
-use Rattle.session.proofs.wide.Reads as wide-reads
 
--- src/lib.rt:313:9
 wide-requires : tie.Need-wide-requires
 wide-requires c κs = search needs
 
--- src/lib.rt:315:12
 mul-if2 : tie.Need-mul-if2
 mul-if2 c = search needs
 
--- src/lib.rt:315:12
 element-copy-out-if2 : tie.Need-element-copy-out-if2
 element-copy-out-if2 c = search needs
 
--- src/lib.rt:316:13
 returns : tie.Need-returns
 returns c =
     let a = c .before .before .before .before .args in
     (sought-unmet (now (a .targets)) (now (a .starts)) (now (a .words)) (a .start) (a .s) (a .old) (now (a .number)) (now (a .parent)) (now (a .index)) (now (a .probes)) (now (a .stamp)) (now (a .walk)) (ap (λ (i : ℕ). getD (now (a .number)) i 0) (sym (c .before .before .before .wide .ensures .0)) ∙ c .if2 .taken), c .before .before .before .before .pre .1 .walk-size)
 
--- src/lib.rt:325:9
 resume-requires : tie.Need-resume-requires
 resume-requires c κs = search needs
 
--- src/lib.rt:340:5
 verdict-of-requires : tie.Need-verdict-of-requires
 verdict-of-requires c κs = search needs
 
--- src/lib.rt:296:1
 returns-2 : tie.Need-returns-2
 returns-2 c =
     let j = c .before .before .before .before .before .before .before .before .before in
