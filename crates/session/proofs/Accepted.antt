@@ -35,6 +35,8 @@ use Rattle.session.specs.declared.Session.{Session}
 use Rattle.session.specs.declared.Verdict.{Verdict}
 use Rattle.session.specs.Model.{numberOf, rowTrial, FiledOne, Sought, verdictOf, bound, sessionOf, answerIs, shownWalk}
 use Rattle.session.specs.Promises.{shown, changeOf, Tells, Holds, Changes}
+use Rattle.session.proofs.Pairs.{outside-from}
+use Rattle.session.proofs.Trying.{row-outside}
 use Rattle.session.proofs.Held.{size-few, small, trial-same, row-trial-zero, number-refused, source-below, refiled}
 use Rattle.session.proofs.Told.{tells-answer, tells-written, tells-fits, never-refused}
 use Rattle.session.proofs.Sought.{matches, Reached, reached}
@@ -235,6 +237,10 @@ table-refused : (c : Change) (room : ℕ) (t : Table) (n : ℕ) → changeTrial 
 unfolding tableAfter trialOf
 table-refused c room t n e = ap (λ (x : Trial). after x (apply c t) t) e
 
+-- without a state, each change names one outside
+empty-six : (op : Op) (from to : ℕ) (s : Session) (room : ℕ) → s .size ≡ 0 → numberOf (rowTrial op (s .size) (s .targets) (s .starts) from to room) ≡ 6
+empty-six op from to s room z = sym (row-outside _ _ _ _ _ _ _ (outside-from from to (s .size) (omega (arith, z))))
+
 pub change-refused : (op : Op) (from to : ℕ) (s : Session) (lent : List ℕ) (n : ℕ) → n ≡ numberOf (rowTrial op (s .size) (s .targets) (s .starts) from to (length lent)) → n ≢ 0
     → Changes op from to s lent (record { answer = Refused n; session = s }) lent
 unfolding shown written
@@ -243,6 +249,7 @@ change-refused op from to s lent n e z = record {
   writes = λ t h. sym (ap (λ (a : PlainAnswer). written a lent) (answer-refused (changeOf op from to) (length lent) t n (is t h)));
   holds = λ t h. subst (λ (x : Table). Holds s x) (sym (table-refused (changeOf op from to) (length lent) t n (is t h))) h;
   refused = λ m a. (refl, refl);
+  no-game = λ o. ap Refused (e ∙ empty-six op from to s (length lent) o);
 }
   where
     is : (t : Table) → Holds s t → changeTrial (changeOf op from to) t (length lent) ≡ refused n
@@ -267,6 +274,7 @@ change-accepted op from to s lent lent′ targets starts number parent index pro
   holds = λ t h. subst (λ (x : Table). Holds (next op from to s targets starts number parent index probes stamp walk v filed sought t h (length lent) (is t h)) x) (sym (table-accepted (changeOf op from to) (length lent) t (is t h)))
       (next-holds op from to s targets starts number parent index probes stamp walk v filed sought t h (length lent) (is t h));
   refused = λ m z. absurd (never-refused v m z);
+  no-game = λ o. absurd (omega (arith, e, empty-six op from to s (length lent) o));
 })
   where
     is : (t : Table) → Holds s t → changeTrial (changeOf op from to) t (length lent) ≡ accepted

@@ -66,12 +66,14 @@ pub record Loads (l : Load) (lent : List ℕ) (r : Outcome) (lent′ : List ℕ)
   pub empty : (n : ℕ) → loadTrial l (length lent) ≡ refused n → r .session .size ≡ 0
 
 -- A CHANGE. For every plain table that the session holds: the answer and the lent list are the plain table's, and the new session holds the table
--- that the call leaves. For every session, forged too: a refusal gives back the session and the list as they were.
+-- that the call leaves. For every session, forged too: a refusal gives back the session and the list as they were. What a refused load hands back holds no
+-- table, and every change of it is refused.
 pub record Changes (op : Op) (from to : ℕ) (s : Session) (lent : List ℕ) (r : Outcome) (lent′ : List ℕ) : Type 0 where
   pub answers : (t : Table) → Holds s t → r .answer ≡ shown (answerTo (callOf op from to lent) t)
   pub writes : (t : Table) → Holds s t → lent′ ≡ written (answerTo (callOf op from to lent) t) lent
   pub holds : (t : Table) → Holds s t → Holds (r .session) (tableAfter (callOf op from to lent) t)
   pub refused : (n : ℕ) → r .answer ≡ Refused n → (r .session ≡ s) × (lent′ ≡ lent)
+  pub no-game : s .size ≡ 0 → r .answer ≡ Refused 6
 
 -- ---- demand 3
 
