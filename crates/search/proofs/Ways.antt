@@ -9,19 +9,20 @@ use lib.Dec.{eqb, ltb}
 use lib.ListN.{length, getD, set, take, drop, replicate, length-set, length-map, length-replicate}
 use borrow.Author.Tests.{lt-ltb, le-ltb, le-leb, lt-leb, eq-eqb, ne-eqb}
 use Rattle.plain.specs.Table.{accepts}
+use Rattle.plain.proofs.Tests.{contra}
 use Rattle.rows.specs.Rows.{degreeAt}
 use Rattle.rows.proofs.Paste.{same-place}
 use Rattle.search.specs.declared.Phase.{Phase}
 use Rattle.search.specs.declared.Phase.the-variants.{Outer, Nested, Exhausted, Found}
 use Rattle.search.specs.declared.Walker.{Walker}
-use Rattle.search.specs.Core.{Core, Sized, Recorded, Trailed, Kept, none, choose, coreOf, skipped, left, returned, exhausted, closed, withWalker, discover, leave, nest, deepen, onOpenPath, finish, byPhase, over, targetOf, hasEdge, probed, outerProbe, outerStep, nestedProbe, nestedStep, step, runFor, upTo, climb, retraceWalk, retraceDepth, rewound, up}
+use Rattle.search.specs.Core.{Core, Sized, Recorded, Trailed, Kept, none, choose, coreOf, skipped, left, nesting, returned, exhausted, closed, withWalker, discover, leave, nest, deepen, onOpenPath, finish, byPhase, over, targetOf, hasEdge, probed, outerProbe, outerStep, nestedProbe, nestedStep, step, runFor, upTo, climb, retraceWalk, retraceDepth, rewound, up, plus}
 
 -- two walkers, and two cores, with the same fields
 pub same-walker : (a b : Walker) → a .phase ≡ b .phase → a .cur ≡ b .cur → a .next ≡ b .next → a .height ≡ b .height → a .top ≡ b .top
     → a .met ≡ b .met → a .kept ≡ b .kept → a ≡ b
 same-walker a b p q r s t u v = λ i. record { phase = p i; cur = q i; next = r i; height = s i; top = t i; met = u i; kept = v i }
 
-pub same-core : (a b : Core) → a .number ≡ b .number → a .parent ≡ b .parent → a .index ≡ b .index → a .probes ≡ b .probes → a .stamp ≡ b .stamp
+same-core : (a b : Core) → a .number ≡ b .number → a .parent ≡ b .parent → a .index ≡ b .index → a .probes ≡ b .probes → a .stamp ≡ b .stamp
     → a .walk ≡ b .walk → a .depth ≡ b .depth → a .cursor ≡ b .cursor → a .spent ≡ b .spent → a .walker ≡ b .walker → a ≡ b
 same-core a b p q r s t u v w x y =
     λ i. record { number = p i; parent = q i; index = r i; probes = s i; stamp = t i; walk = u i; depth = v i; cursor = w i; spent = x i; walker = y i }
@@ -56,10 +57,33 @@ module _ (walk cursor : List ℕ) (w : Walker) (top : ℕ) (less : top ≡ w .to
 
 -- ---- one step
 
+-- what a call writes to each array, and the walker that it hands back
+module _ (s : Core) (t : ℕ) where
+  pub discovers : {number parent index probes walk depth : List ℕ} {height met sum : ℕ} → number ≡ set (s .number) t (s .walker .met)
+      → parent ≡ set (s .parent) t (s .walker .cur) → index ≡ set (s .index) t (s .walker .next) → sum ≡ plus (s .walker .kept) (s .spent)
+      → probes ≡ set (s .probes) t sum → walk ≡ set (s .walk) (s .walker .height) t → depth ≡ set (s .depth) t (s .walker .height)
+      → height ≡ up (s .walker .height) → met ≡ up (s .walker .met)
+      → coreOf (record { phase = Outer; cur = t; next = 0; height = height; top = height; met = met; kept = s .walker .kept }) (s .spent) number parent index
+      probes (s .stamp) walk depth (s .cursor)
+      ≡ discover s t
+  unfolding discover
+  discovers n p i e q w d h m =
+      same-core _ _ n p i (q ∙ ap (set (s .probes) t) e) refl w d refl refl (same-walker _ _ refl refl refl h h m refl)
+
+  pub deepens : {stamp walk cursor : List ℕ} {top at next : ℕ} → stamp ≡ set (s .stamp) t (s .walker .met) → walk ≡ set (s .walk) (s .walker .top) t
+      → at ≡ s .walker .top - 1 → next ≡ up (s .walker .next) → cursor ≡ set (s .cursor) at next → top ≡ up (s .walker .top)
+      → coreOf (record { phase = Nested; cur = t; next = 0; height = s .walker .height; top = top; met = s .walker .met; kept = s .walker .kept }) (s .spent)
+      (s .number) (s .parent) (s .index) (s .probes) stamp walk (s .depth) cursor
+      ≡ deepen s t
+  unfolding deepen
+  deepens m w e f c h =
+      same-core _ _ refl refl refl refl m w refl (c ∙ λ i. set (s .cursor) (e i) (f i)) refl (same-walker _ _ refl refl refl refl h refl refl)
+
 module _ (words : List ℕ) (s : Core) where
-  pub finish-nests : accepts words (s .walker .cur) ≡ true → nest s ≡ finish words s
-  unfolding finish
-  finish-nests h = rw h
+  pub finish-nests : {stamp : List ℕ} → stamp ≡ set (s .stamp) (s .walker .cur) (s .walker .met) → accepts words (s .walker .cur) ≡ true
+      → coreOf (nesting (s .walker)) (s .spent) (s .number) (s .parent) (s .index) (s .probes) stamp (s .walk) (s .depth) (s .cursor) ≡ finish words s
+  unfolding finish nest
+  finish-nests e h = rw (h, e)
 
   pub finish-leaves : (r : Walker) → r ≡ left (s .parent) (s .index) (s .walker) → accepts words (s .walker .cur) ≡ false → withWalker s r ≡ finish words s
   unfolding finish leave
@@ -136,8 +160,8 @@ module _ (targets starts words : List ℕ) where
   step-at s f e = ap (λ (g : Phase). stepped g s) (sym e)
 
   by-over : (s : Core) (f : Phase) → over f ≡ true → stepped f s ≡ s
-  by-over s Outer h = let z : _≡_ {A = ℕ} 0 1 = cc in absurd (omega arith)
-  by-over s Nested h = let z : _≡_ {A = ℕ} 0 1 = cc in absurd (omega arith)
+  by-over s Outer h = absurd (contra h refl)
+  by-over s Nested h = absurd (contra h refl)
   by-over s Exhausted h = refl
   by-over s Found h = refl
 
@@ -284,19 +308,19 @@ abbrev pub mapped : (ℕ → ℕ) → ℕ → List ℕ → List ℕ
 mapped f i xs = map f (take i xs) ++ drop i xs
 
 module _ (f : ℕ → ℕ) where
-  pub mapped-at : (xs : List ℕ) (i : ℕ) → getD (mapped f i xs) i 0 ≡ getD xs i 0
+  mapped-at : (xs : List ℕ) (i : ℕ) → getD (mapped f i xs) i 0 ≡ getD xs i 0
   mapped-at [] zero = refl
   mapped-at [] (suc i) = refl
   mapped-at (x ∷ xs) zero = refl
   mapped-at (x ∷ xs) (suc i) = mapped-at xs i
 
-  pub mapped-write : (xs : List ℕ) (i : ℕ) → set (mapped f i xs) i (f (getD xs i 0)) ≡ mapped f (suc i) xs
+  mapped-write : (xs : List ℕ) (i : ℕ) → set (mapped f i xs) i (f (getD xs i 0)) ≡ mapped f (suc i) xs
   mapped-write [] zero = refl
   mapped-write [] (suc i) = refl
   mapped-write (x ∷ xs) zero = refl
   mapped-write (x ∷ xs) (suc i) = ap (λ (r : List ℕ). f x ∷ r) (mapped-write xs i)
 
-  pub mapped-keep : (xs : List ℕ) (i : ℕ) → f (getD xs i 0) ≡ getD xs i 0 → mapped f i xs ≡ mapped f (suc i) xs
+  mapped-keep : (xs : List ℕ) (i : ℕ) → f (getD xs i 0) ≡ getD xs i 0 → mapped f i xs ≡ mapped f (suc i) xs
   mapped-keep [] zero e = refl
   mapped-keep [] (suc i) e = refl
   mapped-keep (x ∷ xs) zero e = ap (λ (y : ℕ). y ∷ xs) (sym e)

@@ -1,9 +1,7 @@
 -- `deepen` meets its contract: each call writes one array. Assumes nothing.
-use mathlib.Core.Path.{refl, _∙_}
 use denote.Ref.{now}
-use lib.ListN.{set}
-use Rattle.search.specs.Core.{deepen}
-use Rattle.search.proofs.Ways.{same-walker, same-core}
+use Rattle.search.specs.Core.{Core, coreOf}
+use Rattle.search.proofs.Ways.{deepens}
 use Rattle.search.proofs.deepen.Statement.{statement}
 use Rattle.search.proofs.deepen.Tie as tie
 
@@ -26,7 +24,6 @@ up-requires-2 : tie.Need-up-requires-2
 up-requires-2 c κs = tt
 
 returns : tie.Need-returns
-unfolding deepen
 returns c = λ spent number parent index probes depth.
     let p3 = c .before in
     let u = p3 .before in
@@ -34,9 +31,8 @@ returns c = λ spent number parent index probes depth.
     let p2 = d .before .before in
     let p1 = p2 .before .before in
     let a = p1 .before .before .args in
-    same-core _ _ refl refl refl refl (p1 .put .ensures) (p2 .put2 .ensures) refl
-    (p3 .put3 .ensures ∙ λ i. set (now (a .cursor)) (d .down .ensures i) (u .up .ensures i)) refl
-    (same-walker _ _ refl refl refl refl (c .up2 .ensures) refl refl)
+    let s : Core = coreOf (a .w) spent number parent index probes (now (a .stamp)) (now (a .walk)) depth (now (a .cursor)) in
+    deepens s (a .t) (p1 .put .ensures) (p2 .put2 .ensures) (d .down .ensures) (u .up .ensures) (p3 .put3 .ensures) (c .up2 .ensures)
 
 pub deepen-spec : {M : Type 1} → statement M
 deepen-spec =

@@ -1,9 +1,7 @@
 -- `discover` meets its contract: each call writes one array. Assumes nothing.
-use mathlib.Core.Path.{refl, ap, _∙_}
 use denote.Ref.{now}
-use lib.ListN.{set}
-use Rattle.search.specs.Core.{discover}
-use Rattle.search.proofs.Ways.{same-walker, same-core}
+use Rattle.search.specs.Core.{Core, coreOf}
+use Rattle.search.proofs.Ways.{discovers}
 use Rattle.search.proofs.discover.Statement.{statement}
 use Rattle.search.proofs.discover.Tie as tie
 
@@ -35,7 +33,6 @@ up-requires-2 : tie.Need-up-requires-2
 up-requires-2 c κs = tt
 
 returns : tie.Need-returns
-unfolding discover
 returns c = λ stamp cursor.
     let u = c .before in
     let p6 = u .before in
@@ -46,9 +43,11 @@ returns c = λ stamp cursor.
     let p2 = p3 .before .before in
     let p1 = p2 .before .before in
     let a = p1 .before .before .args in
-    same-core _ _ (p1 .put .ensures) (p2 .put2 .ensures) (p3 .put3 .ensures) (p4 .put4 .ensures ∙ ap (set (now (a .probes)) (a .t)) (sum .plus .ensures))
-    refl (p5 .put5 .ensures) (p6 .put6 .ensures) refl refl
-    (same-walker _ _ refl refl refl (u .up .ensures) (u .up .ensures) (c .up2 .ensures) refl)
+    let s : Core =
+    coreOf (a .w) (a .spent) (now (a .number)) (now (a .parent)) (now (a .index)) (now (a .probes)) stamp (now (a .walk)) (now (a .depth)) cursor
+    in
+    discovers s (a .t) (p1 .put .ensures) (p2 .put2 .ensures) (p3 .put3 .ensures) (sum .plus .ensures) (p4 .put4 .ensures) (p5 .put5 .ensures)
+    (p6 .put6 .ensures) (u .up .ensures) (c .up2 .ensures)
 
 pub discover-spec : {M : Type 1} → statement M
 discover-spec =

@@ -1,9 +1,9 @@
 -- `finish` meets its contract: the test tells which way the model goes. Assumes nothing.
-use mathlib.Core.Path.{_≡_, refl, sym, ap, _∙_}
+use mathlib.Core.Path.{_≡_, sym, ap, _∙_}
 use denote.Ref.{now}
 use Rattle.plain.specs.Table.{accepts}
-use Rattle.search.specs.Core.{Core, coreOf, nest}
-use Rattle.search.proofs.Ways.{same-core, finish-nests, finish-leaves}
+use Rattle.search.specs.Core.{Core, coreOf}
+use Rattle.search.proofs.Ways.{finish-nests, finish-leaves}
 use Rattle.search.proofs.finish.Statement.{statement}
 use Rattle.search.proofs.finish.Tie as tie
 
@@ -21,13 +21,11 @@ put-requires : tie.Need-put-requires
 put-requires c κs = c .before .before .before .before .before .pre .2
 
 returns : tie.Need-returns
-unfolding nest
 returns c = λ spent number probes walk depth cursor.
     let i = c .before .before in
     let a = i .before .before .before .before .args in
     let s : Core = coreOf (a .w) spent number (now (a .parent)) (now (a .index)) probes (now (a .stamp)) walk depth cursor in
-    same-core _ (nest s) refl refl refl refl (c .put .ensures) refl refl refl refl refl
-    ∙ finish-nests (now (a .words)) s (sym (answer (i .before)) ∙ i .if1 .taken)
+    finish-nests (now (a .words)) s (c .put .ensures) (sym (answer (i .before)) ∙ i .if1 .taken)
 
 leave-requires : tie.Need-leave-requires
 leave-requires c κs = (c .before .before .before .before .pre .0, c .before .before .before .before .pre .1)

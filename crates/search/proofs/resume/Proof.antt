@@ -9,7 +9,7 @@ use Rattle.search.proofs.Ways.{rewound-by, rewound-sized}
 use Rattle.search.proofs.resume.Statement.{statement}
 use Rattle.search.proofs.resume.Tie as tie
 
--- where the first array is read; where each later call has returned
+-- where the limit is read, and the start
 abbrev reading : tie.After-get2 → tie.After-get
 reading c = c .before .before .before .before .before .before .before .before .before .before .before .before .before
 
@@ -29,6 +29,7 @@ lent c =
     (now (a .spent)) (k1 .keep-up-to .last .0) (now (a .parent)) (now (a .index)) (now (a .probes)) (k2 .keep-up-to2 .last .0) (r .retrace .last .1 .0)
     (r .retrace .last .1 .1 .0) (replicate 512 0)
 
+-- the search as it stood
 abbrev wanted : tie.Start → Core
 wanted b =
     let a = b .args in
