@@ -19,31 +19,12 @@ use Rattle.plain.proofs.Lassos.{path-run, before-from}
 use Rattle.plain.proofs.Restore.{put-same, put-hit, put-other, ShapeOf, Counted}
 use Rattle.rows.specs.Rows.{degreeAt}
 use Rattle.rows.proofs.Entries.{row-length}
-use Rattle.search.specs.declared.Phase.{Phase}
 use Rattle.search.specs.declared.Phase.the-variants.{Outer, Nested, Exhausted, Found}
 use Rattle.search.specs.declared.Walker.{Walker}
-use Rattle.search.specs.Core.{Core, Sized, none, up, plus, choose, coreOf, skipped, left, nesting, returned, exhausted, closed, withWalker, probed, discover, leave, nest, deepen, onOpenPath, targetOf, hasEdge, outerProbe, finish, outerStep, nestedProbe, nestedStep, byPhase, step}
+use Rattle.search.specs.Core.{Core, Sized, none, up, plus, choose, coreOf, skipped, left, nesting, returned, exhausted, closed, withWalker, probed, discover, leave, nest, deepen, onOpenPath, targetOf, hasEdge, outerProbe, finish, outerStep, nestedProbe, nestedStep, step}
 use Rattle.search.proofs.Represents.{view, Records, Begins, Placed, AtOuter, AtNested, AtReturn, Stands, Matches, Limits, up-more, plus-more, no-edge, edge-left, drop-up}
+use Rattle.search.proofs.Ways.{step-at}
 use Rattle.search.proofs.Places.{begins-push, begins-pop, begins-at, states-length, placed-set, on-test, stem-length, cursors-set}
-
--- ---- the ways of a step of the arrays
-
-module _ (targets starts words : List ℕ) where
-  pub step-outer : (s : Core) → s .walker .phase ≡ Outer → step targets starts words s ≡ outerStep targets starts words s
-  unfolding step
-  step-outer s e = ap (λ (f : Phase). byPhase f (outerStep targets starts words s) (nestedStep targets starts words s) s) e
-
-  pub step-nested : (s : Core) → s .walker .phase ≡ Nested → step targets starts words s ≡ nestedStep targets starts words s
-  unfolding step
-  step-nested s e = ap (λ (f : Phase). byPhase f (outerStep targets starts words s) (nestedStep targets starts words s) s) e
-
-  pub step-exhausted : (s : Core) → s .walker .phase ≡ Exhausted → step targets starts words s ≡ s
-  unfolding step
-  step-exhausted s e = ap (λ (f : Phase). byPhase f (outerStep targets starts words s) (nestedStep targets starts words s) s) e
-
-  pub step-found : (s : Core) → s .walker .phase ≡ Found → step targets starts words s ≡ s
-  unfolding step
-  step-found s e = ap (λ (f : Phase). byPhase f (outerStep targets starts words s) (nestedStep targets starts words s) s) e
 
 -- ---- the records
 
@@ -530,25 +511,25 @@ module _ (g : Graph) (targets starts words : List ℕ) (m : Matches g targets st
       → Fits g (step targets starts words s) (noted g c r) (stepOf g c)
   unfolding stepOf noted
   one-step s r (outer [] d k l) v z n u u′ h a =
-      rw (step-outer targets starts words s (a .0), outer-end targets starts words s (a .1))
+      rw (sym (step-at targets starts words s Outer (a .0)), outer-end targets starts words s (a .1))
       (records-idle s r (outer [] d k l) (ended d k l) (exhausted (s .walker)) (s .spent) refl refl refl (h .probes-right) h, refl)
   one-step s r (outer (frame x [] ∷ p) d k l) (o, w) z n u u′ h a =
-      rw (step-outer targets starts words s (a .phase-is), outer-last targets starts words s (omega (arith, a .height-is)) (edges-done s x (a .cur-is) (no-edge (g .successors x) (s .walker .next) (a .pending-is))), accepts-is s x (a .cur-is))
+      rw (sym (step-at targets starts words s Outer (a .phase-is)), outer-last targets starts words s (omega (arith, a .height-is)) (edges-done s x (a .cur-is) (no-edge (g .successors x) (s .walker .next) (a .pending-is))), accepts-is s x (a .cur-is))
       (finish-fits (g .accepting x) s r x p d k l o w (z .0) u h a)
   one-step s r (outer (frame x (t ∷ ts) ∷ p) d k l) (o, w) z n u u′ h a =
       let e = edge-left (g .successors x) (s .walker .next) t ts (a .pending-is) in
-      rw (step-outer targets starts words s (a .phase-is), outer-edge targets starts words s (omega (arith, a .height-is)) (has-edge s x (a .cur-is) (e .there)), outer-probes s t (target-is s x t (a .cur-is) (e .target)))
+      rw (sym (step-at targets starts words s Outer (a .phase-is)), outer-edge targets starts words s (omega (arith, a .height-is)) (has-edge s x (a .cur-is) (e .there)), outer-probes s t (target-is s x t (a .cur-is) (e .target)))
       (visit-fits (elem t d) s r x t ts p d k l refl o n u u′ h a)
   one-step s r (nested b p [] d k l) (o, (old, w)) z n u u′ h a =
-      rw (step-nested targets starts words s (a .phase-is), nested-end targets starts words s (omega (arith, a .top-is, a .height-is)))
+      rw (sym (step-at targets starts words s Nested (a .phase-is)), nested-end targets starts words s (omega (arith, a .top-is, a .height-is)))
       (nested-leave s r b p d k l u (o .known b (on-head b [] p)) (z .0) h a)
   one-step s r (nested b p (frame x [] ∷ q) d k l) (o, (old, w)) z n u u′ h a =
-      rw (step-nested targets starts words s (a .phase-is), nested-last targets starts words s (omega (arith, a .top-is, a .height-is)) (edges-done s x (a .cur-is) (no-edge (g .successors x) (s .walker .next) (a .pending-is))))
+      rw (sym (step-at targets starts words s Nested (a .phase-is)), nested-last targets starts words s (omega (arith, a .top-is, a .height-is)) (edges-done s x (a .cur-is) (no-edge (g .successors x) (s .walker .next) (a .pending-is))))
       (nested-back s r b p x q d k l (w .chain) h a)
   one-step s r (nested b p (frame x (t ∷ ts) ∷ q) d k l) (o, (old, w)) z n u u′ h a =
       let e = edge-left (g .successors x) (s .walker .next) t ts (a .pending-is) in
       let test = on-test (s .walk) (s .depth) (s .walker .height) t (frame b [] ∷ p) (a .height-is) (path-first s b p x (t ∷ ts) q (w .chain) (a .walk-is)) (a .places) in
-      rw (step-nested targets starts words s (a .phase-is), nested-edge targets starts words s (omega (arith, a .top-is, a .height-is)) (has-edge s x (a .cur-is) (e .there)), nested-probes s t (onPath t (frame b [] ∷ p)) (target-is s x t (a .cur-is) (e .target)) test)
+      rw (sym (step-at targets starts words s Nested (a .phase-is)), nested-edge targets starts words s (omega (arith, a .top-is, a .height-is)) (has-edge s x (a .cur-is) (e .there)), nested-probes s t (onPath t (frame b [] ∷ p)) (target-is s x t (a .cur-is) (e .target)) test)
       (probe-fits (onPath t (frame b [] ∷ p)) (elem t k) s r b p x t ts q d k l refl refl o old w n u u′ h a)
-  one-step s r (ended d k l) v z n u u′ h a = rw (step-exhausted targets starts words s a) (h, a)
-  one-step s r (found y p q d k l) v z n u u′ h a = rw (step-found targets starts words s (a .phase-is)) (h, a)
+  one-step s r (ended d k l) v z n u u′ h a = rw (sym (step-at targets starts words s Exhausted a)) (h, a)
+  one-step s r (found y p q d k l) v z n u u′ h a = rw (sym (step-at targets starts words s Found (a .phase-is))) (h, a)
