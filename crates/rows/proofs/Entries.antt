@@ -72,9 +72,6 @@ module _ (targets starts : List ℕ) where
   pub row-rest : (v k : ℕ) → k < degreeAt starts v → drop k (rowAt targets starts v) ≡ getD (rowAt targets starts v) k 0 ∷ drop (suc k) (rowAt targets starts v)
   row-rest v k h = drop-cons (rowAt targets starts v) k 0 (omega (arith, row-length v))
 
-  pub row-done : (v k : ℕ) → degreeAt starts v ≤ k → drop k (rowAt targets starts v) ≡ []
-  row-done v k h = drop-of-length-le (rowAt targets starts v) {i = k} (omega (arith, row-length v))
-
   -- a state of which no edge leaves
   pub row-none : (v : ℕ) → degreeAt starts v ≡ 0 → rowAt targets starts v ≡ []
   unfolding rowAt entries
