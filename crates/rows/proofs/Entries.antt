@@ -69,9 +69,6 @@ module _ (targets starts : List ℕ) where
   pub row-past : (v k : ℕ) → degreeAt starts v ≤ k → getD (rowAt targets starts v) k 0 ≡ 0
   row-past v k h = past (rowAt targets starts v) k (omega (arith, row-length v))
 
-  pub row-rest : (v k : ℕ) → k < degreeAt starts v → drop k (rowAt targets starts v) ≡ getD (rowAt targets starts v) k 0 ∷ drop (suc k) (rowAt targets starts v)
-  row-rest v k h = drop-cons (rowAt targets starts v) k 0 (omega (arith, row-length v))
-
   -- a state of which no edge leaves
   pub row-none : (v : ℕ) → degreeAt starts v ≡ 0 → rowAt targets starts v ≡ []
   unfolding rowAt entries
