@@ -34,7 +34,7 @@ pub struct Walker {
 // What stands in an array for "no number".
 const NONE: u16 = 65535;
 
-fn wide(x: u16) -> usize
+pub fn wide(x: u16) -> usize
     ensures { λ r. ⌜ (r ≡ x) × (r < 65536) ⌝ }
 {
     x as usize
@@ -55,7 +55,7 @@ fn down(x: u16) -> u16
 }
 
 // A sum, at most 65,535.
-fn plus(a: u16, b: u16) -> u16
+pub fn plus(a: u16, b: u16) -> u16
     ensures { λ r. ⌜ r ≡ added a b ⌝ }
 {
     if a <= 65535 - b { a + b } else { 65535 }

@@ -1,4 +1,5 @@
 // One session: the game's table and the records of its search. It is made by a load and by nothing else.
+use search::wide;
 ghost use mathlib.Core.Path.{_≡_};
 ghost use mathlib.Core.Bool.{false};
 ghost use mathlib.Core.List.{_++_};
@@ -70,12 +71,6 @@ const NONE: u16 = 65535;
 
 // 2 × 2,048 + 3 × 512 + 2: no search takes more steps.
 const BOUND: u16 = 5634;
-
-fn wide(x: u16) -> usize
-    ensures { λ r. ⌜ (r ≡ x) × (r < 65536) ⌝ }
-{
-    x as usize
-}
 
 // Is a paying mark set for a number not below the count of states?
 fn marks_outside(words: &[u64; 8], size: u16) -> bool
@@ -426,11 +421,7 @@ fn no_game() -> Session
 fn total_of(v: Verdict) -> u16
     ensures { λ r. ⌜ r ≡ plus (v .kept) (v .spent) ⌝ }
 {
-    if v.kept <= 65535 - v.spent {
-        v.kept + v.spent
-    } else {
-        65535
-    }
+    search::plus(v.kept, v.spent)
 }
 
 // Loads a game: the count of states, the start state, the paying words, the moves as a list of numbers, and the list lent for the walk.
