@@ -1,0 +1,4 @@
+pub mod Fields
+pub mod Numbers
+pub mod Words
+pub mod Records

@@ -1,0 +1,176 @@
+-- `read_record` meets its contract: what the items tell of the fields behind the word, and the record that these make. Assumes nothing.
+use Prim.Native.Nat.{ℕ, _≤_}
+use mathlib.Core.Path.{_≡_, sym, ap, _∙_}
+use mathlib.Core.List.{List}
+use borrow.Author.Needs.{needs}
+use native.Mathlib.Omega.{arith}
+use lib.ListN.{length}
+use Rattle.line.specs.Records.{limitOf, worded, recordOf}
+use Rattle.line.specs.Items.{itemAt}
+use Rattle.line.specs.declared.Item.{Item}
+use Rattle.line.specs.declared.Item.the-variants as I
+use Rattle.line.proofs.Fields.{fieldsBehind, field-within}
+use Rattle.line.proofs.Records.{Tells, item-tells, none-behind, bad-behind, one-behind, bad-second, two-behind, more-behind, record-long, record-is}
+use Rattle.line.proofs.read_record.Statement.{statement}
+use Rattle.line.proofs.read_record.Tie as tie
+
+-- the line and the length of its first field
+abbrev line-of : tie.After-field → List ℕ
+line-of c = c .before .before .before .args .line .now
+
+abbrev name-end : tie.After-field → ℕ
+name-end c = length (c .field .result .now)
+
+name-within : (c : tie.After-field) → name-end c ≤ length (line-of c)
+name-within c = omega (arith, ap length (c .field .ensures), field-within (line-of c) 0 (omega arith))
+
+begun : (c : tie.After-read-word) → worded (c .read-word .result) (fieldsBehind (line-of (c .before)) (name-end (c .before))) ≡ recordOf (line-of (c .before))
+begun c = record-is (line-of (c .before)) _ _ (omega arith) (c .before .field .ensures) (c .read-word .ensures)
+
+-- what an item tells under the limit of the word that was read
+abbrev Told : tie.After-read-word → ℕ → Item → Type 0
+Told c at i = Tells (limitOf (c .read-word .result)) (line-of (c .before)) at i
+
+first-told : (c : tie.After-read-item) (i : Item) → c .read-item .result ≡ i → Told (c .before .before) (name-end (c .before .before .before)) i
+first-told c i e =
+    let f = c .before .before .before in
+    item-tells _ _ _ i (name-within f) (sym e ∙ c .read-item .ensures ∙ ap (λ (n : ℕ). itemAt n (line-of f) (name-end f)) (c .before .limit-of .ensures))
+
+first-number : (c : tie.After-first)
+    → Told (c .before .before .before .before) (name-end (c .before .before .before .before .before)) (I.Is (c .first .given .0 .0) (c .first .given .0 .1 .0))
+first-number c = first-told (c .before .before) _ (c .first .given .1)
+
+second-told : (c : tie.After-read-item2) (i : Item) → c .read-item2 .result ≡ i
+    → Told (c .before .before .before .before .before .before) (c .before .before .first .given .0 .1 .0) i
+second-told c i e =
+    let f = c .before .before in
+    let k = f .before .before .before in
+    item-tells _ _ _ i (first-number f .4)
+    (sym e ∙ c .read-item2 .ensures ∙ ap (λ (n : ℕ). itemAt n (line-of (k .before .before)) (f .first .given .0 .1 .0)) (k .limit-of .ensures))
+
+unreadable-requires : tie.Need-unreadable-requires
+unreadable-requires c κs = search needs
+
+returns : tie.Need-returns
+returns c = c .unreadable .ensures ∙ record-long (c .before .before .before .args .line .now) (omega arith)
+
+field-requires : tie.Need-field-requires
+field-requires c κs = search needs
+
+read-word-requires : tie.Need-read-word-requires
+read-word-requires c κs = search needs
+
+limit-of-requires : tie.Need-limit-of-requires
+limit-of-requires c κs = search needs
+
+read-item-requires : tie.Need-read-item-requires
+read-item-requires c κs = name-within (c .before .before)
+
+enum-told : tie.Need-enum-told
+enum-told c = search needs
+
+filled-requires : tie.Need-filled-requires
+filled-requires c κs = search needs
+
+enum-told-2 : tie.Need-enum-told-2
+enum-told-2 c = search needs
+
+unreadable-requires-2 : tie.Need-unreadable-requires-2
+unreadable-requires-2 c κs = search needs
+
+enum-known-first : tie.Need-enum-known-first
+enum-known-first c = search needs
+
+read-item-requires-2 : tie.Need-read-item-requires-2
+read-item-requires-2 c κs = first-number (c .before) .4
+
+enum-told-3 : tie.Need-enum-told-3
+enum-told-3 c = search needs
+
+filled-requires-2 : tie.Need-filled-requires-2
+filled-requires-2 c κs = search needs
+
+enum-told-4 : tie.Need-enum-told-4
+enum-told-4 c = search needs
+
+unreadable-requires-3 : tie.Need-unreadable-requires-3
+unreadable-requires-3 c κs = search needs
+
+enum-known-second : tie.Need-enum-known-second
+enum-known-second c = search needs
+
+filled-requires-3 : tie.Need-filled-requires-3
+filled-requires-3 c κs = search needs
+
+returns-2 : tie.Need-returns-2
+returns-2 c =
+    let s = c .before .before .before in
+    let r = s .before .before in
+    let f = r .before .before in
+    c .filled3 .ensures ∙ two-behind _ _ _ _ _ _ _ (first-number f) (second-told r _ (s .second .given .1)) (c .before .if2 .taken) ∙ begun (f .before .before .before .before)
+
+unreadable-requires-4 : tie.Need-unreadable-requires-4
+unreadable-requires-4 c κs = search needs
+
+returns-3 : tie.Need-returns-3
+returns-3 c =
+    let t = c .before in
+    let r = t .before .before in
+    c .filled .ensures ∙ none-behind _ _ _ (first-told r _ (t .enum-told .given .1)) ∙ begun (r .before .before)
+
+returns-4 : tie.Need-returns-4
+returns-4 c =
+    let t = c .before in
+    let r = t .before .before in
+    c .unreadable2 .ensures ∙ bad-behind _ _ _ (first-told r _ (t .enum-told2 .given .1)) ∙ begun (r .before .before)
+
+returns-5 : tie.Need-returns-5
+returns-5 c =
+    let t = c .before in
+    let r = t .before .before in
+    let f = r .before .before in
+    c .filled2 .ensures ∙ one-behind _ _ _ _ _ (first-number f) (second-told r _ (t .enum-told3 .given .1)) ∙ begun (f .before .before .before .before)
+
+returns-6 : tie.Need-returns-6
+returns-6 c =
+    let t = c .before in
+    let r = t .before .before in
+    let f = r .before .before in
+    c .unreadable3 .ensures ∙ bad-second _ _ _ _ _ (first-number f) (second-told r _ (t .enum-told4 .given .1)) ∙ begun (f .before .before .before .before)
+
+returns-7 : tie.Need-returns-7
+returns-7 c =
+    let s = c .before .before .before in
+    let r = s .before .before in
+    let f = r .before .before in
+    c .unreadable4 .ensures ∙ more-behind _ _ _ _ _ _ _ (first-number f) (second-told r _ (s .second .given .1)) (c .before .if2 .left) ∙ begun (f .before .before .before .before)
+
+pub read-record-spec : {M : Type 1} → statement M
+read-record-spec =
+    tie.close
+    (tie.spec
+    unreadable-requires
+    returns
+    field-requires
+    read-word-requires
+    limit-of-requires
+    read-item-requires
+    enum-told
+    filled-requires
+    enum-told-2
+    unreadable-requires-2
+    enum-known-first
+    read-item-requires-2
+    enum-told-3
+    filled-requires-2
+    enum-told-4
+    unreadable-requires-3
+    enum-known-second
+    filled-requires-3
+    returns-2
+    unreadable-requires-4
+    returns-3
+    returns-4
+    returns-5
+    returns-6
+    returns-7)

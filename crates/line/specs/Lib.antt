@@ -1,0 +1,5 @@
+pub mod Fields
+pub mod Numbers
+pub mod Words
+pub mod Records
+pub mod Items

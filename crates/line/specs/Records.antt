@@ -1,0 +1,76 @@
+-- Document 01, "Lines on the lead": the words, and a line as a record. Assumes nothing.
+use Prim.Native.Nat.{ℕ}
+use mathlib.Core.Bool.{Bool, true, false, cond, _&&_}
+use mathlib.Core.List.{List, [], _∷_, map}
+use lib.Dec.{eqb, ltb}
+use lib.ListN.{length, getD}
+use Rattle.line.specs.declared.Word.{Word}
+use Rattle.line.specs.declared.Word.the-variants.{Game, Pay, Move, Go, Add, Cut, Unreadable}
+use Rattle.line.specs.declared.Record.{Record}
+use Rattle.line.specs.Fields.{bytes, fieldsOf}
+use Rattle.line.specs.Numbers.{all, value, isNumber}
+
+-- equality of lists of bytes, as a test
+unfoldable pub sameBytes : List ℕ → List ℕ → Bool
+sameBytes [] [] = true
+sameBytes [] (y ∷ ys) = false
+sameBytes (x ∷ xs) [] = false
+sameBytes (x ∷ xs) (y ∷ ys) = cond (eqb x y) (sameBytes xs ys) false
+
+-- "The words are": each with its bytes. Tickets of document 02 add rows.
+unfoldable pub words : List (List ℕ × Word)
+words = (bytes "game", Game) ∷ (bytes "pay", Pay) ∷ (bytes "move", Move) ∷ (bytes "go", Go) ∷ (bytes "add", Add) ∷ (bytes "cut", Cut) ∷ []
+
+abbrev pub pickWord : Bool → Word → Word → Word
+pickWord true a b = a
+pickWord false a b = b
+
+-- the word that a field spells, by the table; an unknown one makes the line unreadable
+unfoldable pub wordIn : List (List ℕ × Word) → List ℕ → Word
+wordIn [] field = Unreadable
+wordIn (row ∷ rows) field = pickWord (sameBytes field (row .0)) (row .1) (wordIn rows field)
+
+unfoldable pub wordOf : List ℕ → Word
+wordOf field = wordIn words field
+
+-- "`game` (N, start), `pay` (state), `move` (from, to), `go`, `add` (from, to) and `cut` (from, to)": how many numbers follow
+abbrev pub countOf : Word → ℕ
+countOf Game = 2
+countOf Pay = 1
+countOf Move = 2
+countOf Go = 0
+countOf Add = 2
+countOf Cut = 2
+countOf Unreadable = 0
+
+-- "at most 65,535; in `pay` at most 511"
+abbrev pub limitOf : Word → ℕ
+limitOf Game = 65535
+limitOf Pay = 511
+limitOf Move = 65535
+limitOf Go = 65535
+limitOf Add = 65535
+limitOf Cut = 65535
+limitOf Unreadable = 65535
+
+abbrev pub unreadable : Record
+unreadable = record { word = Unreadable; first = 0; second = 0 }
+
+abbrev pub pickRecord : Bool → Record → Record → Record
+pickRecord true a b = a
+pickRecord false a b = b
+
+-- a word with the fields behind it: "a wrong count of fields and a bad number" make it unreadable; a number that the word does not take is 0
+unfoldable pub worded : Word → List (List ℕ) → Record
+worded w fields = pickRecord (eqb (length fields) (countOf w) && all (isNumber (limitOf w)) fields)
+    (record { word = w; first = getD (map value fields) 0 0; second = getD (map value fields) 1 0 })
+    unreadable
+
+unfoldable pub fromFields : List (List ℕ) → Record
+fromFields [] = unreadable
+fromFields (w ∷ fields) = worded (wordOf w) fields
+
+-- "Refusal 1 covers an empty line, one above 32 bytes without its newline, an unknown or misplaced word, a wrong count of fields and a bad
+-- number": all of these but the misplaced word, which is seen by what came before the line
+unfoldable pub recordOf : List ℕ → Record
+recordOf line = pickRecord (ltb 32 (length line)) unreadable (fromFields (fieldsOf line))

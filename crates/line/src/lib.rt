@@ -1,0 +1,275 @@
+// One line of the lead: a field as a part of the line, a number, a word, and the record that they make.
+ghost use mathlib.Core.Path.{_≡_};
+ghost use Prim.Native.Nat.{_+_, _≤_};
+ghost use lib.ListN.{length, drop};
+ghost use Rattle.line.specs.Fields.{upTo, fieldAt};
+ghost use Rattle.line.specs.Numbers.{numberOf};
+ghost use Rattle.line.specs.Records.{sameBytes, wordOf, countOf, limitOf, unreadable as Records·unreadable, recordOf};
+ghost use Rattle.line.specs.Words.{tagOf, isWord};
+ghost use Rattle.line.specs.Items.{itemAt, filledWith};
+
+// The words of the lead, as bytes.
+pub const GAME: [u8; 4] = *b"game";
+
+pub const PAY: [u8; 3] = *b"pay";
+
+pub const MOVE: [u8; 4] = *b"move";
+
+pub const GO: [u8; 2] = *b"go";
+
+pub const ADD: [u8; 3] = *b"add";
+
+pub const CUT: [u8; 3] = *b"cut";
+
+pub const TAB: u8 = 9;
+
+pub const NEWLINE: u8 = 10;
+
+// What a field spells: a number within a limit, or none.
+pub enum Number {
+    Is(u16),
+    Bad,
+}
+
+// The words that a line may begin with; a line that cannot be read has none of them.
+pub enum Word {
+    Game,
+    Pay,
+    Move,
+    Go,
+    Add,
+    Cut,
+    Unreadable,
+}
+
+// What a line says: its word and its numbers, 0 where the word takes fewer.
+pub struct Record {
+    pub word: Word,
+    pub first: u16,
+    pub second: u16,
+}
+
+// What stands behind a field: a number and where its field ends, no number, or nothing, since the line ends there.
+enum Item {
+    Is(u16, usize),
+    Bad,
+    End,
+}
+
+// The index of the first `stop` of s at or after a place, or the length of s.
+pub fn end_of(s: &[u8], from: usize, stop: u8) -> usize
+    requires { ⌜ from ≤ length (now s) ⌝ }
+    ensures { λ r. ⌜ r ≡ from + upTo stop (drop from (now (s .entry))) ⌝ }
+{
+    let mut i = from;
+    while i < s.len() {
+        if s[i] == stop {
+            return i;
+        }
+        i += 1;
+    }
+    i
+}
+
+// The field of the line that starts at a place: a part of the line, with no copy.
+pub fn field(line: &[u8], from: usize) -> &[u8]
+    requires { ⌜ from ≤ length (now line) ⌝ }
+    ensures { λ r. ⌜ now r ≡ fieldAt (now (line .entry)) from ⌝ }
+{
+    let end = end_of(line, from, TAB);
+    &line[from..end]
+}
+
+// The number that a field spells.
+fn read_number(s: &[u8], limit: u16) -> Number
+    ensures { λ r. ⌜ r ≡ numberOf limit (now (s .entry)) ⌝ }
+{
+    if s.len() == 0 {
+        return Number::Bad;
+    }
+    if 5 < s.len() {
+        return Number::Bad;
+    }
+    if 1 < s.len() {
+        if s[0] == 48 {
+            return Number::Bad;
+        }
+    }
+    let mut v: u32 = 0;
+    let mut i: usize = 0;
+    while i < s.len() {
+        let b = s[i];
+        if b < 48 {
+            return Number::Bad;
+        }
+        if 57 < b {
+            return Number::Bad;
+        }
+        v = v * 10 + (b - 48) as u32;
+        i += 1;
+    }
+    if v <= limit as u32 {
+        return Number::Is(v as u16);
+    }
+    Number::Bad
+}
+
+// Whether two lists hold the same bytes.
+fn same(a: &[u8], b: &[u8]) -> bool
+    ensures { λ r. ⌜ r ≡ sameBytes (now (a .entry)) (now (b .entry)) ⌝ }
+{
+    if a.len() != b.len() {
+        return false;
+    }
+    let mut i: usize = 0;
+    while i < a.len() {
+        if a[i] != b[i] {
+            return false;
+        }
+        i += 1;
+    }
+    true
+}
+
+// The word that a field spells.
+fn read_word(s: &[u8]) -> Word
+    ensures { λ r. ⌜ r ≡ wordOf (now (s .entry)) ⌝ }
+{
+    if same(s, &GAME) {
+        return Word::Game;
+    }
+    if same(s, &PAY) {
+        return Word::Pay;
+    }
+    if same(s, &MOVE) {
+        return Word::Move;
+    }
+    if same(s, &GO) {
+        return Word::Go;
+    }
+    if same(s, &ADD) {
+        return Word::Add;
+    }
+    if same(s, &CUT) {
+        return Word::Cut;
+    }
+    Word::Unreadable
+}
+
+// A number for each word.
+fn tag_of(word: Word) -> u16
+    ensures { λ r. ⌜ r ≡ tagOf word ⌝ }
+{
+    match word {
+        Word::Game => 0,
+        Word::Pay => 1,
+        Word::Move => 2,
+        Word::Go => 3,
+        Word::Add => 4,
+        Word::Cut => 5,
+        Word::Unreadable => 6,
+    }
+}
+
+// Is the one word the other?
+pub fn is_word(v: Word, w: Word) -> bool
+    ensures { λ r. ⌜ r ≡ isWord v w ⌝ }
+{
+    tag_of(v) == tag_of(w)
+}
+
+// How many numbers follow a word.
+fn count_of(word: Word) -> u16
+    ensures { λ r. ⌜ r ≡ countOf word ⌝ }
+{
+    match word {
+        Word::Game => 2,
+        Word::Pay => 1,
+        Word::Move => 2,
+        Word::Go => 0,
+        Word::Add => 2,
+        Word::Cut => 2,
+        Word::Unreadable => 0,
+    }
+}
+
+// The largest number that may follow a word.
+fn limit_of(word: Word) -> u16
+    ensures { λ r. ⌜ r ≡ limitOf word ⌝ }
+{
+    match word {
+        Word::Game => 65535,
+        Word::Pay => 511,
+        Word::Move => 65535,
+        Word::Go => 65535,
+        Word::Add => 65535,
+        Word::Cut => 65535,
+        Word::Unreadable => 65535,
+    }
+}
+
+fn unreadable() -> Record
+    ensures { λ r. ⌜ r ≡ Records·unreadable ⌝ }
+{
+    Record {
+        word: Word::Unreadable,
+        first: 0,
+        second: 0,
+    }
+}
+
+// What stands behind the field that ends at a place.
+fn read_item(line: &[u8], at: usize, limit: u16) -> Item
+    requires { ⌜ at ≤ length (now line) ⌝ }
+    ensures { λ r. ⌜ r ≡ itemAt limit (now (line .entry)) at ⌝ }
+{
+    if at == line.len() {
+        return Item::End;
+    }
+    let f = field(line, at + 1);
+    let end = at + 1 + f.len();
+    match read_number(f, limit) {
+        Number::Is(value) => Item::Is(value, end),
+        Number::Bad => Item::Bad,
+    }
+}
+
+// The record of a word behind which so many numbers stand.
+fn filled(word: Word, count: u16, first: u16, second: u16) -> Record
+    ensures { λ r. ⌜ r ≡ filledWith word count first second ⌝ }
+{
+    if count == count_of(word) {
+        return Record {
+            word,
+            first,
+            second,
+        };
+    }
+    unreadable()
+}
+
+// The record that a line is.
+pub fn read_record(line: &[u8]) -> Record
+    ensures { λ r. ⌜ r ≡ recordOf (now (line .entry)) ⌝ }
+{
+    if 32 < line.len() {
+        return unreadable();
+    }
+    let name = field(line, 0);
+    let word = read_word(name);
+    let limit = limit_of(word);
+    match read_item(line, name.len(), limit) {
+        Item::End => filled(word, 0, 0, 0),
+        Item::Bad => unreadable(),
+        Item::Is(first, end) => match read_item(line, end, limit) {
+            Item::End => filled(word, 1, first, 0),
+            Item::Bad => unreadable(),
+            Item::Is(second, last) => {
+                if last == line.len() {
+                    return filled(word, 2, first, second);
+                }
+                unreadable()
+            }
+        },
+    }
+}
