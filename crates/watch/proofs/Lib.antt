@@ -1,0 +1,9 @@
+pub mod Texts
+pub mod Steps
+pub mod Asking
+pub mod Writing
+pub mod Filing
+pub mod Counting
+pub mod Serving
+pub mod Output
+pub mod Turns

@@ -1,0 +1,16 @@
+-- `watch::refusing`: the lead at the other stage, and the number.
+use mathlib.Core.Path.{ap}
+use Rattle.watch.specs.declared.Lead.{Lead}
+use Rattle.watch.specs.declared.Task.the-variants.{Refuse}
+use borrow.Author.Needs.{needs}
+use Rattle.watch.proofs.refusing.Statement.{statement}
+use Rattle.watch.proofs.refusing.Tie as tie
+
+staged-requires : tie.Need-staged-requires
+staged-requires c κs = search needs
+
+returns : tie.Need-returns
+returns c = ap (λ (l : Lead). record { lead = l; task = Refuse (c .before .args .number); from = 0; to = 0 }) (c .staged .ensures)
+
+pub refusing-spec : {M : Type 1} → statement M
+refusing-spec = tie.close (tie.spec staged-requires returns)

@@ -1,0 +1,151 @@
+-- Document 01, "Lines on the lead": what the box answers to a text, from the plain table. Assumes nothing.
+use Prim.Native.Nat.{ℕ, _+_, _*_, _-_, min}
+use mathlib.Core.Path.{_≡_}
+use mathlib.Core.Bool.{Bool, true, false, cond, _&&_}
+use mathlib.Core.List.{List, [], _∷_, _++_, map}
+use lib.Dec.{eqb, leb}
+use lib.ListN.{length, take, replicate}
+use Rattle.plain.specs.Lists.{any}
+use Rattle.plain.specs.Search.{Edge}
+use Rattle.plain.specs.Table.{Table, withMark, acceptingCount}
+use Rattle.plain.specs.Refusals.{Trial, accepted, refused, Load, loadTrial, full}
+use Rattle.plain.specs.Machine.{Change, add, cut, tableOf, loadAnswer, answerTo, tableAfter, Line, gameLine, noLine, answerLine}
+use Rattle.line.specs.Fields.{newline, linesOf}
+use Rattle.line.specs.Words.{isWord}
+use Rattle.line.specs.Records.{recordOf}
+use Rattle.line.specs.declared.Word.the-variants.{Game, Pay, Move, Go, Add, Cut}
+use Rattle.line.specs.declared.Record.{Record}
+use Rattle.answer.specs.Bytes.{overwritten}
+use Rattle.answer.specs.Rendering.{render}
+
+-- What the box holds from one line to the next.
+pub data Lead : Type 0 where
+  -- no line was read
+  waiting : Lead
+  -- a `game` was read: N, the start state, the paying marks and the moves so far
+  gathering : ℕ → ℕ → List ℕ → List Edge → Lead
+  -- a `go` was accepted: the plain table
+  playing : Table → Lead
+  -- a line was refused before or at `go`
+  ended : Lead
+
+-- What one line gives: the lines written, and what is held then.
+pub record Step : Type 0 where
+  pub lines : List Line
+  pub next : Lead
+
+abbrev pub quiet : Lead → Step
+quiet next = record { lines = []; next = next }
+
+-- "A refusal up to and with `go` is written as a `no` line and ends the program"
+abbrev pub stop : ℕ → Step
+stop n = record { lines = noLine n ∷ []; next = ended }
+
+abbrev pub pickStep : Bool → Step → Step → Step
+pickStep true a b = a
+pickStep false a b = b
+
+abbrev pub empty : List Edge → Bool
+empty [] = true
+empty (e ∷ es) = false
+
+-- the list lent for the walk is the box's own: it has an entry for each of 512 states
+abbrev pub room : ℕ
+room = 512
+
+-- the numbers of moves, two for each
+unfoldable pub flat : List Edge → List ℕ
+flat [] = []
+flat (e ∷ es) = e .0 ∷ e .1 ∷ flat es
+
+-- "An accepted load writes `game`, N, the count of moves and the count of paying states. Then come the load's answer .."
+abbrev pub loadStep : Trial → Load → List Edge → Step
+loadStep accepted l moves = record {
+  lines = gameLine (l .size) (length moves) (acceptingCount (l .words)) ∷ answerLine (loadAnswer accepted (tableOf l));
+  next = playing (tableOf l);
+}
+loadStep (refused n) l moves = stop n
+
+abbrev pub loadOf : ℕ → ℕ → List ℕ → List Edge → Load
+loadOf size start marks moves = record { size = size; start = start; words = marks; numbers = flat moves }
+
+-- "Order: one `game`": any other word is misplaced
+unfoldable pub atFirst : Record → Step
+atFirst r = pickStep (isWord (r .word) Game) (quiet (gathering (r .first) (r .second) (replicate 8 0) [])) (stop 1)
+
+-- ".. any `pay`, any `move`, one `go`": a `pay` behind a `move` is misplaced; "a 2,049th `move` line gets 5 as it is read"
+unfoldable pub beforeGo : ℕ → ℕ → List ℕ → List Edge → Record → Step
+beforeGo size start marks moves r =
+    pickStep (isWord (r .word) Pay && empty moves) (quiet (gathering size start (withMark marks (r .first)) moves))
+    (pickStep (isWord (r .word) Move) (pickStep (full moves) (stop 5) (quiet (gathering size start marks (moves ++ ((r .first, r .second) ∷ [])))))
+    (pickStep (isWord (r .word) Go) (loadStep (loadTrial (loadOf size start marks moves) room) (loadOf size start marks moves) moves)
+    (stop 1)))
+
+-- ".. and one line for each change"
+abbrev pub changeStep : Change → Table → Step
+changeStep c t = record {
+  lines = answerLine (answerTo (record { change = c; room = room }) t);
+  next = playing (tableAfter (record { change = c; room = room }) t);
+}
+
+-- ".. then `add` and `cut`"; "after `go` the next line is read"
+unfoldable pub afterGo : Table → Record → Step
+afterGo t r =
+    pickStep (isWord (r .word) Add) (changeStep (add (r .first, r .second)) t)
+    (pickStep (isWord (r .word) Cut) (changeStep (cut (r .first, r .second)) t)
+    (record { lines = noLine 1 ∷ []; next = playing t }))
+
+unfoldable pub step : Lead → Record → Step
+step waiting r = atFirst r
+step (gathering size start marks moves) r = beforeGo size start marks moves r
+step (playing t) r = afterGo t r
+step ended r = quiet ended
+
+-- the lines written for the records, one after the other
+unfoldable pub printed : Lead → List Record → List Line
+printed held [] = []
+printed held (r ∷ rs) = step held r .lines ++ printed (step held r .next) rs
+
+-- "An input of more than 4,294,967,295 bytes counts as ending behind the last newline among these."
+abbrev pub limit : ℕ
+limit = 4294967295
+
+-- a text up to and with its last newline
+unfoldable pub wholeLines : List ℕ → List ℕ
+wholeLines [] = []
+wholeLines (b ∷ bs) = cond (any (eqb newline) (b ∷ bs)) (b ∷ wholeLines bs) []
+
+unfoldable pub counted : List ℕ → List ℕ
+counted text = cond (leb (length text) limit) text (wholeLines (take limit text))
+
+-- what the box writes for a text that counts whole, line by line, as bytes
+unfoldable pub outputOf : List ℕ → List (List ℕ)
+outputOf text = map render (printed waiting (map recordOf (linesOf text)))
+
+unfoldable pub output : List ℕ → List (List ℕ)
+output text = outputOf (counted text)
+
+-- ---- a bench program's output
+
+-- the lines one behind the other, up to the first that does not fit whole in so many bytes
+unfoldable pub fitted : ℕ → List (List ℕ) → List ℕ
+fitted space [] = []
+fitted space (l ∷ ls) = cond (leb (length l) space) (l ++ fitted (space - length l) ls) []
+
+-- refusal 12, "An answer line does not fit whole into the output lent by a bench program": 1 where it does not, else 0
+unfoldable pub stopped : ℕ → List (List ℕ) → ℕ
+stopped space [] = 0
+stopped space (l ∷ ls) = cond (leb (length l) space) (stopped (space - length l) ls) 1
+
+-- "It uses at most the first 65,536 bytes of the output"
+abbrev pub space : List ℕ → ℕ
+space out = min (length out) 65536
+
+-- "changes none after the last whole line that fits, and returns twice the bytes written, plus 1 where 12 stopped it"
+pub record Fitted (ls : List (List ℕ)) (space : ℕ) (out out′ : List ℕ) (r : ℕ) : Type 0 where
+  pub made : out′ ≡ overwritten out 0 (fitted space ls)
+  pub told : r ≡ 2 * length (fitted space ls) + stopped space ls
+
+-- "Bench programs in C call the same watch with a whole text and an output": "It uses at most the first 65,536 bytes of the output"
+abbrev pub Watched : List ℕ → List ℕ → List ℕ → ℕ → Type 0
+Watched text out out′ r = Fitted (output text) (min (length out) 65536) out out′ r

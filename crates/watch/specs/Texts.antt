@@ -1,0 +1,57 @@
+-- Document 01, "Games with known results", as texts: what is sent, and what the box writes. Tabs and newlines as the lead has them. Assumes nothing.
+use Prim.Native.String.{String}
+use mathlib.Core.List.{List, [], _∷_}
+
+-- a text, and the lines written for it
+pub record Exchange : Type 0 where
+  pub sent : String
+  pub written : List String
+
+unfoldable pub games : List Exchange
+games =
+    -- A
+    record {
+      sent = "game\t4\t0\npay\t2\nmove\t0\t1\nmove\t1\t2\ngo\nadd\t2\t1\nadd\t2\t3\ncut\t1\t2\ncut\t1\t2\nadd\t2\t0\n";
+      written = "game\t4\t2\t1\n" ∷ "none\t2\t0\n" ∷ "round\t2\t2\t1\t2\t0\t1\t2\n" ∷ "round\t3\t2\t1\t2\t0\t1\t2\n" ∷ "none\t0\t1\n" ∷ "no\t10\n" ∷ "none\t0\t1\n" ∷ [];
+    }
+    -- B
+    ∷ record {
+      sent = "game\t1\t0\ngo\n";
+      written = "game\t1\t0\t0\n" ∷ "none\t0\t0\n" ∷ [];
+    }
+    -- C
+    ∷ record {
+      sent = "game\t2\t0\npay\t1\nmove\t0\t1\nmove\t1\t0\ngo\n";
+      written = "game\t2\t2\t1\n" ∷ "round\t3\t0\t0\t2\t0\t1\n" ∷ [];
+    }
+    -- D
+    ∷ record {
+      sent = "game\t2\t0\npay\t0\nmove\t0\t1\nmove\t1\t0\ngo\n";
+      written = "game\t2\t2\t1\n" ∷ "round\t4\t0\t0\t2\t0\t1\n" ∷ [];
+    }
+    -- E
+    ∷ record {
+      sent = "game\t2\t0\nmove\t0\t1\nmove\t1\t0\ngo\n";
+      written = "game\t2\t2\t0\n" ∷ "none\t2\t0\n" ∷ [];
+    }
+    -- F
+    ∷ record {
+      sent = "game\t3\t0\npay\t0\nmove\t0\t1\nmove\t1\t2\nmove\t2\t1\ngo\n";
+      written = "game\t3\t3\t1\n" ∷ "none\t6\t0\n" ∷ [];
+    }
+    -- G
+    ∷ record {
+      sent = "game\t3\t0\npay\t1\nmove\t1\t2\nmove\t2\t1\ngo\n";
+      written = "game\t3\t2\t1\n" ∷ "none\t0\t0\n" ∷ [];
+    }
+    -- H
+    ∷ record {
+      sent = "game\t3\t0\npay\t1\npay\t2\nmove\t0\t1\nmove\t0\t2\nmove\t1\t0\nmove\t2\t0\ngo\ncut\t0\t1\nadd\t0\t1\n";
+      written = "game\t3\t4\t2\n" ∷ "round\t3\t0\t0\t2\t0\t1\n" ∷ "round\t3\t0\t0\t2\t0\t2\n" ∷ "round\t3\t0\t0\t2\t0\t2\n" ∷ [];
+    }
+    -- I
+    ∷ record {
+      sent = "game\t3\t0\npay\t0\npay\t1\nmove\t0\t1\nmove\t1\t2\nmove\t2\t1\ngo\n";
+      written = "game\t3\t3\t2\n" ∷ "round\t5\t0\t1\t2\t0\t1\t2\n" ∷ [];
+    }
+    ∷ []
