@@ -1,0 +1,339 @@
+#!/usr/bin/env python3
+"""Sessions as texts for the program and the archive.
+
+    tests/sessions.py SEED KIND     one random session, to standard output
+    tests/sessions.py --write       the stored sessions and their results, by the reference
+    tests/sessions.py --check       whether the stored files are those that --write makes
+
+The same seed and kind give the same bytes.
+"""
+
+import random
+import sys
+
+import common
+from common import ROOT, STORED, as_lines, fail, game_a
+from reference import GAMES, MOST_MOVES, MOST_STATES, answer_text
+
+
+# ------------------------------------------------------------ one text
+
+class Text:
+    """Collects lines, and holds the moves present so that the next line can be about them."""
+
+    def __init__(self, size, start, pays=(), moves=()):
+        self.size = size
+        self.rows = ["game %d %d" % (size, start)] + ["pay %d" % s for s in pays]
+        self.rows += ["move %d %d" % m for m in moves] + ["go"]
+        self.moves = dict.fromkeys(moves)
+        self.last_cut = None
+
+    def add(self, move):
+        self.rows.append("add %d %d" % move)
+        if len(self.moves) < MOST_MOVES and max(move) < self.size and move[0] != move[1]:
+            self.moves.setdefault(move)
+
+    def cut(self, move):
+        self.rows.append("cut %d %d" % move)
+        if move in self.moves:
+            del self.moves[move]
+            self.last_cut = move
+
+    def data(self):
+        return b"".join(r + b"\n" if isinstance(r, bytes) else as_lines([r]) for r in self.rows)
+
+
+def some_move(rng, size):
+    """Any move that is not from a state to itself; needs two states."""
+    source, target = rng.randrange(size), rng.randrange(size - 1)
+    return source, target + (target >= source)
+
+
+def some_moves(rng, size, count):
+    moves = {}
+    while len(moves) < count:
+        moves[some_move(rng, size)] = None
+    return list(moves)
+
+
+def refused_change(rng, text):
+    """A change that names a state outside, a self-move, a present move to be added or an absent one to be cut."""
+    state = rng.randrange(text.size)
+    outside = rng.choice((text.size, text.size + 1, 512, 65535))
+    kind = rng.randrange(4)
+    if kind == 0:
+        rng.choice((text.add, text.cut))(rng.choice(((state, outside), (outside, state), (outside, outside))))
+    elif kind == 1 or text.size == 1:
+        rng.choice((text.add, text.cut))((state, state))
+    elif kind == 2 and text.moves:
+        text.add(rng.choice(list(text.moves)))
+    else:
+        move = some_move(rng, text.size)
+        if move not in text.moves:
+            text.cut(move)
+
+
+def changes(rng, text, count, wanted, closing):
+    """Random changes that keep about `wanted` moves present. closing() gives a move that may close a round."""
+    closed = []
+    for _ in range(count):
+        dice = rng.random()
+        if dice < 0.10 or text.size == 1:
+            refused_change(rng, text)
+        elif dice < 0.13:
+            text.rows.append(rng.choice(HOSTILE))
+        elif dice < 0.25 and text.last_cut:
+            text.add(text.last_cut)            # cut and added again: newest now
+        elif dice < 0.45:
+            closed.append(closing())
+            text.add(closed[-1])
+        elif dice < 0.65 and closed:
+            text.cut(closed.pop(rng.randrange(len(closed))))
+        elif text.moves and rng.random() < (0.35 if len(text.moves) < wanted else 0.65):
+            text.cut(rng.choice(list(text.moves)))
+        else:
+            text.add(some_move(rng, text.size))
+    return text
+
+
+# ------------------------------------------------------- lines to refuse
+
+def hostile_lines():
+    right = [b"game\t2\t0", b"pay\t1", b"move\t0\t1", b"go", b"add\t0\t1", b"cut\t0\t1"]
+    numbers = [b"", b"0", b"00", b"01", b"1", b"9", b"511", b"512", b"513", b"9999", b"65535", b"65536", b"99999",
+               b"100000", b"000001", b"4294967296", b"18446744073709551617", b" 1", b"1 ", b"+1", b"-1", b"0x1",
+               b"1\r", b"1\0", b"\x001", b"1.0", b"\xd9\xa1", b"\xff", b":", b"/"]
+    lines = [b"", b" ", b"\t", b"\t\t", b"\t\t\t", b"\r", b"\0", b"\xff\xfe", b"x", b"game", b"kinds\t1", b"mark\t0",
+             b"begin", b"end", b"why", b"g", b"ad", b"addd\t0\t1", b"add\t0\t1add\t0\t1", b"-", b"#", b"\xef\xbb\xbfgo"]
+    for line in right:
+        fields = line.split(b"\t")
+        lines += [line, line.upper(), line.title(), b"\t" + line, b" " + line, line + b"\t", line + b"\t\t", line + b" ",
+                  line + b"\r", line + b"\0", b"\0" + line, line + b"\t1", line + b"\t1\t1", b"\t".join(fields[:-1]),
+                  line.replace(b"\t", b" "), line.replace(b"\t", b"\t\t"), line.replace(b"\t", b"\x0b"), fields[0]]
+        for at in range(1, len(fields)):
+            lines += [b"\t".join(fields[:at] + [n] + fields[at + 1:]) for n in numbers]
+        for length in (31, 32, 33):            # with one field too long, one field too many, one long word
+            lines += [line.ljust(length, b"1"), (line + b"\t").ljust(length, b"1"), line.ljust(length, b"\t")]
+    lines += [b"x" * length for length in (31, 32, 33, 64, 1000)]
+    return list(dict.fromkeys(lines))
+
+
+HOSTILE = hostile_lines()
+STAGES = [b"", b"game\t2\t0\n", b"game\t2\t0\npay\t1\n", b"game\t2\t0\npay\t1\nmove\t1\t0\n",
+          b"game\t2\t0\npay\t1\nmove\t1\t0\ngo\n"]
+
+
+def staged():
+    """Each hostile line at each place of a small session, with lines behind it that show what became of it."""
+    for line in HOSTILE + [b"x" * 70000, b"add\t0\t1\n" * 9000]:
+        for at, before in enumerate(STAGES):
+            yield before + line + b"\n" + (b"" if at == 4 else b"go\n") + b"add\t0\t1\ncut\t0\t1"
+
+
+# ------------------------------------------------------- random sessions
+
+def small(rng):
+    size = rng.choice((1, 2, 3, 3, 4, 4, 5, 6, 7, 8))
+    most = size * (size - 1)
+    wanted = min(most, int(size * rng.uniform(0.5, 2.2)))
+    density = rng.choice((0.15, 0.3, 0.5, 0.8))
+    pays = [s for s in range(size) if rng.random() < density]
+    text = Text(size, rng.randrange(size), pays, some_moves(rng, size, wanted))
+    return changes(rng, text, rng.randint(20, 80), wanted, lambda: some_move(rng, size)).data()
+
+
+def onward(rng, size, moves, count):
+    """A game whose moves lead on in a hidden order, and a closing(): a move that leads back in it."""
+    order = rng.sample(range(size), size)
+    some = {}
+    while len(some) < moves:
+        at = rng.randrange(size - 1)
+        far = 12 if rng.random() < 0.9 else size
+        some[order[at], order[min(size - 1, at + rng.randint(1, far))]] = None
+
+    def closing():
+        at = rng.randrange(1, size)
+        return order[at], order[max(0, at - rng.randint(1, 12))]
+    pays = rng.sample(range(size), rng.randint(1, max(1, size // 16)))
+    text = Text(size, order[0], pays, list(some))
+    return changes(rng, text, count, moves, closing).data()
+
+
+def mid(rng):
+    size = rng.randint(16, 96)
+    return onward(rng, size, rng.randint(size, 3 * size), 60)
+
+
+def full(rng):
+    return onward(rng, 512, rng.randint(2040, 2048), 50)
+
+
+def chain(rng, count=60):
+    """A walk through all 512 states; its last state leads back, to near or far, or not at all."""
+    order = rng.sample(range(512), 512)
+    moves = list(zip(order, order[1:]))
+    text = Text(512, order[0], [order[rng.choice((0, 1, 255, 510, 511))]], moves)
+
+    def closing():
+        at = rng.randrange(511) if rng.random() < 0.7 else 0
+        return order[511], order[at]
+    for _ in range(count):
+        dice = rng.random()
+        back = [m for m in text.moves if m[0] == order[511]]
+        broken = [m for m in moves if m not in text.moves]
+        if broken and dice < 0.6:
+            text.add(broken[0])
+        elif back and dice < 0.3:
+            text.cut(rng.choice(back))
+        elif dice < 0.85:
+            text.add(closing())
+        else:
+            text.cut(rng.choice(moves[rng.choice((0, 300, 500)):]))
+    return text.data()
+
+
+def hostile(rng):
+    """A small session with unreadable lines among its lines, mostly behind `go`."""
+    lines = common.lines_of(small(rng))
+    go = lines.index(b"go\n")
+    first = 0 if rng.random() < 0.3 else go + 1
+    for _ in range(rng.randint(1, 12)):
+        lines.insert(rng.randint(min(first, len(lines)), len(lines)), rng.choice(HOSTILE) + b"\n")
+    return b"".join(lines)
+
+
+def refused(rng):
+    """A load with one or two faults."""
+    size = rng.randint(2, 8)
+    moves = some_moves(rng, size, rng.randint(0, size))
+    start, pays = rng.randrange(size), [rng.randrange(size)]
+    for _ in range(rng.randint(1, 2)):
+        fault = rng.randrange(6)
+        at = rng.randint(0, len(moves))
+        if fault == 0:
+            size = rng.choice((0, 513, 65535))
+        elif fault == 1:
+            start = rng.choice((size, size + 1, 512, 65535))
+        elif fault == 2:
+            pays.append(rng.choice((size, 511)) if size < 512 else 511)
+        elif fault == 3:
+            moves.insert(at, rng.choice(((0, size), (size, 0), (65535, 65535))))
+        elif fault == 4:
+            moves.insert(at, (1, 1))
+        elif moves:
+            moves.insert(at, rng.choice(moves))
+    text = Text(size, start, pays)
+    text.rows[-1:] = ["move %d %d" % m for m in moves] + ["go", "add 0 1", "add 1 0"]
+    return text.data()
+
+
+def ended(rng):
+    """A session that ends anywhere: before `go`, within a line, without the last newline."""
+    text = rng.choice((small, hostile, refused))(rng)
+    return text[:rng.randrange(len(text))]
+
+
+def many(rng):
+    """About 2,048 `move` lines, with or without faults."""
+    size = rng.choice((64, 512))
+    moves = some_moves(rng, size, rng.randint(2046, 2050))
+    for _ in range(rng.choice((0, 0, 1))):
+        moves[rng.randrange(len(moves))] = rng.choice(((0, 0), (size, 1), moves[5], moves[-1]))
+    text = Text(size, rng.randrange(size), rng.sample(range(size), rng.choice((0, 3))), moves)
+    for _ in range(6):
+        text.add(rng.choice(moves))
+        text.add(some_move(rng, size))
+        text.cut(some_move(rng, size))
+        text.cut(rng.choice(moves))
+    return text.data()
+
+
+KINDS = {make.__name__: make for make in (small, mid, full, chain, hostile, refused, ended, many)}
+
+
+def session(seed, kind):
+    return KINDS[kind](random.Random("%s %s" % (seed, kind)))
+
+
+# ------------------------------------------------------- stored sessions
+
+def full_table(rows):
+    """64 states and 2,048 moves, then these rows."""
+    moves = [(a, b) for a in range(64) for b in range(64) if a != b][:MOST_MOVES]
+    text = Text(64, 0, [63, 0], moves)
+    text.rows += rows
+    return text.data()
+
+
+def longest_walk():
+    ring = [(i, (i + 1) % MOST_STATES) for i in range(MOST_STATES)]
+    text = Text(MOST_STATES, 0, [511], ring)
+    text.rows += ["add 511 510", "cut 511 0", "cut 511 510", "add 511 256", "cut 255 256", "add 255 256", "cut 0 1"]
+    return text.data()
+
+
+def stored():
+    """Name and text of each stored session."""
+    for name, size, pays, moves, _, calls in GAMES:
+        text = Text(size, 0, pays, moves)
+        text.rows += ["%s %d %d" % call[:3] for call in calls]
+        yield "game-" + name.lower(), text.data()
+    yield "states-512", as_lines(["game 512 0", "pay 511", "move 0 511", "go", "add 511 0", "add 512 0", "cut 511 0"])
+    yield "states-513", as_lines(["game 513 0", "pay 511", "move 0 511", "go", "add 511 0"])
+    yield "start-511", as_lines(["game 512 511", "pay 511", "move 511 0", "move 0 511", "go", "cut 0 511", "add 0 511",
+                                 "add 511 510", "cut 511 0"])
+    yield "start-512", as_lines(["game 512 512", "pay 511", "go", "add 511 0"])
+    yield "moves-2048", full_table(["add 0 1", "add 63 62", "cut 63 62", "cut 0 1", "add 63 62", "add 0 1", "cut 5 6",
+                                    "add 5 6", "add 5 6", "add 63 0"])
+    yield "moves-2049", full_table([]).replace(b"go\n", b"move\t63\t62\ngo\nadd\t0\t1\n")
+    yield "longest-walk", longest_walk()
+    yield "hostile-lines", STAGES[4] + b"".join(line + b"\n" for line in HOSTILE) + b"cut\t0\t1"
+    yield "refused-4", as_lines(["game 2 1", "pay 2", "move 0 0", "move 9 9", "go", "add 0 1"])
+    yield "refused-6", as_lines(["game 2 1", "move 0 1", "move 0 1", "move 0 0", "move 9 9", "go", "add 0 1"])
+    yield "refused-7", as_lines(["game 2 1", "move 0 1", "move 0 1", "move 0 0", "go", "add 0 1"])
+    yield "refused-8", as_lines(["game 2 1", "move 0 1", "move 1 0", "move 0 1", "go", "add 0 1"])
+    yield "ends-before-go", as_lines(["game 513 600", "pay 511", "move 0 0", "move 0 0"])
+    yield "random-small", session(12, "small")
+    yield "random-mid", session(1, "mid")
+    yield "random-full", session(2, "full")
+    yield "random-chain", chain(random.Random(1), 16)
+
+
+def stored_files():
+    """Path and content of each stored file."""
+    for name, text in stored():
+        yield STORED / (name + ".in"), text
+        yield STORED / (name + ".out"), answer_text(text)
+    given, wanted = game_a()
+    yield ROOT / "crates/monitor/stdin", given
+    yield ROOT / "crates/monitor/stdout", wanted
+
+
+def write():
+    for path, content in stored_files():
+        path.write_bytes(content)
+
+
+def check():
+    files = dict(stored_files())
+    if answer_text(files[ROOT / "crates/monitor/stdin"]) != files[ROOT / "crates/monitor/stdout"]:
+        fail("the reference does not answer Game A as document 01 does")
+    wrong = [p for p, content in files.items() if not p.exists() or p.read_bytes() != content]
+    wrong += [p for p in STORED.iterdir() if p not in files]
+    if wrong:
+        fail("not as tests/sessions.py --write makes them:", *wrong)
+
+
+def main(args):
+    if args == ["--write"]:
+        write()
+    elif args == ["--check"]:
+        check()
+    elif len(args) == 2 and args[1] in KINDS:
+        sys.stdout.buffer.write(session(args[0], args[1]))
+    else:
+        sys.exit(__doc__ + "\nKIND is one of " + ", ".join(KINDS))
+
+
+if __name__ == "__main__":
+    main(sys.argv[1:])
