@@ -13,7 +13,7 @@ import sys
 
 import common
 from common import ROOT, STORED, as_lines, fail, game_a
-from reference import GAMES, MOST_MOVES, MOST_STATES, answer_text
+from reference import GAMES, MOST_MOVES, MOST_STATES, answer_text, bench_answer
 
 
 # ------------------------------------------------------------ one text
@@ -295,8 +295,20 @@ def stored():
     yield "ends-before-go", as_lines(["game 513 600", "pay 511", "move 0 0", "move 0 0"])
     yield "random-small", session(12, "small")
     yield "random-mid", session(1, "mid")
+    yield "random-mid-changes", session(7, "mid")
     yield "random-full", session(2, "full")
     yield "random-chain", chain(random.Random(1), 16)
+
+
+SEPARATOR = b"\x1e"                            # parts the texts that crates/texts is run on
+TOO_LONG = {"random-full", "random-chain"}     # it holds 65,536 bytes of input
+
+
+def bundle():
+    """Input and output of crates/texts: stored sessions, each answer with the number that the call returns."""
+    texts = [text for name, text in stored() if name not in TOO_LONG]
+    answers = (bench_answer(text, 65536) for text in texts)
+    return SEPARATOR.join(texts), b"".join(out + b"%d\n" % number for out, number in answers)
 
 
 def stored_files():
@@ -307,6 +319,9 @@ def stored_files():
     given, wanted = game_a()
     yield ROOT / "crates/monitor/stdin", given
     yield ROOT / "crates/monitor/stdout", wanted
+    given, wanted = bundle()
+    yield ROOT / "crates/texts/stdin", given
+    yield ROOT / "crates/texts/stdout", wanted
 
 
 def write():

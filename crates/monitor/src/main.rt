@@ -1,0 +1,180 @@
+// The box program: lines from standard input, answers on standard output, each as soon as its line is read.
+use libc::STDIN_FILENO;
+use libc::STDOUT_FILENO;
+ghost use mathlib.Core.Path.{_≡_};
+ghost use Prim.Native.Nat.{_≤_, _<_};
+ghost use lib.ListN.{length};
+ghost use Rattle.monitor.specs.Lines.{Within, Took, Next, isMore, hasLine, isLine, endOf};
+
+// "An input of more than 4,294,967,295 bytes counts as ending behind the last newline among these."
+const LIMIT: u64 = 4294967295;
+
+// What the bytes so far come to: the line goes on, a line is held whole, it is the last one, or there is none to come.
+enum Status {
+    More,
+    Line,
+    Last,
+    Over,
+}
+
+// Where the reading stands: the bytes of the last read that are taken, how many it brought, how many bytes of a line are held, how many may
+// still come, and what they come to.
+struct Reader {
+    at: usize,
+    end: usize,
+    len: usize,
+    left: u64,
+    status: Status,
+}
+
+fn standing(at: usize, end: usize, len: usize, left: u64, status: Status) -> Reader
+    ensures { λ r. ⌜ r ≡ record { at = at; end = end; len = len; left = left; status = status } ⌝ }
+{
+    Reader {
+        at,
+        end,
+        len,
+        left,
+        status,
+    }
+}
+
+// Takes bytes up to a newline or the end of the read. Of a line 33 bytes are held: the 33rd shows that it is too long.
+fn take_bytes(buf: &[u8], held: &mut [u8; 33], r: Reader) -> Reader
+    requires { ⌜ Within r (length (now buf)) × (length (now held) ≡ 33) ⌝ }
+    ensures { λ s. ⌜ Took r (now (held .entry)) (now (buf .entry)) s (now (held .exit)) ⌝ }
+{
+    let end = r.end;
+    let mut at = r.at;
+    let mut len = r.len;
+    let mut left = r.left;
+    while at < end {
+        if left == 0 {
+            return standing(at, end, len, left, Status::Over);
+        }
+        let b = buf[at];
+        at += 1;
+        left -= 1;
+        if b == line::NEWLINE {
+            return standing(at, end, len, left, Status::Line);
+        }
+        if len < 33 {
+            held[len] = b;
+            len += 1;
+        }
+    }
+    standing(at, end, len, left, Status::More)
+}
+
+// Does the line go on?
+fn is_more(r: Reader) -> bool
+    ensures { λ b. ⌜ b ≡ isMore (r .status) ⌝ }
+{
+    let status = r.status;
+    match status {
+        Status::More => true,
+        Status::Line => false,
+        Status::Last => false,
+        Status::Over => false,
+    }
+}
+
+// Where the input ends: what is held is the last line, if it is not empty.
+fn at_end(r: Reader) -> Reader
+    ensures { λ s. ⌜ s ≡ endOf r ⌝ }
+{
+    if r.len == 0 {
+        return standing(0, 0, r.len, r.left, Status::Over);
+    }
+    standing(0, 0, r.len, r.left, Status::Last)
+}
+
+// The next line, read on as far as it takes. A read that fails counts as the end of the input.
+fn next_line(buf: &mut [u8; 512], held: &mut [u8; 33], r: Reader) -> Reader
+    requires { ⌜ Within r 512 × (length (now buf) ≡ 512) × (length (now held) ≡ 33) ⌝ }
+    ensures { λ s. ⌜ Next r (now (held .entry)) (now (buf .entry)) s (now (held .exit)) (now (buf .exit)) ⌝ }
+{
+    let mut s = take_bytes(buf, held, r);
+    while is_more(s) {
+        let got = libc::read(STDIN_FILENO, buf);
+        let end = io::count(got, buf);
+        if end == 0 {
+            return at_end(s);
+        }
+        s = take_bytes(buf, held, standing(0, end, s.len, s.left, Status::More));
+    }
+    s
+}
+
+// Writes the bytes, as often as it takes: false where a write takes nothing or fails.
+fn write_whole(bytes: &[u8]) -> bool {
+    let mut at: usize = 0;
+    while at < bytes.len() {
+        let rest = &bytes[at..];
+        let put = io::count(libc::write(STDOUT_FILENO, rest), rest);
+        if put == 0 {
+            return false;
+        }
+        at += put;
+    }
+    true
+}
+
+// Is there a line to answer, and is it not the last?
+fn has_line(r: Reader) -> bool
+    ensures { λ b. ⌜ b ≡ hasLine (r .status) ⌝ }
+{
+    let status = r.status;
+    match status {
+        Status::More => false,
+        Status::Line => true,
+        Status::Last => true,
+        Status::Over => false,
+    }
+}
+
+fn is_line(r: Reader) -> bool
+    ensures { λ b. ⌜ b ≡ isLine (r .status) ⌝ }
+{
+    let status = r.status;
+    match status {
+        Status::More => false,
+        Status::Line => true,
+        Status::Last => false,
+        Status::Over => false,
+    }
+}
+
+fn main() {
+    let mut numbers: [u16; 4096] = [0; 4096];
+    let mut walk: [u16; 512] = [0; 512];
+    let mut lines: [u8; 3200] = [0; 3200];
+    let mut buf: [u8; 512] = [0; 512];
+    let mut held: [u8; 33] = [0; 33];
+    let mut lead = watch::first_lead();
+    let mut c = watch::no_session();
+    let mut r = standing(0, 0, 0, LIMIT, Status::More);
+    loop {
+        r = next_line(&mut buf, &mut held, r);
+        if !has_line(r) {
+            return;
+        }
+        let len = r.len;
+        let plan = watch::read(lead, &mut numbers, &held[..len]);
+        c = watch::serve(c.session, plan, &numbers, &mut walk);
+        let answer = c.answer;
+        let w = watch::write(plan, answer, &walk, &mut lines);
+        let n = w.len;
+        if !write_whole(&lines[..n]) {
+            return;
+        }
+        lead = w.lead;
+        if watch::is_over(lead) {
+            return;
+        }
+        if !is_line(r) {
+            return;
+        }
+        r = standing(r.at, r.end, 0, r.left, Status::More);
+    }
+}
