@@ -2,7 +2,6 @@
 use libc::STDIN_FILENO;
 use libc::STDOUT_FILENO;
 ghost use mathlib.Core.Path.{_≡_};
-ghost use Prim.Native.Nat.{_≤_, _<_};
 ghost use lib.ListN.{length};
 ghost use Rattle.monitor.specs.Lines.{Within, Took, Next, isMore, hasLine, isLine, endOf};
 

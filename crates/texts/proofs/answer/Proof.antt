@@ -4,12 +4,6 @@ use borrow.Author.Needs.{needs}
 use lib.Seq.{length-take-le}
 use Rattle.texts.proofs.answer.Statement.{statement}
 use Rattle.texts.proofs.answer.Tie as tie
-use Rattle.texts.proofs.answer.Reads as reads
-use Rattle.texts.proofs.answer.Lts as lts
-use Rattle.io.proofs.print_decimal.Reads as print-decimal-reads
-use Rattle.io.proofs.write_all.Reads as write-all-reads
-use Rattle.texts.proofs.at_most.Reads as at-most-reads
-use Rattle.watch.proofs.free_round_watch.Reads as free-round-watch-reads
 
 free-round-watch-requires : tie.Need-free-round-watch-requires
 free-round-watch-requires c κs = search needs

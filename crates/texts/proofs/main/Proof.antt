@@ -7,12 +7,6 @@ use lib.ListN.{length, take, length-take}
 use Rattle.line.proofs.Fields.{end-within}
 use Rattle.texts.proofs.main.Statement.{statement}
 use Rattle.texts.proofs.main.Tie as tie
-use Rattle.texts.proofs.main.Reads as reads
-use Rattle.texts.proofs.main.Lts as lts
-use Rattle.io.proofs.large_buffer.Reads as large-buffer-reads
-use Rattle.io.proofs.read_full.Reads as read-full-reads
-use Rattle.line.proofs.end_of.Reads as end-of-reads
-use Rattle.texts.proofs.answer.Reads as answer-reads
 
 abbrev Inv-loop : tie.InvT-loop
 Inv-loop input n out₀ from₀ out from = length out ≡ 65536
