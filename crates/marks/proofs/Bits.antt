@@ -1,14 +1,13 @@
 -- A bit of a word, against and, or and the powers of 2. Assumes nothing.
 use mathlib.Core.Path.{_≡_, refl, sym, ap, _∙_}
-use mathlib.Core.Bool.{Bool, true, false, not, _||_, or-comm}
+use mathlib.Core.Bool.{Bool, true, false, _||_, or-comm}
 use Prim.Native.Nat.{ℕ, zero, suc, _+_, _*_, _/_, _%_, _^_, _<_}
-use native.Mathlib.Nat.{zero-lt-suc, le-of-suc-le-suc, not-suc-le-zero, zero-mul, one-mul, zero-div, div-one, mod-lt, mul-mod-left, mul-div-cancel, pow-suc}
+use native.Mathlib.Nat.{zero-lt-suc, le-of-suc-le-suc, not-suc-le-zero, one-mul, zero-div, div-one, mod-lt, mul-mod-left, mul-div-cancel, pow-suc}
 use native.Mathlib.Numerals.{one-add}
 use native.Mathlib.Omega.{arith}
 use lib.Bits.{bitAnd, bitOr, and-high, or-add-and, or-shr, or-mod}
 use lib.Dec.{eqb, eqb·zero-suc, eqb·suc-zero, eqb·suc-suc}
-use lib.Pow.{high-ones, pow-pos, shr-shr}
-use borrow.Author.Tests.{ne-eqb}
+use lib.Pow.{high-ones, shr-shr}
 use Rattle.plain.specs.Table.{bit, one, withBit}
 
 -- what holds of 0 and of 1 holds of the remainder by 2
@@ -49,14 +48,6 @@ bit-of-power (suc a) (suc b) =
 -- and with a power of 2 leaves that digit alone
 pub and-power : (b w : ℕ) → bitAnd w (2 ^ b) ≡ one (bit b w) * 2 ^ b
 and-power b w = ap (bitAnd w) (sym (high-ones 1 b ∙ one-mul (2 ^ b))) ∙ and-high w 1 b ∙ ap (λ (d : ℕ). d * 2 ^ b) (digit b w)
-
--- and with a power of 2 is not 0 exactly when the bit is set
-pub and-tests : (b w : ℕ) → not (eqb (bitAnd w (2 ^ b)) 0) ≡ bit b w
-and-tests b w = ap (λ (x : ℕ). not (eqb x 0)) (and-power b w) ∙ go (bit b w)
-  where
-    go : (t : Bool) → not (eqb (one t * 2 ^ b) 0) ≡ t
-    go true = ap not (ne-eqb (1 * 2 ^ b) 0 (λ e. omega (arith, pow-pos b)))
-    go false = ap (λ (x : ℕ). not (eqb x 0)) (zero-mul (2 ^ b))
 
 -- or with a power of 2 sets the bit
 pub or-sets : (b w : ℕ) → bitOr w (2 ^ b) ≡ withBit b w

@@ -71,13 +71,14 @@ const MASKS: [u64; 64] = [
 ];
 
 // Does state s pay, by words that are lent? No for a state past the last word.
+// The word is shifted down: MASKS is written to the stack at each use, and the search asks once for each state.
 pub fn accepts_in(words: &[u64], s: usize) -> bool
     ensures { λ r. ⌜ r ≡ accepts (now (words .entry)) s ⌝ }
 {
     let word = s / 64;
     let bit = s % 64;
     if word < words.len() {
-        words[word] & MASKS[bit] != 0
+        (words[word] >> bit) % 2 == 1
     } else {
         false
     }
