@@ -1,4 +1,5 @@
 pub mod Texts
+pub mod Truth
 pub mod Steps
 pub mod Asking
 pub mod Writing

@@ -1,3 +1,4 @@
 pub mod Text
 pub mod Texts
+pub mod Truth
 pub mod Model
