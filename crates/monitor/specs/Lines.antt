@@ -2,10 +2,13 @@
 use Prim.Native.Nat.{ℕ, zero, suc, _+_, _-_, _≤_, _<_}
 use mathlib.Core.Path.{_≡_}
 use mathlib.Core.Bool.{Bool, true, false, cond}
-use mathlib.Core.List.{List, [], _∷_, _++_}
+use mathlib.Core.List.{List, [], _∷_, _++_, map}
 use lib.Dec.{eqb, ltb}
 use lib.ListN.{length, take, drop}
 use Rattle.line.specs.Fields.{newline}
+use Rattle.line.specs.declared.Record.{Record}
+use Rattle.answer.specs.Rendering.{render}
+use Rattle.watch.specs.Text.{Lead, waiting, step}
 use Rattle.monitor.specs.declared.Status.{Status}
 use Rattle.monitor.specs.declared.Status.the-variants.{More, Line, Last, Over}
 use Rattle.monitor.specs.declared.Reader.{Reader}
@@ -80,6 +83,25 @@ unfoldable pub endOf : Reader → Reader
 endOf r = pickReader (eqb (r .len) 0)
     (record { at = 0; end = 0; len = r .len; left = r .left; status = Over })
     (record { at = 0; end = 0; len = r .len; left = r .left; status = Last })
+
+-- ---- what is written
+
+-- what is held behind some records, one after the other
+unfoldable pub heldBehind : Lead → List Record → Lead
+heldBehind held [] = held
+heldBehind held (r ∷ rs) = heldBehind (step held r .next) rs
+
+unfoldable pub joined : List (List ℕ) → List ℕ
+joined [] = []
+joined (l ∷ ls) = l ++ joined ls
+
+-- the bytes are the lines that are printed for a record behind others
+pub record Printed (bytes : List ℕ) : Type 0 where
+  pub records : List Record
+  pub latest : Record
+  pub lines : bytes ≡ joined (map render (step (heldBehind waiting records) latest .lines))
+
+-- ---- the next line
 
 -- what the next line comes to, where the reads brought some bytes: a line, whatever bytes follow; the last line, or none, where the input ends
 -- there or the limit is passed

@@ -3,7 +3,7 @@ use libc::STDIN_FILENO;
 use libc::STDOUT_FILENO;
 ghost use mathlib.Core.Path.{_≡_};
 ghost use lib.ListN.{length};
-ghost use Rattle.monitor.specs.Lines.{Within, Took, Next, isMore, hasLine, isLine, endOf};
+ghost use Rattle.monitor.specs.Lines.{Within, Took, Next, isMore, hasLine, isLine, endOf, Printed};
 
 // "An input of more than 4,294,967,295 bytes counts as ending behind the last newline among these."
 const LIMIT: u64 = 4294967295;
@@ -105,8 +105,10 @@ fn next_line(buf: &mut [u8; 512], held: &mut [u8; 33], r: Reader) -> Reader
     s
 }
 
-// Writes the bytes, as often as it takes: false where a write takes nothing or fails.
-fn write_whole(bytes: &[u8]) -> bool {
+// Writes the lines of an answer, as often as it takes: false where a write takes nothing or fails. Only this function writes.
+fn write_whole(bytes: &[u8]) -> bool
+    requires { ⌜ Printed (now bytes) ⌝ }
+{
     let mut at: usize = 0;
     while at < bytes.len() {
         let rest = &bytes[at..];
