@@ -1,27 +1,95 @@
 -- The lines of a step, as the buffer holds them, and what is held behind one record more. Assumes nothing.
 use Prim.Native.Nat.{ℕ}
-use mathlib.Core.Path.{_≡_, refl, sym, ap, _∙_}
-use mathlib.Core.List.{List, [], _∷_, _++_, map, append-nil}
+use mathlib.Core.Path.{_≡_, refl, sym, ap, subst, _∙_}
+use mathlib.Core.Bool.{true, true≢false}
+use mathlib.Core.List.{List, [], _∷_, _++_, map, map-append, append-nil, append-assoc}
 use lib.ListN.{take}
-use Rattle.plain.specs.Machine.{Line}
+use Rattle.plain.specs.Machine.{Line as PrintedLine}
+use Rattle.line.specs.Records.{recordOf}
 use Rattle.line.specs.declared.Record.{Record}
 use Rattle.answer.specs.Rendering.{render}
-use Rattle.watch.specs.Text.{Lead, waiting, step}
+use Rattle.watch.specs.Text.{Lead, waiting, step, limit}
 use Rattle.watch.specs.Model.{firstOf, secondOf, Laid}
 use Rattle.watch.proofs.Output.{Short}
-use Rattle.monitor.specs.Lines.{heldBehind, joined, Printed}
+use Rattle.monitor.specs.declared.Status.{Status}
+use Rattle.monitor.specs.declared.Status.the-variants.{More, Line, Last, Over}
+use Rattle.monitor.specs.declared.Reader.{Reader}
+use Rattle.monitor.specs.Lines.{handed, heldIn, bytesIn, hasLine, heldBehind, joined, Printed, Found, Next}
 
-joined-short : (ls : List Line) → Short ls → firstOf ls ++ secondOf ls ≡ joined (map render ls)
+joined-short : (ls : List PrintedLine) → Short ls → firstOf ls ++ secondOf ls ≡ joined (map render ls)
 unfolding joined
 joined-short [] s = refl
 joined-short (a ∷ []) s = refl
 joined-short (a ∷ b ∷ []) s = ap (λ (bs : List ℕ). render a ++ bs) (sym (append-nil (render b)))
 joined-short (a ∷ b ∷ c ∷ ls) s = absurd s
 
-pub printed : (rs : List Record) (r : Record) (d : List ℕ) (first len : ℕ) → Laid (step (heldBehind waiting rs) r .lines) d first len → Short (step (heldBehind waiting rs) r .lines) → Printed (take len d)
-printed rs r d first len l s = record { records = rs; latest = r; lines = l .bytes ∙ joined-short (step (heldBehind waiting rs) r .lines) s }
+-- What was read so far: its lines up to here, and those that the bytes left of the last read begin, whatever bytes follow.
+pub record Read (r : Reader) (held buf seen : List ℕ) (ls : List (List ℕ)) : Type 0 where
+  pub goes : (more : List ℕ) → handed [] limit (seen ++ more) ≡ ls ++ handed (heldIn r held) (r .left) (bytesIn r buf ++ more)
 
-pub one-behind : (p : Lead) (rs : List Record) (r : Record) → step (heldBehind p rs) r .next ≡ heldBehind p (rs ++ (r ∷ []))
+pub read-start : (q : Reader) (held buf : List ℕ) → q .len ≡ 0 → q .left ≡ limit → q .at ≡ 0 → q .end ≡ 0 → Read q held buf [] []
+read-start q held buf z l a n = record { goes = λ more. rw (z, l, a, n) refl }
+
+-- one line more
+pub record Come (r′ : Reader) (held′ buf′ seen : List ℕ) (ls : List (List ℕ)) : Type 0 where
+  pub later : List (List ℕ)
+  pub read : handed [] limit seen ≡ ls ++ (heldIn r′ held′ ∷ later)
+
+module _ (r : Reader) (held buf : List ℕ) (r′ : Reader) (held′ buf′ seen : List ℕ) (ls : List (List ℕ)) where
+  further : (brought more : List ℕ) → Read r held buf seen ls
+      → handed [] limit ((seen ++ brought) ++ more) ≡ ls ++ handed (heldIn r held) (r .left) (bytesIn r buf ++ (brought ++ more))
+  further brought more h = ap (handed [] limit) (append-assoc seen brought more) ∙ h .goes (brought ++ more)
+
+  come-by : (st : Status) (brought : List ℕ) → Found st (heldIn r held) (r .left) (bytesIn r buf) brought (heldIn r′ held′) (r′ .left) (bytesIn r′ buf′) → hasLine st ≡ true
+      → Read r held buf seen ls → Come r′ held′ buf′ (seen ++ brought) ls
+  come-by More brought f e h = absurd f
+  come-by Line brought f e h = record {
+    later = handed [] (r′ .left) (bytesIn r′ buf′ ++ []);
+    read = sym (ap (handed [] limit) (append-nil (seen ++ brought))) ∙ further brought [] h ∙ ap (λ (xs : List (List ℕ)). ls ++ xs) (f []);
+  }
+  come-by Last brought f e h = record {
+    later = [];
+    read = sym (ap (handed [] limit) (append-nil (seen ++ brought))) ∙ further brought [] h
+        ∙ ap (λ (xs : List ℕ). ls ++ handed (heldIn r held) (r .left) (bytesIn r buf ++ xs)) (append-nil brought)
+        ∙ ap (λ (xs : List (List ℕ)). ls ++ xs) f;
+  }
+  come-by Over brought f e h = absurd (true≢false (sym e))
+
+  pub come : (n : Next r held buf r′ held′ buf′) → hasLine (r′ .status) ≡ true → Read r held buf seen ls → Come r′ held′ buf′ (seen ++ n .brought) ls
+  come n e h = come-by (r′ .status) (n .brought) (n .goes) e h
+
+  on-by : (st : Status) (brought : List ℕ) (q : Reader) → st ≡ Line → q .len ≡ 0 → q .left ≡ r′ .left → q .at ≡ r′ .at → q .end ≡ r′ .end
+      → Found st (heldIn r held) (r .left) (bytesIn r buf) brought (heldIn r′ held′) (r′ .left) (bytesIn r′ buf′)
+      → Read r held buf seen ls → Read q held′ buf′ (seen ++ brought) (ls ++ (heldIn r′ held′ ∷ []))
+  on-by st brought q e z l a n f h = record {
+    goes = λ more.
+        let g : Found Line (heldIn r held) (r .left) (bytesIn r buf) brought (heldIn r′ held′) (r′ .left) (bytesIn r′ buf′) =
+        subst (λ (x : Status). Found x (heldIn r held) (r .left) (bytesIn r buf) brought (heldIn r′ held′) (r′ .left) (bytesIn r′ buf′)) e f in
+        further brought more h ∙ ap (λ (xs : List (List ℕ)). ls ++ xs) (g more)
+        ∙ sym (append-assoc ls (heldIn r′ held′ ∷ []) (handed [] (r′ .left) (bytesIn r′ buf′ ++ more)))
+        ∙ rw (z, l, a, n) refl;
+  }
+
+  pub onwards : (n : Next r held buf r′ held′ buf′) (q : Reader) → r′ .status ≡ Line → q .len ≡ 0 → q .left ≡ r′ .left → q .at ≡ r′ .at → q .end ≡ r′ .end
+      → Read r held buf seen ls → Read q held′ buf′ (seen ++ n .brought) (ls ++ (heldIn r′ held′ ∷ []))
+  onwards n q e z l a m h = on-by (r′ .status) (n .brought) q e z l a m (n .goes) h
+
+pub printed : (r′ : Reader) (held′ buf′ seen : List ℕ) (ls : List (List ℕ)) (d : List ℕ) (first len : ℕ) → Come r′ held′ buf′ seen ls
+    → Laid (step (heldBehind waiting (map recordOf ls)) (recordOf (heldIn r′ held′)) .lines) d first len
+    → Short (step (heldBehind waiting (map recordOf ls)) (recordOf (heldIn r′ held′)) .lines) → Printed (take len d)
+printed r′ held′ buf′ seen ls d first len c l s = record {
+  seen = seen;
+  earlier = ls;
+  line = heldIn r′ held′;
+  later = c .later;
+  read = c .read;
+  lines = l .bytes ∙ joined-short (step (heldBehind waiting (map recordOf ls)) (recordOf (heldIn r′ held′)) .lines) s;
+}
+
+one-more : (p : Lead) (rs : List Record) (r : Record) → step (heldBehind p rs) r .next ≡ heldBehind p (rs ++ (r ∷ []))
 unfolding heldBehind
-one-behind p [] r = refl
-one-behind p (x ∷ rs) r = one-behind (step p x .next) rs r
+one-more p [] r = refl
+one-more p (x ∷ rs) r = one-more (step p x .next) rs r
+
+pub one-behind : (ls : List (List ℕ)) (l : List ℕ) → step (heldBehind waiting (map recordOf ls)) (recordOf l) .next ≡ heldBehind waiting (map recordOf (ls ++ (l ∷ [])))
+one-behind ls l = one-more waiting (map recordOf ls) (recordOf l) ∙ ap (heldBehind waiting) (sym (map-append recordOf ls (l ∷ [])))

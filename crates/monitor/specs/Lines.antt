@@ -6,9 +6,10 @@ use mathlib.Core.List.{List, [], _∷_, _++_, map}
 use lib.Dec.{eqb, ltb}
 use lib.ListN.{length, take, drop}
 use Rattle.line.specs.Fields.{newline}
+use Rattle.line.specs.Records.{recordOf}
 use Rattle.line.specs.declared.Record.{Record}
 use Rattle.answer.specs.Rendering.{render}
-use Rattle.watch.specs.Text.{Lead, waiting, step}
+use Rattle.watch.specs.Text.{Lead, waiting, step, limit}
 use Rattle.monitor.specs.declared.Status.{Status}
 use Rattle.monitor.specs.declared.Status.the-variants.{More, Line, Last, Over}
 use Rattle.monitor.specs.declared.Reader.{Reader}
@@ -95,11 +96,14 @@ unfoldable pub joined : List (List ℕ) → List ℕ
 joined [] = []
 joined (l ∷ ls) = l ++ joined ls
 
--- the bytes are the lines that are printed for a record behind others
+-- the bytes are what is printed for a line of what was read, behind the lines before it
 pub record Printed (bytes : List ℕ) : Type 0 where
-  pub records : List Record
-  pub latest : Record
-  pub lines : bytes ≡ joined (map render (step (heldBehind waiting records) latest .lines))
+  pub seen : List ℕ
+  pub earlier : List (List ℕ)
+  pub line : List ℕ
+  pub later : List (List ℕ)
+  pub read : handed [] limit seen ≡ earlier ++ (line ∷ later)
+  pub lines : bytes ≡ joined (map render (step (heldBehind waiting (map recordOf earlier)) (recordOf line) .lines))
 
 -- ---- the next line
 

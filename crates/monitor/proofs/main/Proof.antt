@@ -1,24 +1,24 @@
--- `main` is safe and ends, and writes what the plain definition prints: behind the lines so far, the lead, the list of numbers and the session stand for what is
--- held behind their records. The arrays keep their lengths, and each line takes off what may still come. Assumes nothing.
+-- `main` is safe and ends, and writes what the plain definition prints: behind the lines of what was read so far, the lead, the list of numbers and the session
+-- stand for what is held behind their records. The arrays keep their lengths, and each line takes off what may still come. Assumes nothing.
 use mathlib.Core.Path.{_≡_, refl, sym, ap, subst, _∙_}
-use mathlib.Core.List.{List, [], _∷_, _++_}
+use mathlib.Core.List.{List, [], _∷_, _++_, map}
 use mathlib.Core.Bool.{true, true≢false}
 use native.Mathlib.Omega.{arith}
 use borrow.Author.Needs.{needs}
 use borrow.Author.Tests.{not-false}
-use lib.ListN.{length, take}
+use Prim.Native.Nat.{ℕ}
+use lib.ListN.{length, replicate}
 use lib.Seq.{length-take-le}
 use Rattle.line.specs.Records.{recordOf}
-use Rattle.line.specs.declared.Record.{Record}
-use Rattle.watch.specs.Text.{waiting}
+use Rattle.watch.specs.Text.{waiting, limit}
 use Rattle.watch.proofs.Steps.{Tracks}
 use Rattle.watch.proofs.Turns.{Behind, behind}
 use Rattle.monitor.specs.declared.Status.{Status}
 use Rattle.monitor.specs.declared.Status.the-variants.{More, Line, Last, Over}
 use Rattle.monitor.specs.declared.Reader.{Reader}
-use Rattle.monitor.specs.Lines.{Within, isLine, heldBehind}
+use Rattle.monitor.specs.Lines.{Within, heldIn, isLine, hasLine, heldBehind}
 use Rattle.monitor.proofs.Reading.{within-same}
-use Rattle.monitor.proofs.Printing.{printed, one-behind}
+use Rattle.monitor.proofs.Printing.{Read, read-start, Come, come, onwards, printed, one-behind}
 use Rattle.monitor.proofs.main.Statement.{statement}
 use Rattle.monitor.proofs.main.Tie as tie
 
@@ -31,7 +31,7 @@ line-status Over e = absurd (true≢false (sym e))
 abbrev Inv-loop : tie.InvT-loop
 Inv-loop numbers₀ walk₀ lines₀ buf₀ held₀ lead₀ c₀ r₀ numbers walk lines buf held lead c r =
     (length numbers ≡ 4096) × (length walk ≡ 512) × (length lines ≡ 3200) × (length buf ≡ 512) × (length held ≡ 33) × Within r 512
-    × ((rs : List Record) × Tracks lead numbers (c .session) (heldBehind waiting rs))
+    × ((ls : List (List ℕ)) × ((seen : List ℕ) × (Read r held buf seen ls × Tracks lead numbers (c .session) (heldBehind waiting (map recordOf ls)))))
 
 abbrev μ-loop : tie.MeasureT-loop
 μ-loop numbers₀ walk₀ lines₀ buf₀ held₀ lead₀ c₀ r₀ numbers walk lines buf held lead c r = r .left
@@ -45,6 +45,11 @@ no-session-requires c κs = search needs
 standing-requires : tie.Need-standing-requires Inv-loop μ-loop
 standing-requires c κs = search needs
 
+starts : (c : tie.After-standing Inv-loop μ-loop) → Read (c .standing .result) (replicate 33 0) (replicate 512 0) [] []
+starts c =
+    let e : c .standing .result ≡ record { at = 0; end = 0; len = 0; left = limit; status = More } = c .standing .ensures in
+    read-start _ _ _ (ap (λ (r : Reader). r .len) e) (ap (λ (r : Reader). r .left) e) (ap (λ (r : Reader). r .at) e) (ap (λ (r : Reader). r .end) e)
+
 loop-holds : tie.Need-loop-holds Inv-loop μ-loop
 unfolding heldBehind
 loop-holds c = (
@@ -54,7 +59,7 @@ loop-holds c = (
   search needs,
   search needs,
   within-same (c .standing .result) _ 512 (c .standing .ensures) (record { at = omega arith; end = omega arith; len = omega arith }),
-  ([], c .before .before .first-lead .ensures),
+  ([], ([], (starts c, c .before .before .first-lead .ensures))),
 )
 
 next-line-requires : tie.Need-next-line-requires Inv-loop μ-loop
@@ -113,19 +118,33 @@ found w = reading w .before .before .before .before .before
 abbrev at-loop : tie.After-write Inv-loop μ-loop → tie.At-loop Inv-loop μ-loop
 at-loop w = found w .before .before .before
 
--- the records before the line, and its own
-abbrev before-it : tie.After-write Inv-loop μ-loop → List Record
+-- the lines before it, and its own
+abbrev before-it : tie.After-write Inv-loop μ-loop → List (List ℕ)
 before-it w = at-loop w .loop .inv .6 .0
 
-abbrev line-in : tie.After-write Inv-loop μ-loop → Record
-line-in w = recordOf (take (found w .next-line .result .len) (found w .next-line .last .1 .0))
+abbrev line-in : tie.After-write Inv-loop μ-loop → List ℕ
+line-in w = heldIn (found w .next-line .result) (found w .next-line .last .1 .0)
 
 told : (w : tie.After-write Inv-loop μ-loop)
-    → Behind (heldBehind waiting (before-it w)) (line-in w) (reading w .read .last .1 .0) (served w .serve .result .session) (w .write .last .1 .1 .1 .0) (w .write .result)
+    → Behind (heldBehind waiting (map recordOf (before-it w))) (recordOf (line-in w)) (reading w .read .last .1 .0) (served w .serve .result .session) (w .write .last .1 .1 .1 .0) (w .write .result)
 told w =
     let i = at-loop w .loop .inv in
-    behind _ _ _ (heldBehind waiting (before-it w)) _ (line-in w) _ _ _ _ _ _ (i .0) (i .1) (i .6 .1) (reading w .read .ensures .0) (reading w .read .ensures .1)
+    behind _ _ _ (heldBehind waiting (map recordOf (before-it w))) _ (recordOf (line-in w)) _ _ _ _ _ _ (i .0) (i .1) (i .6 .1 .1 .1) (reading w .read .ensures .0) (reading w .read .ensures .1)
     (served w .serve .ensures) (w .write .ensures)
+
+-- what was read, the bytes that this line took included
+abbrev seen-by : tie.After-write Inv-loop μ-loop → List ℕ
+seen-by w = at-loop w .loop .inv .6 .1 .0 ++ found w .next-line .ensures .brought
+
+-- there is a line
+there : (w : tie.After-write Inv-loop μ-loop) → hasLine (found w .next-line .result .status) ≡ true
+there w =
+    let e = reading w .before .before .before in
+    sym (e .before .has-line .ensures) ∙ not-false (e .before .has-line .result) (e .if1 .left)
+
+came : (w : tie.After-write Inv-loop μ-loop)
+    → Come (found w .next-line .result) (found w .next-line .last .1 .0) (found w .next-line .last .0) (seen-by w) (before-it w)
+came w = come (at-loop w .loop .r) (at-loop w .loop .held) (at-loop w .loop .buf) _ _ _ _ _ (found w .next-line .ensures) (there w) (at-loop w .loop .inv .6 .1 .1 .0)
 
 array-share-prefix-lines : tie.Need-array-share-prefix-lines Inv-loop μ-loop
 array-share-prefix-lines c = search needs
@@ -133,13 +152,12 @@ array-share-prefix-lines c = search needs
 slice-aggregate-write-whole : tie.Need-slice-aggregate-write-whole Inv-loop μ-loop
 slice-aggregate-write-whole c =
     let w = c .before .before in
-    let l = w .before .before .before .before .before .before .before .before .before .before .before .before .before .before .before .before in
-    sym (length-take-le (w .write .result .len) (w .write .last .1 .1 .1 .0) (omega (arith, w .write .ensures .laid .fits, w .write .kept .1 .1 .1 .0, l .loop .inv .2)))
+    sym (length-take-le (w .write .result .len) (w .write .last .1 .1 .1 .0) (omega (arith, w .write .ensures .laid .fits, w .write .kept .1 .1 .1 .0, at-loop w .loop .inv .2)))
 
 write-whole-requires : tie.Need-write-whole-requires Inv-loop μ-loop
 write-whole-requires c κs =
     let w = c .before .before in
-    printed (before-it w) (line-in w) _ _ _ (told w .laid) (told w .few)
+    printed _ _ _ _ _ _ _ _ (came w) (told w .laid) (told w .few)
 
 returns-2 : tie.Need-returns-2 Inv-loop μ-loop
 returns-2 c = search needs
@@ -163,32 +181,41 @@ standing-requires-2 c κs = search needs
 abbrev onward : Reader → Reader
 onward r = record { at = r .at; end = r .end; len = 0; left = r .left; status = More }
 
-begun : (c : tie.After-standing2 Inv-loop μ-loop)
-    → c .standing2 .result ≡ onward (c .before .before .before .before .before .before .before .before .before .before .before .before .before .before .before .before .before .before .before .before .before .before .before .next-line .result)
+abbrev answered : tie.After-standing2 Inv-loop μ-loop → tie.After-write Inv-loop μ-loop
+answered c = c .before .before .before .before .before .before .before .before .before .before
+
+begun : (c : tie.After-standing2 Inv-loop μ-loop) → c .standing2 .result ≡ onward (found (answered c) .next-line .result)
 begun c = c .standing2 .ensures
 
+-- the line was not the last
+ended : (c : tie.After-standing2 Inv-loop μ-loop) → found (answered c) .next-line .result .status ≡ Line
+ended c =
+    let n = found (answered c) .next-line in
+    line-status (n .result .status) (sym (c .before .before .is-line .ensures) ∙ not-false (c .before .before .is-line .result) (c .before .if4 .left))
+
+goes-on : (c : tie.After-standing2 Inv-loop μ-loop)
+    → Read (c .standing2 .result) (found (answered c) .next-line .last .1 .0) (found (answered c) .next-line .last .0) (seen-by (answered c)) (before-it (answered c) ++ (line-in (answered c) ∷ []))
+goes-on c =
+    let w = answered c in
+    let b = begun c in
+    onwards (at-loop w .loop .r) (at-loop w .loop .held) (at-loop w .loop .buf) _ _ _ _ _ (found w .next-line .ensures) (c .standing2 .result) (ended c)
+    (ap (λ (r : Reader). r .len) b) (ap (λ (r : Reader). r .left) b) (ap (λ (r : Reader). r .at) b) (ap (λ (r : Reader). r .end) b) (at-loop w .loop .inv .6 .1 .1 .0)
+
 loop-less : tie.Need-loop-less Inv-loop μ-loop
-loop-less c =
-    let w = c .before .before .before .before .before .before .before .before .before .before in
-    let n = w .before .before .before .before .before .before .before .before .before .before .before .before .before .next-line in
-    let ended : isLine (n .result .status) ≡ true = sym (c .before .before .is-line .ensures) ∙ not-false (c .before .before .is-line .result) (c .before .if4 .left) in
-    omega (arith, ap (λ (r : Reader). r .left) (begun c), n .ensures .falls (line-status (n .result .status) ended))
+loop-less c = omega (arith, ap (λ (r : Reader). r .left) (begun c), found (answered c) .next-line .ensures .falls (ended c))
 
 loop-again : tie.Need-loop-again Inv-loop μ-loop
 loop-again c =
-    let w = c .before .before .before .before .before .before .before .before .before .before in
-    let s = w .before .before .before .before in
-    let d = s .before .before .before .before in
-    let n = d .before .before .before .before .before in
-    let l = n .before .before .before in
-    let e = n .next-line .ensures in (
-      d .read .kept .1 .0 ∙ l .loop .inv .0,
-      s .serve .kept .1 .1 .1 .0 ∙ l .loop .inv .1,
-      w .write .kept .1 .1 .1 .0 ∙ l .loop .inv .2,
+    let w = answered c in
+    let i = at-loop w .loop .inv in
+    let e = found w .next-line .ensures in (
+      reading w .read .kept .1 .0 ∙ i .0,
+      served w .serve .kept .1 .1 .1 .0 ∙ i .1,
+      w .write .kept .1 .1 .1 .0 ∙ i .2,
       e .space,
       e .size,
-      within-same (c .standing2 .result) (onward (n .next-line .result)) 512 (begun c) (record { at = e .within .at; end = e .within .end; len = omega arith }),
-      (before-it w ++ (line-in w ∷ []), subst (Tracks (w .write .result .lead) (reading w .read .last .1 .0) (served w .serve .result .session)) (one-behind waiting (before-it w) (line-in w)) (told w .tracks)),
+      within-same (c .standing2 .result) (onward (found w .next-line .result)) 512 (begun c) (record { at = e .within .at; end = e .within .end; len = omega arith }),
+      (before-it w ++ (line-in w ∷ []), (seen-by w, (goes-on c, subst (Tracks (w .write .result .lead) (reading w .read .last .1 .0) (served w .serve .result .session)) (one-behind (before-it w) (line-in w)) (told w .tracks)))),
     )
 
 pub main-spec : {M : Type 1} → statement M
