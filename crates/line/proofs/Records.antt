@@ -12,7 +12,8 @@ use lib.ListN.{length, getD, take, length-take}
 use lib.Seq.{take-all}
 use Rattle.line.specs.Fields.{tab, fieldsOf, fieldAt}
 use Rattle.line.specs.Numbers.{all, value, isNumber, pickNumber, numberOf}
-use Rattle.line.specs.Records.{countOf, limitOf, unreadable, wordOf, worded, fromFields, recordOf}
+use Rattle.line.specs.Words.{countOf, limitOf}
+use Rattle.line.specs.Records.{unreadable, wordOf, worded, fromFields, recordOf}
 use Rattle.line.specs.Items.{asItem, itemAt, filledWith}
 use Rattle.line.specs.declared.Item.{Item}
 use Rattle.line.specs.declared.Item.the-variants as I

@@ -13,7 +13,8 @@ use Rattle.line.specs.declared.Word.{Word}
 use Rattle.line.specs.declared.Record.{Record}
 use Rattle.line.specs.Fields.{fieldAt}
 use Rattle.line.specs.Numbers.{numberOf}
-use Rattle.line.specs.Records.{countOf, unreadable, pickRecord}
+use Rattle.line.specs.Words.{countOf}
+use Rattle.line.specs.Records.{unreadable, pickRecord}
 
 -- the field that starts behind `at`, as a number, and where it ends
 abbrev pub asItem : Number → ℕ → Item

@@ -9,6 +9,7 @@ use Rattle.line.specs.declared.Word.the-variants.{Game, Pay, Move, Go, A
 use Rattle.line.specs.declared.Record.{Record}
 use Rattle.line.specs.Fields.{bytes, fieldsOf}
 use Rattle.line.specs.Numbers.{all, value, isNumber}
+use Rattle.line.specs.Words.{countOf, limitOf}
 
 -- equality of lists of bytes, as a test
 unfoldable pub sameBytes : List ℕ → List ℕ → Bool
@@ -32,26 +33,6 @@ wordIn (row ∷ rows) field = pickWord (sameBytes field (row .0)) (row .1) (word
 
 unfoldable pub wordOf : List ℕ → Word
 wordOf field = wordIn words field
-
--- "`game` (N, start), `pay` (state), `move` (from, to), `go`, `add` (from, to) and `cut` (from, to)": how many numbers follow
-abbrev pub countOf : Word → ℕ
-countOf Game = 2
-countOf Pay = 1
-countOf Move = 2
-countOf Go = 0
-countOf Add = 2
-countOf Cut = 2
-countOf Unreadable = 0
-
--- "at most 65,535; in `pay` at most 511"
-abbrev pub limitOf : Word → ℕ
-limitOf Game = 65535
-limitOf Pay = 511
-limitOf Move = 65535
-limitOf Go = 65535
-limitOf Add = 65535
-limitOf Cut = 65535
-limitOf Unreadable = 65535
 
 abbrev pub unreadable : Record
 unreadable = record { word = Unreadable; first = 0; second = 0 }

@@ -4,8 +4,8 @@ ghost use Prim.Native.Nat.{_+_, _≤_};
 ghost use lib.ListN.{length, drop};
 ghost use Rattle.line.specs.Fields.{upTo, fieldAt};
 ghost use Rattle.line.specs.Numbers.{numberOf};
-ghost use Rattle.line.specs.Records.{sameBytes, wordOf, countOf, limitOf, unreadable as Records·unreadable, recordOf};
-ghost use Rattle.line.specs.Words.{tagOf, isWord};
+ghost use Rattle.line.specs.Records.{sameBytes, wordOf, unreadable as Records·unreadable, recordOf};
+ghost use Rattle.line.specs.Words.{form as Words·form, formOf, isWord};
 ghost use Rattle.line.specs.Items.{itemAt, filledWith};
 
 // The words of the lead, as bytes.
@@ -40,6 +40,13 @@ pub enum Word {
     Add,
     Cut,
     Unreadable,
+}
+
+// What a word asks for: a number that tells it apart, how many numbers follow it, and how large they may be.
+struct Form {
+    tag: u16,
+    count: u16,
+    limit: u16,
 }
 
 // What a line says: its word and its numbers, 0 where the word takes fewer.
@@ -156,18 +163,24 @@ fn read_word(s: &[u8]) -> Word
     Word::Unreadable
 }
 
-// A number for each word.
-fn tag_of(word: Word) -> u16
-    ensures { λ r. ⌜ r ≡ tagOf word ⌝ }
+fn row(tag: u16, count: u16, limit: u16) -> Form
+    ensures { λ r. ⌜ r ≡ Words·form tag count limit ⌝ }
+{
+    Form { tag, count, limit }
+}
+
+// The table of words.
+fn form_of(word: Word) -> Form
+    ensures { λ r. ⌜ r ≡ formOf word ⌝ }
 {
     match word {
-        Word::Game => 0,
-        Word::Pay => 1,
-        Word::Move => 2,
-        Word::Go => 3,
-        Word::Add => 4,
-        Word::Cut => 5,
-        Word::Unreadable => 6,
+        Word::Game => row(0, 2, 65535),
+        Word::Pay => row(1, 1, 511),
+        Word::Move => row(2, 2, 65535),
+        Word::Go => row(3, 0, 65535),
+        Word::Add => row(4, 2, 65535),
+        Word::Cut => row(5, 2, 65535),
+        Word::Unreadable => row(6, 0, 65535),
     }
 }
 
@@ -175,37 +188,9 @@ fn tag_of(word: Word) -> u16
 pub fn is_word(v: Word, w: Word) -> bool
     ensures { λ r. ⌜ r ≡ isWord v w ⌝ }
 {
-    tag_of(v) == tag_of(w)
-}
-
-// How many numbers follow a word.
-fn count_of(word: Word) -> u16
-    ensures { λ r. ⌜ r ≡ countOf word ⌝ }
-{
-    match word {
-        Word::Game => 2,
-        Word::Pay => 1,
-        Word::Move => 2,
-        Word::Go => 0,
-        Word::Add => 2,
-        Word::Cut => 2,
-        Word::Unreadable => 0,
-    }
-}
-
-// The largest number that may follow a word.
-fn limit_of(word: Word) -> u16
-    ensures { λ r. ⌜ r ≡ limitOf word ⌝ }
-{
-    match word {
-        Word::Game => 65535,
-        Word::Pay => 511,
-        Word::Move => 65535,
-        Word::Go => 65535,
-        Word::Add => 65535,
-        Word::Cut => 65535,
-        Word::Unreadable => 65535,
-    }
+    let a = form_of(v);
+    let b = form_of(w);
+    a.tag == b.tag
 }
 
 fn unreadable() -> Record
@@ -238,7 +223,8 @@ fn read_item(line: &[u8], at: usize, limit: u16) -> Item
 fn filled(word: Word, count: u16, first: u16, second: u16) -> Record
     ensures { λ r. ⌜ r ≡ filledWith word count first second ⌝ }
 {
-    if count == count_of(word) {
+    let form = form_of(word);
+    if count == form.count {
         return Record {
             word,
             first,
@@ -257,7 +243,8 @@ pub fn read_record(line: &[u8]) -> Record
     }
     let name = field(line, 0);
     let word = read_word(name);
-    let limit = limit_of(word);
+    let form = form_of(word);
+    let limit = form.limit;
     match read_item(line, name.len(), limit) {
         Item::End => filled(word, 0, 0, 0),
         Item::Bad => unreadable(),

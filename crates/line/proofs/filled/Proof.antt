@@ -1,11 +1,13 @@
 -- `filled` meets its contract: the test of the count is the definition's. Assumes nothing.
 use Prim.Native.Nat.{ℕ}
-use mathlib.Core.Path.{_≡_, _∙_, sym}
+use mathlib.Core.Path.{_≡_, ap, sym, _∙_}
 use borrow.Author.Needs.{needs}
 use borrow.Author.Tests.{eq-eqb, ne-eqb}
-use Rattle.line.specs.Records.{countOf, unreadable}
+use Rattle.line.specs.Words.{countOf}
+use Rattle.line.specs.Records.{unreadable}
 use Rattle.line.specs.Items.{filledWith}
 use Rattle.line.specs.declared.Word.{Word}
+use Rattle.line.specs.declared.Form.{Form}
 use Rattle.line.proofs.filled.Statement.{statement}
 use Rattle.line.proofs.filled.Tie as tie
 
@@ -17,11 +19,11 @@ wrong-count : (w : Word) (n a b : ℕ) → (n ≡ countOf w → ⊥) → unreada
 unfolding filledWith
 wrong-count w n a b d = rw (ne-eqb n (countOf w) d)
 
-count-of-requires : tie.Need-count-of-requires
-count-of-requires c κs = search needs
+form-of-requires : tie.Need-form-of-requires
+form-of-requires c κs = search needs
 
 returns : tie.Need-returns
-returns c = right-count _ _ _ _ (c .if1 .taken ∙ c .before .count-of .ensures)
+returns c = right-count _ _ _ _ (c .if1 .taken ∙ ap (λ (f : Form). f .count) (c .before .before .form-of .ensures))
 
 unreadable-requires : tie.Need-unreadable-requires
 unreadable-requires c κs = search needs
@@ -29,7 +31,7 @@ unreadable-requires c κs = search needs
 returns-2 : tie.Need-returns-2
 returns-2 c =
     let e = c .before in
-    c .unreadable .ensures ∙ wrong-count _ _ _ _ (λ d. e .if1 .left (d ∙ sym (e .before .count-of .ensures)))
+    c .unreadable .ensures ∙ wrong-count _ _ _ _ (λ d. e .if1 .left (d ∙ sym (ap (λ (f : Form). f .count) (e .before .before .form-of .ensures))))
 
 pub filled-spec : {M : Type 1} → statement M
-filled-spec = tie.close (tie.spec count-of-requires returns unreadable-requires returns-2)
+filled-spec = tie.close (tie.spec form-of-requires returns unreadable-requires returns-2)

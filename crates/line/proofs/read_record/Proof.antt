@@ -5,8 +5,10 @@ use mathlib.Core.List.{List}
 use borrow.Author.Needs.{needs}
 use native.Mathlib.Omega.{arith}
 use lib.ListN.{length}
-use Rattle.line.specs.Records.{limitOf, worded, recordOf}
+use Rattle.line.specs.Words.{limitOf}
+use Rattle.line.specs.Records.{worded, recordOf}
 use Rattle.line.specs.Items.{itemAt}
+use Rattle.line.specs.declared.Form.{Form}
 use Rattle.line.specs.declared.Item.{Item}
 use Rattle.line.specs.declared.Item.the-variants as I
 use Rattle.line.proofs.Fields.{fieldsBehind, field-within}
@@ -34,7 +36,7 @@ Told c at i = Tells (limitOf (c .read-word .result)) (line-of (c .before)) at i
 first-told : (c : tie.After-read-item) (i : Item) → c .read-item .result ≡ i → Told (c .before .before) (name-end (c .before .before .before)) i
 first-told c i e =
     let f = c .before .before .before in
-    item-tells _ _ _ i (name-within f) (sym e ∙ c .read-item .ensures ∙ ap (λ (n : ℕ). itemAt n (line-of f) (name-end f)) (c .before .limit-of .ensures))
+    item-tells _ _ _ i (name-within f) (sym e ∙ c .read-item .ensures ∙ ap (λ (m : Form). itemAt (m .limit) (line-of f) (name-end f)) (c .before .form-of .ensures))
 
 first-number : (c : tie.After-first)
     → Told (c .before .before .before .before) (name-end (c .before .before .before .before .before)) (I.Is (c .first .given .0 .0) (c .first .given .0 .1 .0))
@@ -46,7 +48,7 @@ second-told c i e =
     let f = c .before .before in
     let k = f .before .before .before in
     item-tells _ _ _ i (first-number f .4)
-    (sym e ∙ c .read-item2 .ensures ∙ ap (λ (n : ℕ). itemAt n (line-of (k .before .before)) (f .first .given .0 .1 .0)) (k .limit-of .ensures))
+    (sym e ∙ c .read-item2 .ensures ∙ ap (λ (m : Form). itemAt (m .limit) (line-of (k .before .before)) (f .first .given .0 .1 .0)) (k .form-of .ensures))
 
 unreadable-requires : tie.Need-unreadable-requires
 unreadable-requires c κs = search needs
@@ -60,8 +62,8 @@ field-requires c κs = search needs
 read-word-requires : tie.Need-read-word-requires
 read-word-requires c κs = search needs
 
-limit-of-requires : tie.Need-limit-of-requires
-limit-of-requires c κs = search needs
+form-of-requires : tie.Need-form-of-requires
+form-of-requires c κs = search needs
 
 read-item-requires : tie.Need-read-item-requires
 read-item-requires c κs = name-within (c .before .before)
@@ -153,7 +155,7 @@ read-record-spec =
     returns
     field-requires
     read-word-requires
-    limit-of-requires
+    form-of-requires
     read-item-requires
     enum-told
     filled-requires
