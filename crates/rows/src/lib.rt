@@ -13,7 +13,7 @@ fn wide(x: u16) -> usize
 }
 
 // Where the row of v starts; 0 past the last.
-fn start_of(starts: &[u16; 513], v: usize) -> u16
+pub fn start_of(starts: &[u16; 513], v: usize) -> u16
     requires { ⌜ length (now starts) ≡ 513 ⌝ }
     ensures { λ r. ⌜ r ≡ getD (now (starts .entry)) v 0 ⌝ }
 {
@@ -40,7 +40,7 @@ pub fn degree(starts: &[u16; 513], v: u16) -> u16
 }
 
 // The target of edge k of v; 0 where there is none.
-pub fn target(targets: &[u16; 2048], starts: &[u16; 513], v: u16, k: u16) -> u16
+fn target(targets: &[u16; 2048], starts: &[u16; 513], v: u16, k: u16) -> u16
     requires { ⌜ (length (now targets) ≡ 2048) × (length (now starts) ≡ 513) ⌝ }
     ensures { λ r. ⌜ r ≡ getD (rowAt (now (targets .entry)) (now (starts .entry)) v) k 0 ⌝ }
 {

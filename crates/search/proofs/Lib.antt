@@ -1,5 +1,6 @@
 pub mod Represents
 pub mod Ways
+pub mod Scans
 pub mod Places
 pub mod OneStep
 pub mod Rewind

@@ -7,7 +7,7 @@ use native.Mathlib.Nat.{le-of-suc-le-suc, not-suc-le-zero}
 use native.Mathlib.Omega.{arith}
 use lib.Dec.{eqb, ltb}
 use lib.ListN.{length, getD, set, take, drop, replicate, length-set, length-map, length-replicate}
-use borrow.Author.Tests.{lt-ltb, le-ltb, le-leb, lt-leb, eq-eqb, ne-eqb}
+use borrow.Author.Tests.{lt-ltb, le-ltb, eq-eqb, ne-eqb}
 use Rattle.plain.specs.Table.{accepts}
 use Rattle.plain.proofs.Tests.{contra}
 use Rattle.rows.specs.Rows.{degreeAt}
@@ -22,7 +22,7 @@ pub same-walker : (a b : Walker) → a .phase ≡ b .phase → a .cur ≡ b .cur
     → a .met ≡ b .met → a .kept ≡ b .kept → a ≡ b
 same-walker a b p q r s t u v = λ i. record { phase = p i; cur = q i; next = r i; height = s i; top = t i; met = u i; kept = v i }
 
-same-core : (a b : Core) → a .number ≡ b .number → a .parent ≡ b .parent → a .index ≡ b .index → a .probes ≡ b .probes → a .stamp ≡ b .stamp
+pub same-core : (a b : Core) → a .number ≡ b .number → a .parent ≡ b .parent → a .index ≡ b .index → a .probes ≡ b .probes → a .stamp ≡ b .stamp
     → a .walk ≡ b .walk → a .depth ≡ b .depth → a .cursor ≡ b .cursor → a .spent ≡ b .spent → a .walker ≡ b .walker → a ≡ b
 same-core a b p q r s t u v w x y =
     λ i. record { number = p i; parent = q i; index = r i; probes = s i; stamp = t i; walk = u i; depth = v i; cursor = w i; spent = x i; walker = y i }
@@ -172,14 +172,6 @@ module _ (targets starts words : List ℕ) where
   run-over (suc n) s h =
       ap (runFor targets starts words n) (sym (step-at s (s .walker .phase) refl) ∙ by-over s (s .walker .phase) h) ∙ run-over n s h
 
-  pub run-none : (s : Core) → runFor targets starts words 0 s ≡ s
-  unfolding runFor
-  run-none s = refl
-
-  pub run-more : (n : ℕ) (s : Core) → runFor targets starts words (suc n) s ≡ runFor targets starts words n (step targets starts words s)
-  unfolding runFor
-  run-more n s = refl
-
 -- ---- sizes
 
 sized : (s : Core) → length (s .number) ≡ 512 → length (s .parent) ≡ 512 → length (s .index) ≡ 512 → length (s .probes) ≡ 512 → length (s .stamp) ≡ 512
@@ -320,34 +312,18 @@ module _ (f : ℕ → ℕ) where
   mapped-write (x ∷ xs) zero = refl
   mapped-write (x ∷ xs) (suc i) = ap (λ (r : List ℕ). f x ∷ r) (mapped-write xs i)
 
-  mapped-keep : (xs : List ℕ) (i : ℕ) → f (getD xs i 0) ≡ getD xs i 0 → mapped f i xs ≡ mapped f (suc i) xs
-  mapped-keep [] zero e = refl
-  mapped-keep [] (suc i) e = refl
-  mapped-keep (x ∷ xs) zero e = ap (λ (y : ℕ). y ∷ xs) (sym e)
-  mapped-keep (x ∷ xs) (suc i) e = ap (λ (r : List ℕ). f x ∷ r) (mapped-keep xs i e)
-
   pub mapped-all : (xs : List ℕ) (i : ℕ) → length xs ≤ i → mapped f i xs ≡ map f xs
   mapped-all [] zero h = refl
   mapped-all [] (suc i) h = refl
   mapped-all (x ∷ xs) zero h = absurd (not-suc-le-zero h)
   mapped-all (x ∷ xs) (suc i) h = ap (λ (r : List ℕ). f x ∷ r) (mapped-all xs i (le-of-suc-le-suc h))
 
--- a turn of `keep_up_to`: the entry is forgotten, or it stays
-module _ (limit : ℕ) (xs a : List ℕ) (i : ℕ) (so-far : a ≡ mapped (upTo limit) i xs) where
-  here : getD a i 0 ≡ getD xs i 0
-  here = ap (λ (l : List ℕ). getD l i 0) so-far ∙ mapped-at (upTo limit) xs i
-
-  pub forgets : limit < getD a i 0 → set a i none ≡ mapped (upTo limit) (suc i) xs
-  unfolding upTo
-  forgets h =
-      let late : upTo limit (getD xs i 0) ≡ none = rw (lt-leb _ _ (subst (λ (x : ℕ). limit < x) here h)) in
-      ap (λ (l : List ℕ). set l i none) so-far ∙ ap (set (mapped (upTo limit) i xs) i) (sym late) ∙ mapped-write (upTo limit) xs i
-
-  pub keeps : getD a i 0 ≤ limit → a ≡ mapped (upTo limit) (suc i) xs
-  unfolding upTo
-  keeps h =
-      let early : upTo limit (getD xs i 0) ≡ getD xs i 0 = rw (le-leb _ _ (subst (λ (x : ℕ). x ≤ limit) here h)) in
-      so-far ∙ mapped-keep (upTo limit) xs i early
+-- a turn of `keep_up_to`: the entry is written anew
+module _ (f : ℕ → ℕ) (xs a : List ℕ) (i : ℕ) (so-far : a ≡ mapped f i xs) where
+  pub rewrites : (x : ℕ) → x ≡ f (getD a i 0) → set a i x ≡ mapped f (suc i) xs
+  rewrites x e =
+      let new : x ≡ f (getD xs i 0) = e ∙ ap f (ap (λ (l : List ℕ). getD l i 0) so-far ∙ mapped-at f xs i) in
+      (λ j. set (so-far j) i (new j)) ∙ mapped-write f xs i
 
 module _ (parent : List ℕ) (start x : ℕ) where
   climb-here : (m k : ℕ) → m ≡ suc k → x ≡ start → climb parent start m x ≡ 1

@@ -1,6 +1,6 @@
 -- The arrays of the search as lists, and what each step does to them. Cited by the contracts of this crate alone: a theorem
 -- (proofs/OneStep.antt) ties it to the plain search. Assumes nothing.
-use Prim.Native.Nat.{ℕ, zero, suc, _+_, _-_}
+use Prim.Native.Nat.{ℕ, zero, suc, _+_, _-_, _≤_, _<_}
 use mathlib.Core.Path.{_≡_}
 use mathlib.Core.Bool.{Bool, true, false, _&&_}
 use mathlib.Core.List.{List, map}
@@ -11,6 +11,7 @@ use Rattle.rows.specs.Rows.{rowAt, degreeAt}
 use Rattle.search.specs.declared.Phase.{Phase}
 use Rattle.search.specs.declared.Phase.the-variants.{Outer, Nested, Exhausted, Found}
 use Rattle.search.specs.declared.Walker.{Walker}
+use Rattle.search.specs.declared.Scanned.{Scanned}
 
 -- what stands in an array for "no number"
 abbrev pub none : ℕ
@@ -106,8 +107,11 @@ plus a b = choose (leb (a + b) 65535) (a + b) 65535
 -- ---- one step, by its ways
 
 -- the walker with another place in the row
+abbrev pub placed : Walker → ℕ → Walker
+placed w next = record { phase = w .phase; cur = w .cur; next = next; height = w .height; top = w .top; met = w .met; kept = w .kept }
+
 abbrev pub skipped : Walker → Walker
-skipped w = record { phase = w .phase; cur = w .cur; next = up (w .next); height = w .height; top = w .top; met = w .met; kept = w .kept }
+skipped w = placed w (up (w .next))
 
 -- t is discovered, by edge `next` of `cur`
 abbrev pub entered : Walker → ℕ → Walker
@@ -239,6 +243,51 @@ module _ (targets starts words : List ℕ) where
   unfoldable pub runFor : ℕ → Core → Core
   runFor zero s = s
   runFor (suc n) s = runFor n (step s)
+
+-- ---- several steps at once
+
+-- some steps more, at least one
+pub record Advanced (targets starts words : List ℕ) (s s′ : Core) : Type 0 where
+  pub more : ℕ
+  pub reached : s′ ≡ runFor targets starts words (suc more) s
+
+-- at least so many steps
+pub record Ran (targets starts words : List ℕ) (budget : ℕ) (s s′ : Core) : Type 0 where
+  pub steps : ℕ
+  pub enough : budget ≤ steps
+  pub reached : s′ ≡ runFor targets starts words steps s
+
+-- where a scan for an undiscovered state stands
+pub record Outwards (number : List ℕ) (s : Core) : Type 0 where
+  pub phase-is : s .walker .phase ≡ Outer
+  pub high : s .walker .height ≡ 0 → ⊥
+  pub number-is : s .number ≡ number
+
+-- where a scan for a state on the open path, or an unmarked one, stands
+pub record Inwards (stamp walk depth : List ℕ) (height : ℕ) (s : Core) : Type 0 where
+  pub phase-is : s .walker .phase ≡ Nested
+  pub high : s .walker .height ≤ s .walker .top
+  pub height-is : s .walker .height ≡ height
+  pub stamp-is : s .stamp ≡ stamp
+  pub walk-is : s .walk ≡ walk
+  pub depth-is : s .depth ≡ depth
+
+-- the same at another edge, with another count of probes
+abbrev pub standing : Core → ℕ → ℕ → Core
+standing s next spent = coreOf (placed (s .walker) next) spent (s .number) (s .parent) (s .index) (s .probes) (s .stamp) (s .walk) (s .depth) (s .cursor)
+
+-- the steps from edge k of v up to another edge are skips: from any search that stands there they lead to the same at that edge
+abbrev pub Skips : (Core → Type 0) → List ℕ → List ℕ → ℕ → ℕ → ℕ → ℕ → ℕ → Type 0
+Skips Stands targets starts v k spent next spent′ = (words : List ℕ) (s : Core) → Stands s → s .walker .cur ≡ v → s .walker .next ≡ k → s .spent ≡ spent
+    → runFor targets starts words (next - k) s ≡ standing s next spent′
+
+-- what a scan leaves: skips, and then the look at an edge, or no edge left
+pub record Swept (Stands : Core → Type 0) (targets starts : List ℕ) (v k spent : ℕ) (r : Scanned) (spent′ : ℕ) : Type 0 where
+  -- the count before that look
+  pub before : ℕ
+  pub skips : Skips Stands targets starts v k spent (r .next) before
+  pub looked : r .found ≡ true → (r .next < degreeAt starts v) × (r .target ≡ getD (rowAt targets starts v) (r .next) 0) × (spent′ ≡ up before)
+  pub ended : r .found ≡ false → (degreeAt starts v ≤ r .next) × (spent′ ≡ before)
 
 -- ---- resuming
 

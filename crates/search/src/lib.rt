@@ -1,12 +1,13 @@
-// Nested depth-first search over compressed rows, one step at a time; it can be resumed where a state was discovered.
+// Nested depth-first search over compressed rows; it can be resumed where a state was discovered.
 // The arrays are lent, so that no step copies one. Every function is safe for any contents of the arrays.
 ghost use mathlib.Core.Path.{_≡_};
 ghost use mathlib.Core.Bool.{true, false};
 ghost use mathlib.Core.List.{List, map};
-ghost use Prim.Native.Nat.{ℕ, _-_, _<_};
+ghost use Prim.Native.Nat.{ℕ, suc, _+_, _-_, _≤_, _<_};
 ghost use lib.ListN.{length, getD, set};
-ghost use Rattle.rows.specs.Rows.{rowAt};
-ghost use Rattle.search.specs.Core.{Sized, Tabled, Recorded, Trailed, Kept, coreOf, up as upped, plus as added, skipped, left, returned, discover as discovered, deepen as deepens, onOpenPath, outerStep, nestedStep, finish as finished, step as stepped, runFor, over as isOver, upTo, climb as climbed, retraceWalk, retraceDepth, rewound, resultOf, result};
+ghost use Rattle.rows.specs.Rows.{degreeAt, rowAt};
+ghost use Rattle.search.specs.declared.Phase.the-variants.{Outer, Nested};
+ghost use Rattle.search.specs.Core.{Core, Sized, Tabled, Recorded, Trailed, Kept, none, coreOf, up as upped, plus as added, placed, left, returned, discover as discovered, deepen as deepens, onOpenPath, finish as finished, Outwards, Inwards, Swept, Advanced, Ran, over as isOver, upTo, climb as climbed, retraceWalk, retraceDepth, rewound, resultOf, result};
 
 pub enum Phase {
     Outer,
@@ -31,6 +32,19 @@ pub struct Walker {
     pub kept: u16,
 }
 
+// The places of a row: those from one up to another.
+struct Row {
+    from: usize,
+    stop: usize,
+}
+
+// Where a scan of a row ends: at an edge that was looked at, and its target, or behind the last edge.
+struct Scanned {
+    next: u16,
+    target: u16,
+    found: bool,
+}
+
 // What stands in an array for "no number".
 const NONE: u16 = 65535;
 
@@ -38,6 +52,19 @@ pub fn wide(x: u16) -> usize
     ensures { λ r. ⌜ (r ≡ x) × (r < 65536) ⌝ }
 {
     x as usize
+}
+
+fn narrow(x: usize) -> u16
+    requires { ⌜ x < 65536 ⌝ }
+    ensures { λ r. ⌜ r ≡ x ⌝ }
+{
+    x as u16
+}
+
+fn least(a: usize, b: usize) -> usize
+    ensures { λ r. ⌜ r ≤ a ⌝ }
+{
+    if a < b { a } else { b }
 }
 
 // One more, at most 65,535.
@@ -81,28 +108,85 @@ fn put(a: &mut [u16; 512], v: u16, x: u16)
     }
 }
 
-// The one function that hands a target to the search: edge k of v, and the count that it is lent rises by one.
-fn look(targets: &[u16; 2048], starts: &[u16; 513], spent: &mut u16, v: u16, k: u16) -> u16
-    requires { ⌜ Tabled (now targets) (now starts) ⌝ }
-    ensures { λ r. ⌜ (r ≡ getD (rowAt (now (targets .entry)) (now (starts .entry)) v) k 0) × (now (spent .exit) ≡ upped (now (spent .entry))) ⌝ }
+// The one function that hands a target to the search: the one at a place, and the count that it is lent rises by one.
+// At the place of edge k of v it is the target of that edge, whatever the starts of the rows are.
+fn look(targets: &[u16; 2048], spent: &mut u16, at: usize) -> u16
+    requires { ⌜ length (now targets) ≡ 2048 ⌝ }
+    ensures { λ r. ⌜ ((starts : List ℕ) (v k : ℕ) → k < degreeAt starts v → at ≡ getD starts v 0 + k → r ≡ getD (rowAt (now (targets .entry)) starts v) k 0) × (now (spent .exit) ≡ upped (now (spent .entry))) ⌝ }
 {
     *spent = up(*spent);
-    rows::target(targets, starts, v, k)
+    if at < 2048 { targets[at] } else { 0 }
 }
 
-// The next edge of the same state.
-fn skip(w: Walker) -> Walker
-    ensures { λ r. ⌜ r ≡ skipped w ⌝ }
+// The walker at another edge of its state.
+fn moved(w: Walker, next: u16) -> Walker
+    ensures { λ r. ⌜ r ≡ placed w next ⌝ }
 {
     let phase = w.phase;
     Walker {
         phase: phase,
         cur: w.cur,
-        next: up(w.next),
+        next: next,
         height: w.height,
         top: w.top,
         met: w.met,
         kept: w.kept,
+    }
+}
+
+// The row of v.
+fn row_of(starts: &[u16; 513], v: u16) -> Row
+    requires { ⌜ length (now starts) ≡ 513 ⌝ }
+    ensures { λ r. ⌜ (r .from ≡ getD (now (starts .entry)) v 0) × (r .stop ≡ getD (now (starts .entry)) (suc v) 0) × (r .from < 65536) × (r .stop < 65536) ⌝ }
+{
+    let i = wide(v);
+    Row {
+        from: wide(rows::start_of(starts, i)),
+        stop: wide(rows::start_of(starts, i + 1)),
+    }
+}
+
+// From edge k of v on, the first edge whose target is not discovered. The loop ends where the array of targets does, so that
+// no turn has to test it; the targets of a row that goes on past it are left to the caller, one at a time.
+fn scan(
+    targets: &[u16; 2048],
+    starts: &[u16; 513],
+    number: &[u16; 512],
+    spent: &mut u16,
+    v: u16,
+    k: u16,
+) -> Scanned
+    requires { ⌜ Tabled (now targets) (now starts) × (length (now number) ≡ 512) ⌝ }
+    ensures { λ r. ⌜ Swept (Outwards (now (number .entry))) (now (targets .entry)) (now (starts .entry)) v k (now (spent .entry)) r (now (spent .exit)) ⌝ }
+{
+    let row = row_of(starts, v);
+    let from = row.from;
+    let stop = row.stop;
+    let end = least(stop, 2048);
+    let mut at = from + wide(k);
+    while at < end {
+        let t = look(targets, spent, at);
+        if get(number, t) == NONE {
+            return Scanned {
+                next: narrow(at - from),
+                target: t,
+                found: true,
+            };
+        }
+        at += 1;
+    }
+    let next = narrow(at - from);
+    if at < stop {
+        return Scanned {
+            next: next,
+            target: look(targets, spent, at),
+            found: true,
+        };
+    }
+    Scanned {
+        next: next,
+        target: 0,
+        found: false,
     }
 }
 
@@ -183,7 +267,7 @@ fn finish(
     leave(parent, index, w)
 }
 
-// One step of the outer search.
+// Steps of the outer search: over the edges that lead to discovered states, and one more.
 fn outer_step(
     targets: &[u16; 2048],
     starts: &[u16; 513],
@@ -198,8 +282,8 @@ fn outer_step(
     spent: &mut u16,
     w: Walker,
 ) -> Walker
-    requires { ⌜ Tabled (now targets) (now starts) × Recorded (now number) (now parent) (now index) (now probes) (now stamp) (now walk) (now depth) ⌝ }
-    ensures { λ r. ⌜ ((cursor : List ℕ) → coreOf r (now (spent .exit)) (now (number .exit)) (now (parent .exit)) (now (index .exit)) (now (probes .exit)) (now (stamp .exit)) (now (walk .exit)) (now (depth .exit)) cursor ≡ outerStep (now (targets .entry)) (now (starts .entry)) (now (words .entry)) (coreOf w (now (spent .entry)) (now (number .entry)) (now (parent .entry)) (now (index .entry)) (now (probes .entry)) (now (stamp .entry)) (now (walk .entry)) (now (depth .entry)) cursor)) ⌝ }
+    requires { ⌜ (w .phase ≡ Outer) × Tabled (now targets) (now starts) × Recorded (now number) (now parent) (now index) (now probes) (now stamp) (now walk) (now depth) ⌝ }
+    ensures { λ r. ⌜ ((cursor : List ℕ) → Advanced (now (targets .entry)) (now (starts .entry)) (now (words .entry)) (coreOf w (now (spent .entry)) (now (number .entry)) (now (parent .entry)) (now (index .entry)) (now (probes .entry)) (now (stamp .entry)) (now (walk .entry)) (now (depth .entry)) cursor) (coreOf r (now (spent .exit)) (now (number .exit)) (now (parent .exit)) (now (index .exit)) (now (probes .exit)) (now (stamp .exit)) (now (walk .exit)) (now (depth .exit)) cursor)) ⌝ }
 {
     if w.height == 0 {
         return Walker {
@@ -212,14 +296,25 @@ fn outer_step(
             kept: w.kept,
         };
     }
-    if w.next < rows::degree(starts, w.cur) {
-        let t = look(targets, starts, spent, w.cur, w.next);
+    let r = scan(targets, starts, number, spent, w.cur, w.next);
+    if r.found {
+        let t = r.target;
         if get(number, t) == NONE {
-            return discover(number, parent, index, probes, walk, depth, *spent, w, t);
+            return discover(
+                number,
+                parent,
+                index,
+                probes,
+                walk,
+                depth,
+                *spent,
+                moved(w, r.next),
+                t,
+            );
         }
-        return skip(w);
+        return moved(w, up(r.next));
     }
-    finish(words, parent, index, stamp, w)
+    finish(words, parent, index, stamp, moved(w, r.next))
 }
 
 // Is t on the open path of that height?
@@ -232,6 +327,63 @@ fn on_path(walk: &[u16; 512], depth: &[u16; 512], height: u16, t: u16) -> bool
         get(walk, at) == t
     } else {
         false
+    }
+}
+
+// Does the nested search stop at t: is t not marked, or on the open path?
+fn stops(stamp: &[u16; 512], walk: &[u16; 512], depth: &[u16; 512], height: u16, t: u16) -> bool
+    requires { ⌜ (length (now stamp) ≡ 512) × (length (now walk) ≡ 512) × (length (now depth) ≡ 512) ⌝ }
+    ensures { λ r. ⌜ (r ≡ false → (onOpenPath (now (walk .entry)) (now (depth .entry)) height t ≡ false) × (getD (now (stamp .entry)) t 0 ≡ none → ⊥)) ⌝ }
+{
+    if get(stamp, t) == NONE {
+        return true;
+    }
+    on_path(walk, depth, height, t)
+}
+
+// From edge k of v on, the first edge whose target is on the open path or not marked; otherwise as `scan`.
+fn nested_scan(
+    targets: &[u16; 2048],
+    starts: &[u16; 513],
+    stamp: &[u16; 512],
+    walk: &[u16; 512],
+    depth: &[u16; 512],
+    spent: &mut u16,
+    height: u16,
+    v: u16,
+    k: u16,
+) -> Scanned
+    requires { ⌜ Tabled (now targets) (now starts) × ((length (now stamp) ≡ 512) × (length (now walk) ≡ 512) × (length (now depth) ≡ 512)) ⌝ }
+    ensures { λ r. ⌜ Swept (Inwards (now (stamp .entry)) (now (walk .entry)) (now (depth .entry)) height) (now (targets .entry)) (now (starts .entry)) v k (now (spent .entry)) r (now (spent .exit)) ⌝ }
+{
+    let row = row_of(starts, v);
+    let from = row.from;
+    let stop = row.stop;
+    let end = least(stop, 2048);
+    let mut at = from + wide(k);
+    while at < end {
+        let t = look(targets, spent, at);
+        if stops(stamp, walk, depth, height, t) {
+            return Scanned {
+                next: narrow(at - from),
+                target: t,
+                found: true,
+            };
+        }
+        at += 1;
+    }
+    let next = narrow(at - from);
+    if at < stop {
+        return Scanned {
+            next: next,
+            target: look(targets, spent, at),
+            found: true,
+        };
+    }
+    Scanned {
+        next: next,
+        target: 0,
+        found: false,
     }
 }
 
@@ -289,7 +441,7 @@ fn go_back(walk: &[u16; 512], cursor: &[u16; 512], w: Walker) -> Walker
     }
 }
 
-// One step of the nested search.
+// Steps of the nested search: over the edges that lead nowhere new, and one more.
 fn nested_step(
     targets: &[u16; 2048],
     starts: &[u16; 513],
@@ -302,19 +454,30 @@ fn nested_step(
     spent: &mut u16,
     w: Walker,
 ) -> Walker
-    requires { ⌜ Tabled (now targets) (now starts) × Trailed (now parent) (now index) (now stamp) (now walk) (now depth) (now cursor) ⌝ }
-    ensures { λ r. ⌜ ((words number probes : List ℕ) → coreOf r (now (spent .exit)) number (now (parent .entry)) (now (index .entry)) probes (now (stamp .exit)) (now (walk .exit)) (now (depth .entry)) (now (cursor .exit)) ≡ nestedStep (now (targets .entry)) (now (starts .entry)) words (coreOf w (now (spent .entry)) number (now (parent .entry)) (now (index .entry)) probes (now (stamp .entry)) (now (walk .entry)) (now (depth .entry)) (now (cursor .entry)))) ⌝ }
+    requires { ⌜ (w .phase ≡ Nested) × Tabled (now targets) (now starts) × Trailed (now parent) (now index) (now stamp) (now walk) (now depth) (now cursor) ⌝ }
+    ensures { λ r. ⌜ ((words number probes : List ℕ) → Advanced (now (targets .entry)) (now (starts .entry)) words (coreOf w (now (spent .entry)) number (now (parent .entry)) (now (index .entry)) probes (now (stamp .entry)) (now (walk .entry)) (now (depth .entry)) (now (cursor .entry))) (coreOf r (now (spent .exit)) number (now (parent .entry)) (now (index .entry)) probes (now (stamp .exit)) (now (walk .exit)) (now (depth .entry)) (now (cursor .exit)))) ⌝ }
 {
     if w.top < w.height {
         return leave(parent, index, w);
     }
-    if w.next < rows::degree(starts, w.cur) {
-        let u = look(targets, starts, spent, w.cur, w.next);
+    let r = nested_scan(
+        targets,
+        starts,
+        stamp,
+        walk,
+        depth,
+        spent,
+        w.height,
+        w.cur,
+        w.next,
+    );
+    if r.found {
+        let u = r.target;
         if on_path(walk, depth, w.height, u) {
             return Walker {
                 phase: Phase::Found,
                 cur: w.cur,
-                next: w.next,
+                next: r.next,
                 height: get(depth, u),
                 top: w.top,
                 met: w.met,
@@ -322,14 +485,14 @@ fn nested_step(
             };
         }
         if get(stamp, u) == NONE {
-            return deepen(stamp, walk, cursor, w, u);
+            return deepen(stamp, walk, cursor, moved(w, r.next), u);
         }
-        return skip(w);
+        return moved(w, up(r.next));
     }
-    go_back(walk, cursor, w)
+    go_back(walk, cursor, moved(w, r.next))
 }
 
-// One step; none once the search is over.
+// Steps by the phase; none once the search is over.
 fn step(
     targets: &[u16; 2048],
     starts: &[u16; 513],
@@ -346,7 +509,7 @@ fn step(
     w: Walker,
 ) -> Walker
     requires { ⌜ Tabled (now targets) (now starts) × Sized (coreOf w (now spent) (now number) (now parent) (now index) (now probes) (now stamp) (now walk) (now depth) (now cursor)) ⌝ }
-    ensures { λ r. ⌜ coreOf r (now (spent .exit)) (now (number .exit)) (now (parent .exit)) (now (index .exit)) (now (probes .exit)) (now (stamp .exit)) (now (walk .exit)) (now (depth .exit)) (now (cursor .exit)) ≡ stepped (now (targets .entry)) (now (starts .entry)) (now (words .entry)) (coreOf w (now (spent .entry)) (now (number .entry)) (now (parent .entry)) (now (index .entry)) (now (probes .entry)) (now (stamp .entry)) (now (walk .entry)) (now (depth .entry)) (now (cursor .entry))) ⌝ }
+    ensures { λ r. ⌜ Advanced (now (targets .entry)) (now (starts .entry)) (now (words .entry)) (coreOf w (now (spent .entry)) (now (number .entry)) (now (parent .entry)) (now (index .entry)) (now (probes .entry)) (now (stamp .entry)) (now (walk .entry)) (now (depth .entry)) (now (cursor .entry))) (coreOf r (now (spent .exit)) (now (number .exit)) (now (parent .exit)) (now (index .exit)) (now (probes .exit)) (now (stamp .exit)) (now (walk .exit)) (now (depth .exit)) (now (cursor .exit))) ⌝ }
 {
     let phase = w.phase;
     match phase {
@@ -393,7 +556,7 @@ fn over(phase: Phase) -> bool
     }
 }
 
-// At most budget steps.
+// At least budget steps, unless the search is over before.
 fn run(
     targets: &[u16; 2048],
     starts: &[u16; 513],
@@ -411,7 +574,7 @@ fn run(
     budget: u16,
 ) -> Walker
     requires { ⌜ Tabled (now targets) (now starts) × Sized (coreOf w (now spent) (now number) (now parent) (now index) (now probes) (now stamp) (now walk) (now depth) (now cursor)) ⌝ }
-    ensures { λ r. ⌜ coreOf r (now (spent .exit)) (now (number .exit)) (now (parent .exit)) (now (index .exit)) (now (probes .exit)) (now (stamp .exit)) (now (walk .exit)) (now (depth .exit)) (now (cursor .exit)) ≡ runFor (now (targets .entry)) (now (starts .entry)) (now (words .entry)) budget (coreOf w (now (spent .entry)) (now (number .entry)) (now (parent .entry)) (now (index .entry)) (now (probes .entry)) (now (stamp .entry)) (now (walk .entry)) (now (depth .entry)) (now (cursor .entry))) ⌝ }
+    ensures { λ r. ⌜ Ran (now (targets .entry)) (now (starts .entry)) (now (words .entry)) budget (coreOf w (now (spent .entry)) (now (number .entry)) (now (parent .entry)) (now (index .entry)) (now (probes .entry)) (now (stamp .entry)) (now (walk .entry)) (now (depth .entry)) (now (cursor .entry))) (coreOf r (now (spent .exit)) (now (number .exit)) (now (parent .exit)) (now (index .exit)) (now (probes .exit)) (now (stamp .exit)) (now (walk .exit)) (now (depth .exit)) (now (cursor .exit))) ⌝ }
 {
     let mut q = w;
     let mut left = budget;
@@ -440,16 +603,22 @@ fn run(
     q
 }
 
-// What is numbered up to the limit stays, the rest is forgotten.
+// A number up to the limit stays, any other is forgotten.
+fn kept_number(limit: u16, x: u16) -> u16
+    ensures { λ r. ⌜ r ≡ upTo limit x ⌝ }
+{
+    if x <= limit { x } else { NONE }
+}
+
+// What is numbered up to the limit stays, the rest is forgotten. Each entry is stored, so that many can be stored at once.
 fn keep_up_to(a: &mut [u16; 512], limit: u16)
     requires { ⌜ length (now a) ≡ 512 ⌝ }
     ensures { λ r. ⌜ now (a .exit) ≡ map (upTo limit) (now (a .entry)) ⌝ }
 {
     let mut i: usize = 0;
     while i < 512 {
-        if limit < a[i] {
-            a[i] = NONE;
-        }
+        let x = kept_number(limit, a[i]);
+        a[i] = x;
         i += 1;
     }
 }
@@ -503,7 +672,7 @@ pub fn resume(
     budget: u16,
 ) -> Walker
     requires { ⌜ Tabled (now targets) (now starts) × Kept (now number) (now parent) (now index) (now probes) (now stamp) (now walk) ⌝ }
-    ensures { λ r. ⌜ resultOf r (now (spent .exit)) (now (number .exit)) (now (parent .exit)) (now (index .exit)) (now (probes .exit)) (now (stamp .exit)) (now (walk .exit)) ≡ result (runFor (now (targets .entry)) (now (starts .entry)) (now (words .entry)) budget (rewound start s (now (spent .entry)) (now (number .entry)) (now (parent .entry)) (now (index .entry)) (now (probes .entry)) (now (stamp .entry)) (now (walk .entry)))) ⌝ }
+    ensures { λ r. ⌜ ((c : Core) × Ran (now (targets .entry)) (now (starts .entry)) (now (words .entry)) budget (rewound start s (now (spent .entry)) (now (number .entry)) (now (parent .entry)) (now (index .entry)) (now (probes .entry)) (now (stamp .entry)) (now (walk .entry))) c × (resultOf r (now (spent .exit)) (now (number .exit)) (now (parent .exit)) (now (index .exit)) (now (probes .exit)) (now (stamp .exit)) (now (walk .exit)) ≡ result c)) ⌝ }
 {
     let limit = get(number, s);
     keep_up_to(number, limit);

@@ -22,8 +22,9 @@ use Rattle.plain.proofs.Trials.{passed}
 use Rattle.plain.proofs.Rows.{agree}
 use Rattle.plain.proofs.Tables.{Valid, valid, valid-change}
 use Rattle.plain.proofs.Demands.{run-final, verdict-right, change-unmet, change-met}
-use Rattle.search.specs.Core.{Core, none, rewound, runFor, plus}
+use Rattle.search.specs.Core.{Core, none, rewound, plus}
 use Rattle.search.proofs.Represents.{plus-more}
+use Rattle.search.proofs.Scans.{ran-from}
 use Rattle.search.proofs.Rewind.{notesOf}
 use Rattle.search.proofs.Ended.{rewound-spent}
 use Rattle.search.proofs.Resumed.{Archived, resume-fits, limits}
@@ -33,7 +34,7 @@ use Rattle.session.specs.declared.Op.{Op}
 use Rattle.session.specs.declared.Op.the-variants.{Add, Cut}
 use Rattle.session.specs.declared.Session.{Session}
 use Rattle.session.specs.declared.Verdict.{Verdict}
-use Rattle.session.specs.Model.{numberOf, rowTrial, FiledOne, Sought, verdictOf, bound, sessionOf, answerIs, shownWalk}
+use Rattle.session.specs.Model.{numberOf, rowTrial, FiledOne, Sought, verdictOf, sessionOf, answerIs, shownWalk}
 use Rattle.session.specs.Promises.{shown, changeOf, Tells, Holds, Changes}
 use Rattle.session.proofs.Pairs.{outside-from}
 use Rattle.session.proofs.Trying.{row-outside}
@@ -142,10 +143,10 @@ module _ (op : Op) (from to : ℕ) (s : Session) (targets starts number parent i
       let here : w .meeting .state ≡ from = in-one (w .meeting .state) from (subst (λ (l : List ℕ). In (w .meeting .state) l) (named-one op from to) (w .meeting .is-named)) in
       let fit = resume-fits (named c) (graphOf t) (graphOf t′) (agree c t) (small t′ ok′) (h .steps) (s .number) (s .parent) (s .index) (s .probes) (s .stamp) (s .walk) (h .archived) w in
       let back = rewound (t′ .start) (w .meeting .state) 0 (s .number) (s .parent) (s .index) (s .probes) (s .stamp) (s .walk) in
+      let ran = ran-from targets starts (s .words) (same-start (h .start-is ∙ sym (changed-start op from to t)) (sym here)) (q .1) in
       let g = reached t′ ok′ targets starts (s .words) (matches t′ targets starts (s .words) (refiled s t h from to targets starts op room yes-it-is filed) (h .words-are ∙ sym (changed-words op from to t)))
-      (w .at) back (rewound-spent (t′ .start) (w .meeting .state) 0 (s .number) (s .parent) (s .index) (s .probes) (s .stamp) (s .walk)) fit in
-      let same : q .0 ≡ runFor targets starts (s .words) bound back = q .1 ∙ ap (λ (x : Core). runFor targets starts (s .words) bound x) (same-start (h .start-is ∙ sym (changed-start op from to t)) (sym here)) in
-      settle (q .0) (w .at) (subst (λ (x : Core). Reached t′ (w .at) x) (sym same) g) (q .2) (q .3) (q .4) (q .5) (q .6) (q .7) (q .8) (ap count (u .kept-here))
+      (w .at) back (q .0) (rewound-spent (t′ .start) (w .meeting .state) 0 (s .number) (s .parent) (s .index) (s .probes) (s .stamp) (s .walk)) fit ran in
+      settle (q .0) (w .at) g (q .2) (q .3) (q .4) (q .5) (q .6) (q .7) (q .8) (ap count (u .kept-here))
     where
       same-start : {a b x y : ℕ} → a ≡ b → x ≡ y → rewound a x 0 (s .number) (s .parent) (s .index) (s .probes) (s .stamp) (s .walk) ≡ rewound b y 0 (s .number) (s .parent) (s .index) (s .probes) (s .stamp) (s .walk)
       same-start p z = λ j. rewound (p j) (z j) 0 (s .number) (s .parent) (s .index) (s .probes) (s .stamp) (s .walk)

@@ -1,5 +1,5 @@
 -- A load: the session of an accepted one holds its table, and the answer and the walk are the plain table's. Assumes nothing.
-use mathlib.Core.Path.{_≡_, refl, sym, ap, subst, _∙_}
+use mathlib.Core.Path.{_≡_, refl, sym, ap, _∙_}
 use mathlib.Core.Logic.{_≢_}
 use mathlib.Core.List.{List}
 use Prim.Native.Nat.{ℕ, _+_, _≤_, _<_}
@@ -91,10 +91,10 @@ module _ (l : Load) (lent lent′ targets starts number parent index probes stam
   begun =
       let q = sought .met start-met in
       let back = rewound (l .start) (l .start) 0 (set (replicate 512 none) (l .start) 0) (replicate 512 (l .start)) (replicate 512 0) (replicate 512 0) (replicate 512 none) blank-walk in
-      let g = reached t ok targets starts (l .words) (matches t targets starts (l .words) refiled refl) 0 back
+      let g = reached t ok targets starts (l .words) (matches t targets starts (l .words) refiled refl) 0 back (q .0)
       (rewound-spent (l .start) (l .start) 0 (set (replicate 512 none) (l .start) 0) (replicate 512 (l .start)) (replicate 512 0) (replicate 512 0) (replicate 512 none) blank-walk)
-      (begin-fits (graphOf t) (small t ok) blank-walk blank-size) in
-      (q .0, subst (λ (x : Core). Reached t 0 x) (sym (q .1)) g, q .2, q .3, q .4, q .5, q .6, q .7, q .8)
+      (begin-fits (graphOf t) (small t ok) blank-walk blank-size) (q .1) in
+      (q .0, g, q .2, q .3, q .4, q .5, q .6, q .7, q .8)
 
   abbrev made : Session
   made = sessionOf (l .size) (l .start) (l .words) targets starts number parent index probes stamp walk v (plus (v .kept) (v .spent))

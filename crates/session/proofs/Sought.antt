@@ -13,7 +13,7 @@ use Rattle.plain.proofs.Tables.{Valid}
 use Rattle.plain.proofs.Demands.{ended-within, run-final, verdict-right}
 use Rattle.search.specs.declared.Phase.{Phase}
 use Rattle.search.specs.declared.Walker.{Walker}
-use Rattle.search.specs.Core.{Core, none as noNumber, runFor, rewound, plus, Result, resultOf, result, Kept}
+use Rattle.search.specs.Core.{Core, none as noNumber, runFor, Ran, rewound, plus, Result, resultOf, result, Kept}
 use Rattle.search.proofs.Represents.{Matches, plus-more}
 use Rattle.search.proofs.Ways.{run-sized, rewound-sized}
 use Rattle.search.proofs.OneStep.{Fits}
@@ -39,7 +39,7 @@ spoken-tells g c (lasso stem cycle) s p = (
 )
 spoken-tells g c unfinished s p = absurd s
 
--- what a search that stood at step n and took `bound` steps more has come to
+-- what a search that stood at a step and took `bound` steps more, or still more, has come to
 pub record Reached (t : Table) (start-at : ℕ) (c : Core) : Type 0 where
   pub steps : ℕ
   pub ended : verdict (run (graphOf t) steps) ≢ unfinished
@@ -50,21 +50,21 @@ pub record Reached (t : Table) (start-at : ℕ) (c : Core) : Type 0 where
   pub total-is : plus (c .walker .kept) (c .spent) ≡ count (final t)
 
 module _ (t : Table) (v : Valid t) (targets starts words : List ℕ) (m : Matches (graphOf t) targets starts words) where
-  pub reached : (n : ℕ) (s : Core) → s .spent ≡ 0 → Fits (graphOf t) s (notes (graphOf t) n) (run (graphOf t) n) → Reached t n (runFor targets starts words bound s)
-  reached n s unspent a =
+  reached-by : (more : ℕ) → bound ≤ more → (n : ℕ) (s : Core) → s .spent ≡ 0 → Fits (graphOf t) s (notes (graphOf t) n) (run (graphOf t) n) → Reached t n (runFor targets starts words more s)
+  reached-by more enough n s unspent a =
       let g = graphOf t in
-      let c = runFor targets starts words bound s in
-      let f = at-run g (small t v) targets starts words m bound n s a in
-      let e : verdict (run g (n + bound)) ≢ unfinished = ended-within t v (n + bound) (omega (arith, budget-bound t v)) in
-      let z : run g (n + bound) ≡ final t = run-final t v (n + bound) e in
-      let k : c .walker .kept ≡ count (run g n) = run-kept targets starts words bound s ∙ omega (arith, a .0 .probes-right) in
+      let c = runFor targets starts words more s in
+      let f = at-run g (small t v) targets starts words m more n s a in
+      let e : verdict (run g (n + more)) ≢ unfinished = ended-within t v (n + more) (omega (arith, enough, budget-bound t v)) in
+      let z : run g (n + more) ≡ final t = run-final t v (n + more) e in
+      let k : c .walker .kept ≡ count (run g n) = run-kept targets starts words more s ∙ omega (arith, a .0 .probes-right) in
       let sum : c .walker .kept + c .spent ≡ count (final t) = f .0 .probes-right ∙ ap count z in
-      let few : count (final t) ≤ 4096 = omega (arith, ap count z, limits g (small t v) (n + bound) .probes-few) in
+      let few : count (final t) ≤ 4096 = omega (arith, ap count z, limits g (small t v) (n + more) .probes-few) in
       record {
-        steps = n + bound;
+        steps = n + more;
         ended = e;
-        kept-archive = archived g (n + bound) c f;
-        tells = spoken-tells g c (verdict (final t)) (subst (λ (x : Config). Spoken g c (verdict x)) z (spoken g c (run g (n + bound)) (f .1) e)) nonempty;
+        kept-archive = archived g (n + more) c f;
+        tells = spoken-tells g c (verdict (final t)) (subst (λ (x : Config). Spoken g c (verdict x)) z (spoken g c (run g (n + more)) (f .1) e)) nonempty;
         kept-is = k;
         adds-up = sum;
         total-is = plus-more (c .walker .kept) (c .spent) (omega arith) ∙ sum;
@@ -72,6 +72,9 @@ module _ (t : Table) (v : Valid t) (targets starts words : List ℕ) (m : Matche
     where
       nonempty : (stem cycle : List ℕ) → verdict (final t) ≡ lasso stem cycle → 0 < length cycle
       nonempty stem cycle e = let w = verdict-right t v .walk stem cycle e in omega (arith, ap length (w .cycle-is))
+
+  pub reached : (n : ℕ) (s c : Core) → s .spent ≡ 0 → Fits (graphOf t) s (notes (graphOf t) n) (run (graphOf t) n) → Ran targets starts words bound s c → Reached t n c
+  reached n s c unspent a r = subst (Reached t n) (sym (r .reached)) (reached-by (r .steps) (r .enough) n s unspent a)
 
 -- ---- what `seek` leaves
 
@@ -84,13 +87,13 @@ sought-unmet targets starts words start s old number parent index probes stamp w
 
 pub sought-met : (targets starts words : List ℕ) (start s : ℕ) (old : Verdict) (number parent index probes stamp walk : List ℕ) (w : Walker) (spent : ℕ)
     (number′ parent′ index′ probes′ stamp′ walk′ : List ℕ) (v : Verdict) → (getD number s 0 ≡ noNumber → ⊥) → v ≡ verdictOf w spent
-    → resultOf w spent number′ parent′ index′ probes′ stamp′ walk′ ≡ result (runFor targets starts words bound (rewound start s 0 number parent index probes stamp walk))
+    → (c : Core) × Ran targets starts words bound (rewound start s 0 number parent index probes stamp walk) c × (resultOf w spent number′ parent′ index′ probes′ stamp′ walk′ ≡ result c)
     → Sought targets starts words start s old number parent index probes stamp walk v number′ parent′ index′ probes′ stamp′ walk′
-sought-met targets starts words start s old number parent index probes stamp walk w spent number′ parent′ index′ probes′ stamp′ walk′ v n e q = record {
+sought-met targets starts words start s old number parent index probes stamp walk w spent number′ parent′ index′ probes′ stamp′ walk′ v n e (c, r, q) = record {
   unmet = λ z. absurd (n z);
   met = λ z. (
-    runFor targets starts words bound (rewound start s 0 number parent index probes stamp walk),
-    refl,
+    c,
+    r,
     e ∙ (λ i. verdictOf (q i .walker) (q i .spent)),
     ap (λ (x : Result). x .number) q,
     ap (λ (x : Result). x .parent) q,
@@ -104,10 +107,11 @@ sought-met targets starts words start s old number parent index probes stamp wal
 -- the walk's array keeps its size
 pub walk-sized : (targets starts words : List ℕ) (start s : ℕ) (number parent index probes stamp walk : List ℕ) (w : Walker) (spent : ℕ) (number′ parent′ index′ probes′ stamp′ walk′ : List ℕ)
     → Kept number parent index probes stamp walk
-    → resultOf w spent number′ parent′ index′ probes′ stamp′ walk′ ≡ result (runFor targets starts words bound (rewound start s 0 number parent index probes stamp walk)) → length walk′ ≡ 512
-walk-sized targets starts words start s number parent index probes stamp walk w spent number′ parent′ index′ probes′ stamp′ walk′ k q =
-    ap (λ (x : Result). length (x .walk)) q
-    ∙ run-sized targets starts words bound (rewound start s 0 number parent index probes stamp walk) (rewound-sized start s 0 number parent index probes stamp walk k) .walk-size
+    → (c : Core) × Ran targets starts words bound (rewound start s 0 number parent index probes stamp walk) c × (resultOf w spent number′ parent′ index′ probes′ stamp′ walk′ ≡ result c)
+    → length walk′ ≡ 512
+walk-sized targets starts words start s number parent index probes stamp walk w spent number′ parent′ index′ probes′ stamp′ walk′ k (c, r, q) =
+    ap (λ (x : Result). length (x .walk)) q ∙ ap (λ (x : Core). length (x .walk)) (r .reached)
+    ∙ run-sized targets starts words (r .steps) (rewound start s 0 number parent index probes stamp walk) (rewound-sized start s 0 number parent index probes stamp walk k) .walk-size
 
 -- a place that is past the end, or holds another number, is not without a number
 pub numbered : (number : List ℕ) (s i : ℕ) → i ≡ s → length number ≡ 512 → (getD number i 0 ≡ noNumber → ⊥) ⊎ (512 ≤ i) → getD number s 0 ≡ noNumber → ⊥

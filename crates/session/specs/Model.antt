@@ -12,7 +12,7 @@ use Rattle.rows.specs.Rows.{rowAt, degreeAt, edgeCount, placeOf, Compressed, In
 use Rattle.search.specs.declared.Phase.{Phase}
 use Rattle.search.specs.declared.Phase.the-variants.{Outer, Nested, Exhausted, Found}
 use Rattle.search.specs.declared.Walker.{Walker}
-use Rattle.search.specs.Core.{Core, none, runFor, rewound}
+use Rattle.search.specs.Core.{Core, none, Ran, rewound}
 use Rattle.session.specs.declared.Op.{Op}
 use Rattle.session.specs.declared.Op.the-variants.{Add, Cut}
 use Rattle.session.specs.declared.Verdict.{Verdict}
@@ -95,7 +95,7 @@ pub record Sought (targets starts words : List ℕ) (start s : ℕ) (old : Verdi
     (r : Verdict) (number′ parent′ index′ probes′ stamp′ walk′ : List ℕ) : Type 0 where
   pub unmet : getD number s 0 ≡ none → (r ≡ record { stem = old .stem; length = old .length; spent = 0; kept = old .kept })
       × (number′ ≡ number) × (parent′ ≡ parent) × (index′ ≡ index) × (probes′ ≡ probes) × (stamp′ ≡ stamp) × (walk′ ≡ walk)
-  pub met : (getD number s 0 ≡ none → ⊥) → (c : Core) × (c ≡ runFor targets starts words bound (rewound start s 0 number parent index probes stamp walk))
+  pub met : (getD number s 0 ≡ none → ⊥) → (c : Core) × Ran targets starts words bound (rewound start s 0 number parent index probes stamp walk) c
       × (r ≡ verdictOf (c .walker) (c .spent))
       × (number′ ≡ c .number) × (parent′ ≡ c .parent) × (index′ ≡ c .index) × (probes′ ≡ c .probes) × (stamp′ ≡ c .stamp) × (walk′ ≡ c .walk)
 

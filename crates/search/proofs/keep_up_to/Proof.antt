@@ -1,12 +1,11 @@
 -- `keep_up_to` meets its contract: the first i entries are rewritten, the others are as they were. Assumes nothing.
 use mathlib.Core.Path.{_≡_, _∙_}
-use mathlib.Core.Logic.{⊎-elim}
-use Prim.Native.Nat.{suc, _-_, _≤_}
+use Prim.Native.Nat.{_-_, _≤_}
 use native.Mathlib.Numerals.{add-one}
 use native.Mathlib.Omega.{arith}
 use denote.Ref.{now}
 use Rattle.search.specs.Core.{upTo}
-use Rattle.search.proofs.Ways.{mapped, mapped-all, forgets, keeps}
+use Rattle.search.proofs.Ways.{mapped, mapped-all, rewrites}
 use borrow.Author.Needs.{needs}
 use Rattle.search.proofs.keep_up_to.Statement.{statement}
 use Rattle.search.proofs.keep_up_to.Tie as tie
@@ -20,11 +19,14 @@ abbrev μ-loop : tie.MeasureT-loop
 loop-holds : tie.Need-loop-holds Inv-loop μ-loop
 loop-holds c = search needs
 
-mul-if1 : tie.Need-mul-if1 Inv-loop μ-loop
-mul-if1 c = search needs
+mul-kept-number : tie.Need-mul-kept-number Inv-loop μ-loop
+mul-kept-number c = search needs
 
-element-copy-out-if1 : tie.Need-element-copy-out-if1 Inv-loop μ-loop
-element-copy-out-if1 c = search needs
+element-copy-out-kept-number : tie.Need-element-copy-out-kept-number Inv-loop μ-loop
+element-copy-out-kept-number c = search needs
+
+kept-number-requires : tie.Need-kept-number-requires Inv-loop μ-loop
+kept-number-requires c κs = tt
 
 mul-a : tie.Need-mul-a Inv-loop μ-loop
 mul-a c = search needs
@@ -41,14 +43,8 @@ loop-less c = search needs
 loop-again : tie.Need-loop-again Inv-loop μ-loop
 loop-again c =
     let h = c .before .before .before in
-    let xs = now (h .before .args .a) in
-    let limit = h .before .args .limit in
-    let next : c .if1 .a ≡ mapped (upTo limit) (suc (h .loop .i)) xs =
-    ⊎-elim (λ w. w .1 ∙ forgets limit xs (h .loop .a) (h .loop .i) (h .loop .inv .1) (w .0 .taken))
-    (λ w. w .1 ∙ keeps limit xs (h .loop .a) (h .loop .i) (h .loop .inv .1) (w .0 .left))
-    (c .if1 .came)
-    in
-    (omega arith, rw add-one next)
+    let a = h .before .args in
+    (omega arith, rw add-one (rewrites (upTo (a .limit)) (now (a .a)) (h .loop .a) (h .loop .i) (h .loop .inv .1) _ (c .kept-number .ensures)))
 
 returns : tie.Need-returns Inv-loop μ-loop
 returns c =
@@ -62,8 +58,9 @@ keep-up-to-spec =
     Inv-loop
     μ-loop
     loop-holds
-    mul-if1
-    element-copy-out-if1
+    mul-kept-number
+    element-copy-out-kept-number
+    kept-number-requires
     mul-a
     element-write-a
     add-i

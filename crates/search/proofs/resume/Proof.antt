@@ -1,11 +1,12 @@
 -- `resume` meets its contract: what it makes of the arrays is the search as it stood, and `run` goes on from there. Assumes nothing.
-use mathlib.Core.Path.{_≡_, sym, ap, subst, _∙_}
+use mathlib.Core.Path.{_≡_, refl, sym, subst}
 use Prim.Native.Nat.{ℕ}
 use denote.Ref.{now}
 use lib.ListN.{replicate, length-replicate}
 use Rattle.search.specs.declared.Phase.the-variants.{Outer}
-use Rattle.search.specs.Core.{Core, Sized, coreOf, rewound, runFor, result}
+use Rattle.search.specs.Core.{Core, Sized, coreOf, rewound}
 use Rattle.search.proofs.Ways.{rewound-by, rewound-sized}
+use Rattle.search.proofs.Scans.{ran-from}
 use Rattle.search.proofs.resume.Statement.{statement}
 use Rattle.search.proofs.resume.Tie as tie
 
@@ -79,7 +80,7 @@ returns : tie.Need-returns
 returns c =
     let g = c .before .before .before .before .before .before .before .before .before .before in
     let a = begun g .args in
-    ap result (c .run .ensures ∙ ap (runFor (now (a .targets)) (now (a .starts)) (now (a .words)) (a .budget)) (lent-is g))
+    (_, ran-from (now (a .targets)) (now (a .starts)) (now (a .words)) (lent-is g) (c .run .ensures), refl)
 
 pub resume-spec : {M : Type 1} → statement M
 resume-spec =

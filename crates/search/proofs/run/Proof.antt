@@ -1,31 +1,40 @@
--- `run` meets its contract: the steps that are left, from here, make the steps that were to be taken. Assumes nothing.
-use mathlib.Core.Path.{_≡_, refl, sym, ap, subst, _∙_}
-use Prim.Native.Nat.{ℕ, suc, _-_}
+-- `run` meets its contract: each turn takes a step or more, and a search that is over has taken as many as one likes. Assumes nothing.
+use mathlib.Core.Path.{sym, subst, _∙_}
+use Prim.Native.Nat.{_-_, _≤_}
 use native.Mathlib.Omega.{arith}
 use denote.Ref.{now}
-use Rattle.search.specs.Core.{Core, Sized, coreOf, runFor}
-use Rattle.search.proofs.Ways.{run-over, run-none, run-more, step-sized}
+use Rattle.search.specs.Core.{Core, Sized, coreOf, Ran}
+use Rattle.search.proofs.Ways.{run-sized}
+use Rattle.search.proofs.Scans.{ran-none, ran-more, ran-over, ran-all}
 use Rattle.search.proofs.run.Statement.{statement}
 use Rattle.search.proofs.run.Tie as tie
 
 abbrev Inv-loop : tie.InvT-loop
 Inv-loop targets starts words number₀ parent₀ index₀ probes₀ stamp₀ walk₀ depth₀ cursor₀ spent₀ budget q₀ left₀ number parent index probes stamp walk depth cursor spent q left =
-    Sized (coreOf q spent number parent index probes stamp walk depth cursor)
-    × (runFor targets starts words left (coreOf q spent number parent index probes stamp walk depth cursor)
-    ≡ runFor targets starts words budget (coreOf q₀ spent₀ number₀ parent₀ index₀ probes₀ stamp₀ walk₀ depth₀ cursor₀))
+    Sized (coreOf q spent number parent index probes stamp walk depth cursor) × (left ≤ budget)
+    × Ran targets starts words (budget - left) (coreOf q₀ spent₀ number₀ parent₀ index₀ probes₀ stamp₀ walk₀ depth₀ cursor₀)
+    (coreOf q spent number parent index probes stamp walk depth cursor)
 
 abbrev μ-loop : tie.MeasureT-loop
 μ-loop targets starts words number₀ parent₀ index₀ probes₀ stamp₀ walk₀ depth₀ cursor₀ spent₀ budget q₀ left₀ number parent index probes stamp walk depth cursor spent q left =
     left
 
--- the arrays and the walker at the loop's test
+-- the arrays and the walker at the start, and at the loop's test
+abbrev first : tie.Start Inv-loop μ-loop → Core
+first c =
+    let a = c .args in
+    coreOf (a .w) (now (a .spent)) (now (a .number)) (now (a .parent)) (now (a .index)) (now (a .probes)) (now (a .stamp)) (now (a .walk)) (now (a .depth))
+    (now (a .cursor))
+
 abbrev at : tie.At-loop Inv-loop μ-loop → Core
 at h =
     let q = h .loop in
     coreOf (q .q) (q .spent) (q .number) (q .parent) (q .index) (q .probes) (q .stamp) (q .walk) (q .depth) (q .cursor)
 
 loop-holds : tie.Need-loop-holds Inv-loop μ-loop
-loop-holds c = (c .pre .1, refl)
+loop-holds c =
+    let a = c .args in
+    (c .pre .1, omega arith, ran-none (now (a .targets)) (now (a .starts)) (now (a .words)) (first c) (a .budget))
 
 over-requires : tie.Need-over-requires Inv-loop μ-loop
 over-requires c κs = tt
@@ -34,7 +43,8 @@ returns : tie.Need-returns Inv-loop μ-loop
 returns c =
     let h = c .before .before .before in
     let a = h .before .args in
-    sym (run-over (now (a .targets)) (now (a .starts)) (now (a .words)) (h .loop .left) (at h) (sym (c .before .over .ensures) ∙ c .if1 .taken)) ∙ h .loop .inv .1
+    ran-over (now (a .targets)) (now (a .starts)) (now (a .words)) (first (h .before)) (at h) (a .budget) (h .loop .left) (h .loop .inv .2)
+    (sym (c .before .over .ensures) ∙ c .if1 .taken)
 
 step-requires : tie.Need-step-requires Inv-loop μ-loop
 step-requires c κs =
@@ -52,23 +62,19 @@ loop-again c =
     let i = c .before .before .before .before .before .before .before .before .before .before .before .before in
     let h = i .before in
     let a = h .before .args in
-    let left = h .loop .left in
-    let one : left ≡ suc (left - 1) = omega (arith, i .loop-test .taken) in (
-      subst Sized (sym (c .step .ensures)) (step-sized (now (a .targets)) (now (a .starts)) (now (a .words)) (at h) (h .loop .inv .0)),
-      ap (runFor (now (a .targets)) (now (a .starts)) (now (a .words)) (left - 1)) (c .step .ensures)
-          ∙ sym (run-more (now (a .targets)) (now (a .starts)) (now (a .words)) (left - 1) (at h))
-          ∙ ap (λ (n : ℕ). runFor (now (a .targets)) (now (a .starts)) (now (a .words)) n (at h)) (sym one)
-          ∙ h .loop .inv .1,
+    let q = c .step .ensures in (
+      subst Sized (sym (q .reached)) (run-sized (now (a .targets)) (now (a .starts)) (now (a .words)) _ (at h) (h .loop .inv .0)),
+      omega (arith, h .loop .inv .1),
+      ran-more (now (a .targets)) (now (a .starts)) (now (a .words)) (first (h .before)) (at h) _ (a .budget) (h .loop .left) (i .loop-test .taken)
+          (h .loop .inv .1) (h .loop .inv .2) q,
     )
 
 returns-2 : tie.Need-returns-2 Inv-loop μ-loop
 returns-2 c =
     let h = c .before in
     let a = h .before .args in
-    let none : h .loop .left ≡ 0 = omega arith in
-    sym (run-none (now (a .targets)) (now (a .starts)) (now (a .words)) (at h))
-    ∙ ap (λ (n : ℕ). runFor (now (a .targets)) (now (a .starts)) (now (a .words)) n (at h)) (sym none)
-    ∙ h .loop .inv .1
+    ran-all (now (a .targets)) (now (a .starts)) (now (a .words)) (first (h .before)) (at h) (a .budget) (h .loop .left) (omega (arith, c .loop-test .left))
+    (h .loop .inv .2)
 
 pub run-spec : {M : Type 1} → statement M
 run-spec =

@@ -1,9 +1,9 @@
 -- `step` meets its contract: the phase tells the way. Assumes nothing.
-use mathlib.Core.Path.{_∙_}
+use mathlib.Core.Path.{ap}
 use denote.Ref.{now}
-use Rattle.search.specs.declared.Phase.the-variants.{Outer, Nested, Exhausted, Found}
-use Rattle.search.specs.Core.{Core, coreOf}
-use Rattle.search.proofs.Ways.{recorded, trailed, step-at}
+use Rattle.search.specs.Core.{Core, coreOf, over}
+use Rattle.search.proofs.Ways.{recorded, trailed}
+use Rattle.search.proofs.Scans.{advanced-over}
 use Rattle.search.proofs.step.Statement.{statement}
 use Rattle.search.proofs.step.Tie as tie
 
@@ -18,13 +18,19 @@ enum-told : tie.Need-enum-told
 enum-told c = c .match .keys1
 
 outer-step-requires : tie.Need-outer-step-requires
-outer-step-requires c κs = let b = c .before .before .before .before .before .before .before .before .before .before in (b .pre .0, recorded (at b) (b .pre .1))
+outer-step-requires c κs =
+    let k = c .before .before .before .before .before .before .before .before in
+    let b = k .before .before in
+    (k .enum-told .given .1, b .pre .0, recorded (at b) (b .pre .1))
 
 enum-told-2 : tie.Need-enum-told-2
 enum-told-2 c = c .match .keys2
 
 nested-step-requires : tie.Need-nested-step-requires
-nested-step-requires c κs = let b = c .before .before .before .before .before .before .before .before .before in (b .pre .0, trailed (at b) (b .pre .1))
+nested-step-requires c κs =
+    let k = c .before .before .before .before .before .before .before in
+    let b = k .before .before in
+    (k .enum-told2 .given .1, b .pre .0, trailed (at b) (b .pre .1))
 
 enum-told-3 : tie.Need-enum-told-3
 enum-told-3 c = c .match .keys3
@@ -33,27 +39,20 @@ enum-told-4 : tie.Need-enum-told-4
 enum-told-4 c = c .match .keys4
 
 returns : tie.Need-returns
-returns c =
-    let k = c .before .before .before .before .before .before .before .before .before in
-    let b = k .before .before in
-    c .outer-step .ensures (now (b .args .cursor)) ∙ step-at (now (b .args .targets)) (now (b .args .starts)) (now (b .args .words)) (at b) Outer (k .enum-told .given .1)
+returns c = let b = c .before .before .before .before .before .before .before .before .before .before .before in c .outer-step .ensures (now (b .args .cursor))
 
 returns-2 : tie.Need-returns-2
-returns-2 c =
-    let k = c .before .before .before .before .before .before .before .before in
-    let b = k .before .before in
-    c .nested-step .ensures (now (b .args .words)) (now (b .args .number)) (now (b .args .probes))
-    ∙ step-at (now (b .args .targets)) (now (b .args .starts)) (now (b .args .words)) (at b) Nested (k .enum-told2 .given .1)
+returns-2 c = let b = c .before .before .before .before .before .before .before .before .before .before in c .nested-step .ensures (now (b .args .words)) (now (b .args .number)) (now (b .args .probes))
 
 returns-3 : tie.Need-returns-3
 returns-3 c =
     let b = c .before .before in
-    step-at (now (b .args .targets)) (now (b .args .starts)) (now (b .args .words)) (at b) Exhausted (c .enum-told3 .given .1)
+    advanced-over (now (b .args .targets)) (now (b .args .starts)) (now (b .args .words)) (at b) (ap over (c .enum-told3 .given .1))
 
 returns-4 : tie.Need-returns-4
 returns-4 c =
     let b = c .before .before in
-    step-at (now (b .args .targets)) (now (b .args .starts)) (now (b .args .words)) (at b) Found (c .enum-told4 .given .1)
+    advanced-over (now (b .args .targets)) (now (b .args .starts)) (now (b .args .words)) (at b) (ap over (c .enum-told4 .given .1))
 
 pub step-spec : {M : Type 1} → statement M
 step-spec =
