@@ -8,12 +8,13 @@ use native.Mathlib.Omega.{arith}
 use lib.ListN.{getD}
 use Rattle.plain.proofs.Tests.{contra}
 use Rattle.rows.specs.Rows.{degreeAt, rowAt}
-use Rattle.search.specs.declared.Phase.the-variants.{Outer, Nested}
+use Rattle.search.specs.declared.Phase.{Phase}
+use Rattle.search.specs.declared.Phase.the-variants.{Outer, Nested, Exhausted, Found}
 use Rattle.search.specs.declared.Scanned.{Scanned}
 use Rattle.search.specs.declared.Walker.{Walker}
-use Rattle.search.specs.Core.{Core, none, up, coreOf, placed, returned, closed, discover, deepen, finish, onOpenPath, over, outerStep, nestedStep, step, runFor, Advanced, Ran, Outwards, Inwards, standing, Skips, Swept}
+use Rattle.search.specs.Core.{Core, Sized, none, up, coreOf, placed, returned, closed, discover, deepen, finish, onOpenPath, outerStopped, nestedStopped, over, outerStep, nestedStep, step, runFor, Advanced, Ran, Outwards, Inwards, standing, Skips, Hands, Edge, Swept}
 use Rattle.search.proofs.Represents.{up-more}
-use Rattle.search.proofs.Ways.{same-walker, same-core, outer-discovers, outer-skips, outer-finishes, nested-closes, nested-deepens, nested-skips, nested-returns, step-at, run-over}
+use Rattle.search.proofs.Ways.{same-walker, same-core, outer-discovers, outer-skips, outer-finishes, nested-closes, nested-deepens, nested-skips, nested-returns, step-at, run-over, run-sized}
 
 -- ---- steps, one after the other
 
@@ -38,7 +39,7 @@ module _ (targets starts words : List ℕ) where
       let one : suc n ≡ n + 1 = omega arith in
       ap (λ (k : ℕ). runFor targets starts words k s) one ∙ run-add n 1 s ∙ ap (runFor targets starts words 1) e ∙ run-one x
 
-  pub advanced : (n : ℕ) (s x s′ : Core) → runFor targets starts words n s ≡ x → s′ ≡ step targets starts words x → Advanced targets starts words s s′
+  advanced : (n : ℕ) (s x s′ : Core) → runFor targets starts words n s ≡ x → s′ ≡ step targets starts words x → Advanced targets starts words s s′
   advanced n s x s′ e f = record { more = n; reached = f ∙ sym (run-then n s x e) }
 
   pub advanced-one : (s s′ : Core) → s′ ≡ step targets starts words s → Advanced targets starts words s s′
@@ -73,6 +74,36 @@ module _ (targets starts words : List ℕ) where
   pub ran-all : (s x : Core) (budget left : ℕ) → left ≡ 0 → Ran targets starts words (budget - left) s x → Ran targets starts words budget s x
   ran-all s x budget left e r = record { steps = r .steps; enough = omega (arith, r .enough); reached = r .reached }
 
+  -- the loops of one phase
+  pub ran-then : {s x y : Core} {budget : ℕ} → Ran targets starts words budget s x → Advanced targets starts words x y → Advanced targets starts words s y
+  ran-then {s = s} r a =
+      let sum : r .steps + suc (a .more) ≡ suc (r .steps + a .more) = omega arith in
+      record {
+        more = r .steps + a .more;
+        reached = a .reached ∙ ap (runFor targets starts words (suc (a .more))) (r .reached) ∙ sym (run-add (r .steps) (suc (a .more)) s)
+            ∙ ap (λ (n : ℕ). runFor targets starts words n s) sum;
+      }
+
+  pub ran-some : {s x : Core} {budget : ℕ} → 0 < budget → Ran targets starts words budget s x → Advanced targets starts words s x
+  ran-some {s = s} h r =
+      let less : r .steps ≡ suc (r .steps - 1) = omega (arith, r .enough) in
+      record { more = r .steps - 1; reached = r .reached ∙ ap (λ (n : ℕ). runFor targets starts words n s) less }
+
+  pub advanced-sized : {s x : Core} → Sized s → Advanced targets starts words s x → Sized x
+  advanced-sized {s = s} z a = subst Sized (sym (a .reached)) (run-sized targets starts words (suc (a .more)) s z)
+
+pub outer-only : (f : Phase) → outerStopped f ≡ false → f ≡ Outer
+outer-only Outer h = refl
+outer-only Nested h = absurd (contra refl h)
+outer-only Exhausted h = absurd (contra refl h)
+outer-only Found h = absurd (contra refl h)
+
+pub nested-only : (f : Phase) → nestedStopped f ≡ false → f ≡ Nested
+nested-only Outer h = absurd (contra refl h)
+nested-only Nested h = refl
+nested-only Exhausted h = absurd (contra refl h)
+nested-only Found h = absurd (contra refl h)
+
 -- ---- the skips of a scan
 
 module _ (Stands : Core → Type 0) (targets starts : List ℕ) (v k spent : ℕ) where
@@ -83,7 +114,7 @@ module _ (Stands : Core → Type 0) (targets starts : List ℕ) (v k spent : ℕ
       (same-walker _ _ refl refl (n ∙ sym e) refl refl refl refl)
 
   -- one more, where a step from that edge only passes over it
-  pub skips-more : (next next′ before after : ℕ) → k ≤ next → next′ ≡ suc next → Skips Stands targets starts v k spent next before
+  skips-more : (next next′ before after : ℕ) → k ≤ next → next′ ≡ suc next → Skips Stands targets starts v k spent next before
       → ((words : List ℕ) (s : Core) → Stands s → s .walker .cur ≡ v → step targets starts words (standing s next before) ≡ standing s next′ after)
       → Skips Stands targets starts v k spent next′ after
   skips-more next next′ before after fits e so-far pass words s a c n p =
@@ -114,35 +145,26 @@ nested-passes targets starts stamp walk depth height v next next′ t before aft
 
 -- ---- a scan
 
+module _ (targets : List ℕ) (from stop at spent next spent′ : ℕ) (e : next ≡ at - from) where
+  pub edge-there : (t : ℕ) → at < stop → Hands targets at t → spent′ ≡ up spent
+      → Edge targets from stop at spent (record { next = next; target = t; found = true }) spent′
+  edge-there t more h raised = record { next-is = e; looked = λ y. (more, h, raised); ended = λ y. absurd (contra refl y) }
+
+  pub no-edge-there : stop ≤ at → spent′ ≡ spent → Edge targets from stop at spent (record { next = next; target = 0; found = false }) spent′
+  no-edge-there taken same = record { next-is = e; looked = λ y. absurd (contra y refl); ended = λ y. (taken, same) }
+
 -- at a place of the row of v, with `before` probes made; the row stands from place `from` up to place `stop`
 module _ (Stands : Core → Type 0) (targets starts : List ℕ) (v k spent from stop at before : ℕ) (first : from ≡ getD starts v 0)
     (last : stop ≡ getD starts (suc v) 0) (begun : from + k ≤ at) (so-far : Skips Stands targets starts v k spent (at - from) before) where
-  abbrev Hands : ℕ → Type 0
-  Hands t = (starts : List ℕ) (v k : ℕ) → k < degreeAt starts v → at ≡ getD starts v 0 + k → t ≡ getD (rowAt targets starts v) k 0
-
   module _ (more : at < stop) where
     edge : at - from < degreeAt starts v
     edge = omega (arith, first, last, more, begun)
 
-    handed : (t : ℕ) → Hands t → t ≡ getD (rowAt targets starts v) (at - from) 0
+    handed : (t : ℕ) → Hands targets at t → t ≡ getD (rowAt targets starts v) (at - from) 0
     handed t h = h starts v (at - from) edge (omega (arith, first, begun))
 
-    -- the edge there is looked at
-    pub swept-at : (next t spent′ : ℕ) → next ≡ at - from → Hands t → spent′ ≡ up before
-        → Swept Stands targets starts v k spent (record { next = next; target = t; found = true }) spent′
-    swept-at next t spent′ e h raised = record {
-      before = before;
-      skips = subst (λ (n : ℕ). Skips Stands targets starts v k spent n before) (sym e) so-far;
-      looked = λ y. (
-        subst (λ (n : ℕ). n < degreeAt starts v) (sym e) edge,
-        handed t h ∙ ap (λ (n : ℕ). getD (rowAt targets starts v) n 0) (sym e),
-        raised,
-      );
-      ended = λ y. absurd (contra refl y);
-    }
-
     -- it is passed over
-    pub goes-on : (t spent′ : ℕ) → stop < 65536 → Hands t → spent′ ≡ up before
+    pub goes-on : (t spent′ : ℕ) → stop < 65536 → Hands targets at t → spent′ ≡ up before
         → ((words : List ℕ) (s : Core) → Stands s → s .walker .cur ≡ v → at - from < degreeAt starts v → t ≡ getD (rowAt targets starts v) (at - from) 0
         → at + 1 - from ≡ up (at - from) → step targets starts words (standing s (at - from) before) ≡ standing s (at + 1 - from) spent′)
         → Skips Stands targets starts v k spent (at + 1 - from) spent′
@@ -151,13 +173,18 @@ module _ (Stands : Core → Type 0) (targets starts : List ℕ) (v k spent from 
         skips-more Stands targets starts v k spent (at - from) (at + 1 - from) before spent′ (omega (arith, begun)) on so-far
         (λ words s a c. pass words s a c edge (handed t h) (on ∙ sym (up-more (at - from) (omega (arith, more, small)))))
 
-  -- no edge is left
-  pub swept-all : (next : ℕ) → stop ≤ at → next ≡ at - from → Swept Stands targets starts v k spent (record { next = next; target = 0; found = false }) before
-  swept-all next taken e = record {
+  -- it is looked at, or no edge is left
+  pub swept : (r : Scanned) (spent′ : ℕ) → Edge targets from stop at before r spent′ → Swept Stands targets starts v k spent r spent′
+  swept r spent′ e = record {
     before = before;
-    skips = subst (λ (n : ℕ). Skips Stands targets starts v k spent n before) (sym e) so-far;
-    looked = λ y. absurd (contra y refl);
-    ended = λ y. (omega (arith, first, last, taken, e), refl);
+    skips = subst (λ (n : ℕ). Skips Stands targets starts v k spent n before) (sym (e .next-is)) so-far;
+    looked = λ y.
+        let l = e .looked y in (
+          subst (λ (n : ℕ). n < degreeAt starts v) (sym (e .next-is)) (edge (l .0)),
+          handed (l .0) (r .target) (l .1) ∙ ap (λ (n : ℕ). getD (rowAt targets starts v) n 0) (sym (e .next-is)),
+          l .2,
+        );
+    ended = λ y. let l = e .ended y in (omega (arith, first, last, l .0, e .next-is), l .1);
   }
 
 -- ---- the step behind a scan

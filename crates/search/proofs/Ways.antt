@@ -248,6 +248,14 @@ module _ (s : Core) (z : Sized s) where
     cursor-size = z .cursor-size;
   }
 
+-- arrays that a function is not lent are as long as one likes
+pub recorded-sized : (s : Core) → Recorded (s .number) (s .parent) (s .index) (s .probes) (s .stamp) (s .walk) (s .depth) → length (s .cursor) ≡ 512 → Sized s
+recorded-sized s z c = sized s (z .number-size) (z .parent-size) (z .index-size) (z .probes-size) (z .stamp-size) (z .walk-size) (z .depth-size) c
+
+pub trailed-sized : (s : Core) → Trailed (s .parent) (s .index) (s .stamp) (s .walk) (s .depth) (s .cursor) → length (s .number) ≡ 512 → length (s .probes) ≡ 512
+    → Sized s
+trailed-sized s z n p = sized s n (z .parent-size) (z .index-size) p (z .stamp-size) (z .walk-size) (z .depth-size) (z .cursor-size)
+
 module _ (targets starts words : List ℕ) (s : Core) (z : Sized s) where
   abbrev t : ℕ
   t = targetOf targets starts words s
@@ -283,7 +291,7 @@ module _ (targets starts words : List ℕ) (s : Core) (z : Sized s) where
       (either-sized (hasEdge targets starts words s) (nestedProbe targets starts words s) (withWalker s (returned (s .walk) (s .cursor) (s .walker)))
       nested-probe-sized (same-sized s z _ _))
 
-  pub step-sized : Sized (step targets starts words s)
+  step-sized : Sized (step targets starts words s)
   unfolding step
   step-sized = phase-sized (s .walker .phase) (outerStep targets starts words s) (nestedStep targets starts words s) s outer-sized nested-sized z
 

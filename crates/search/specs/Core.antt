@@ -203,6 +203,19 @@ byPhase Nested a b s = b
 byPhase Exhausted a b s = s
 byPhase Found a b s = s
 
+-- has the outer search stopped? the nested one?
+abbrev pub outerStopped : Phase → Bool
+outerStopped Outer = false
+outerStopped Nested = true
+outerStopped Exhausted = true
+outerStopped Found = true
+
+abbrev pub nestedStopped : Phase → Bool
+nestedStopped Outer = true
+nestedStopped Nested = false
+nestedStopped Exhausted = true
+nestedStopped Found = true
+
 -- is the search over?
 abbrev pub over : Phase → Bool
 over Outer = false
@@ -280,6 +293,16 @@ standing s next spent = coreOf (placed (s .walker) next) spent (s .number) (s .p
 abbrev pub Skips : (Core → Type 0) → List ℕ → List ℕ → ℕ → ℕ → ℕ → ℕ → ℕ → Type 0
 Skips Stands targets starts v k spent next spent′ = (words : List ℕ) (s : Core) → Stands s → s .walker .cur ≡ v → s .walker .next ≡ k → s .spent ≡ spent
     → runFor targets starts words (next - k) s ≡ standing s next spent′
+
+-- t is the target of every edge whose place that is
+abbrev pub Hands : List ℕ → ℕ → ℕ → Type 0
+Hands targets at t = (starts : List ℕ) (v k : ℕ) → k < degreeAt starts v → at ≡ getD starts v 0 + k → t ≡ getD (rowAt targets starts v) k 0
+
+-- what a look at a place of a row leaves; the row stands from place `from` up to place `stop`
+pub record Edge (targets : List ℕ) (from stop at spent : ℕ) (r : Scanned) (spent′ : ℕ) : Type 0 where
+  pub next-is : r .next ≡ at - from
+  pub looked : r .found ≡ true → (at < stop) × Hands targets at (r .target) × (spent′ ≡ up spent)
+  pub ended : r .found ≡ false → (stop ≤ at) × (spent′ ≡ spent)
 
 -- what a scan leaves: skips, and then the look at an edge, or no edge left
 pub record Swept (Stands : Core → Type 0) (targets starts : List ℕ) (v k spent : ℕ) (r : Scanned) (spent′ : ℕ) : Type 0 where

@@ -5,9 +5,8 @@ ghost use mathlib.Core.Bool.{true, false};
 ghost use mathlib.Core.List.{List, map};
 ghost use Prim.Native.Nat.{ℕ, suc, _+_, _-_, _≤_, _<_};
 ghost use lib.ListN.{length, getD, set};
-ghost use Rattle.rows.specs.Rows.{degreeAt, rowAt};
 ghost use Rattle.search.specs.declared.Phase.the-variants.{Outer, Nested};
-ghost use Rattle.search.specs.Core.{Core, Sized, Tabled, Recorded, Trailed, Kept, none, coreOf, up as upped, plus as added, placed, left, returned, discover as discovered, deepen as deepens, onOpenPath, finish as finished, Outwards, Inwards, Swept, Advanced, Ran, over as isOver, upTo, climb as climbed, retraceWalk, retraceDepth, rewound, resultOf, result};
+ghost use Rattle.search.specs.Core.{Core, Sized, Tabled, Recorded, Trailed, Kept, none, coreOf, up as upped, plus as added, placed, left, returned, discover as discovered, deepen as deepens, onOpenPath, finish as finished, Outwards, Inwards, Hands, Edge, Swept, Advanced, Ran, outerStopped, nestedStopped, over as isOver, upTo, climb as climbed, retraceWalk, retraceDepth, rewound, resultOf, result};
 
 pub enum Phase {
     Outer,
@@ -48,6 +47,9 @@ struct Scanned {
 // What stands in an array for "no number".
 const NONE: u16 = 65535;
 
+// The turns of a loop that ends by itself long before: it makes its end plain.
+const TURNS: u16 = 65535;
+
 pub fn wide(x: u16) -> usize
     ensures { λ r. ⌜ (r ≡ x) × (r < 65536) ⌝ }
 {
@@ -59,12 +61,6 @@ fn narrow(x: usize) -> u16
     ensures { λ r. ⌜ r ≡ x ⌝ }
 {
     x as u16
-}
-
-fn least(a: usize, b: usize) -> usize
-    ensures { λ r. ⌜ r ≤ a ⌝ }
-{
-    if a < b { a } else { b }
 }
 
 // One more, at most 65,535.
@@ -112,7 +108,7 @@ fn put(a: &mut [u16; 512], v: u16, x: u16)
 // At the place of edge k of v it is the target of that edge, whatever the starts of the rows are.
 fn look(targets: &[u16; 2048], spent: &mut u16, at: usize) -> u16
     requires { ⌜ length (now targets) ≡ 2048 ⌝ }
-    ensures { λ r. ⌜ ((starts : List ℕ) (v k : ℕ) → k < degreeAt starts v → at ≡ getD starts v 0 + k → r ≡ getD (rowAt (now (targets .entry)) starts v) k 0) × (now (spent .exit) ≡ upped (now (spent .entry))) ⌝ }
+    ensures { λ r. ⌜ Hands (now (targets .entry)) at r × (now (spent .exit) ≡ upped (now (spent .entry))) ⌝ }
 {
     *spent = up(*spent);
     if at < 2048 { targets[at] } else { 0 }
@@ -146,8 +142,28 @@ fn row_of(starts: &[u16; 513], v: u16) -> Row
     }
 }
 
-// From edge k of v on, the first edge whose target is not discovered. The loop ends where the array of targets does, so that
-// no turn has to test it; the targets of a row that goes on past it are left to the caller, one at a time.
+// A look at one edge of a row, at a place, where the row goes on so far.
+fn edge_at(targets: &[u16; 2048], spent: &mut u16, from: usize, stop: usize, at: usize) -> Scanned
+    requires { ⌜ (length (now targets) ≡ 2048) × (from ≤ at) × (at < from + 65536) ⌝ }
+    ensures { λ r. ⌜ Edge (now (targets .entry)) from stop at (now (spent .entry)) r (now (spent .exit)) ⌝ }
+{
+    let next = narrow(at - from);
+    if at < stop {
+        return Scanned {
+            next: next,
+            target: look(targets, spent, at),
+            found: true,
+        };
+    }
+    Scanned {
+        next: next,
+        target: 0,
+        found: false,
+    }
+}
+
+// From edge k of v on, the first edge whose target is not discovered. In a row that goes on past the array of targets, which no
+// table has, it is edge k itself: then no turn of the loop has to test where the array ends.
 fn scan(
     targets: &[u16; 2048],
     starts: &[u16; 513],
@@ -162,9 +178,11 @@ fn scan(
     let row = row_of(starts, v);
     let from = row.from;
     let stop = row.stop;
-    let end = least(stop, 2048);
     let mut at = from + wide(k);
-    while at < end {
+    if 2048 < stop {
+        return edge_at(targets, spent, from, stop, at);
+    }
+    while at < stop {
         let t = look(targets, spent, at);
         if get(number, t) == NONE {
             return Scanned {
@@ -175,16 +193,8 @@ fn scan(
         }
         at += 1;
     }
-    let next = narrow(at - from);
-    if at < stop {
-        return Scanned {
-            next: next,
-            target: look(targets, spent, at),
-            found: true,
-        };
-    }
     Scanned {
-        next: next,
+        next: narrow(at - from),
         target: 0,
         found: false,
     }
@@ -299,6 +309,7 @@ fn outer_step(
     let r = scan(targets, starts, number, spent, w.cur, w.next);
     if r.found {
         let t = r.target;
+        // only a row past the array of targets can fail this
         if get(number, t) == NONE {
             return discover(
                 number,
@@ -359,29 +370,23 @@ fn nested_scan(
     let row = row_of(starts, v);
     let from = row.from;
     let stop = row.stop;
-    let end = least(stop, 2048);
     let mut at = from + wide(k);
-    while at < end {
-        let t = look(targets, spent, at);
-        if stops(stamp, walk, depth, height, t) {
+    if 2048 < stop {
+        return edge_at(targets, spent, from, stop, at);
+    }
+    while at < stop {
+        let u = look(targets, spent, at);
+        if stops(stamp, walk, depth, height, u) {
             return Scanned {
                 next: narrow(at - from),
-                target: t,
+                target: u,
                 found: true,
             };
         }
         at += 1;
     }
-    let next = narrow(at - from);
-    if at < stop {
-        return Scanned {
-            next: next,
-            target: look(targets, spent, at),
-            found: true,
-        };
-    }
     Scanned {
-        next: next,
+        next: narrow(at - from),
         target: 0,
         found: false,
     }
@@ -492,6 +497,114 @@ fn nested_step(
     go_back(walk, cursor, moved(w, r.next))
 }
 
+// Has the outer search stopped?
+fn outer_stopped(phase: Phase) -> bool
+    ensures { λ r. ⌜ r ≡ outerStopped phase ⌝ }
+{
+    match phase {
+        Phase::Outer => false,
+        Phase::Nested => true,
+        Phase::Exhausted => true,
+        Phase::Found => true,
+    }
+}
+
+// Has the nested search stopped?
+fn nested_stopped(phase: Phase) -> bool
+    ensures { λ r. ⌜ r ≡ nestedStopped phase ⌝ }
+{
+    match phase {
+        Phase::Outer => true,
+        Phase::Nested => false,
+        Phase::Exhausted => true,
+        Phase::Found => true,
+    }
+}
+
+// Steps of the outer search until it stops, in a loop of their own, so that no turn has to tell the phase first.
+fn outer_steps(
+    targets: &[u16; 2048],
+    starts: &[u16; 513],
+    words: &[u64; 8],
+    number: &mut [u16; 512],
+    parent: &mut [u16; 512],
+    index: &mut [u16; 512],
+    probes: &mut [u16; 512],
+    stamp: &mut [u16; 512],
+    walk: &mut [u16; 512],
+    depth: &mut [u16; 512],
+    spent: &mut u16,
+    w: Walker,
+) -> Walker
+    requires { ⌜ (w .phase ≡ Outer) × Tabled (now targets) (now starts) × Recorded (now number) (now parent) (now index) (now probes) (now stamp) (now walk) (now depth) ⌝ }
+    ensures { λ r. ⌜ ((cursor : List ℕ) → Advanced (now (targets .entry)) (now (starts .entry)) (now (words .entry)) (coreOf w (now (spent .entry)) (now (number .entry)) (now (parent .entry)) (now (index .entry)) (now (probes .entry)) (now (stamp .entry)) (now (walk .entry)) (now (depth .entry)) cursor) (coreOf r (now (spent .exit)) (now (number .exit)) (now (parent .exit)) (now (index .exit)) (now (probes .exit)) (now (stamp .exit)) (now (walk .exit)) (now (depth .exit)) cursor)) ⌝ }
+{
+    let mut q = w;
+    let mut left = TURNS;
+    while 0 < left {
+        q = outer_step(
+            targets,
+            starts,
+            words,
+            number,
+            parent,
+            index,
+            probes,
+            stamp,
+            walk,
+            depth,
+            spent,
+            q,
+        );
+        let phase = q.phase;
+        if outer_stopped(phase) {
+            return q;
+        }
+        left -= 1;
+    }
+    q
+}
+
+// The same for the nested search.
+fn nested_steps(
+    targets: &[u16; 2048],
+    starts: &[u16; 513],
+    parent: &[u16; 512],
+    index: &[u16; 512],
+    stamp: &mut [u16; 512],
+    walk: &mut [u16; 512],
+    depth: &[u16; 512],
+    cursor: &mut [u16; 512],
+    spent: &mut u16,
+    w: Walker,
+) -> Walker
+    requires { ⌜ (w .phase ≡ Nested) × Tabled (now targets) (now starts) × Trailed (now parent) (now index) (now stamp) (now walk) (now depth) (now cursor) ⌝ }
+    ensures { λ r. ⌜ ((words number probes : List ℕ) → Advanced (now (targets .entry)) (now (starts .entry)) words (coreOf w (now (spent .entry)) number (now (parent .entry)) (now (index .entry)) probes (now (stamp .entry)) (now (walk .entry)) (now (depth .entry)) (now (cursor .entry))) (coreOf r (now (spent .exit)) number (now (parent .entry)) (now (index .entry)) probes (now (stamp .exit)) (now (walk .exit)) (now (depth .entry)) (now (cursor .exit)))) ⌝ }
+{
+    let mut q = w;
+    let mut left = TURNS;
+    while 0 < left {
+        q = nested_step(
+            targets,
+            starts,
+            parent,
+            index,
+            stamp,
+            walk,
+            depth,
+            cursor,
+            spent,
+            q,
+        );
+        let phase = q.phase;
+        if nested_stopped(phase) {
+            return q;
+        }
+        left -= 1;
+    }
+    q
+}
+
 // Steps by the phase; none once the search is over.
 fn step(
     targets: &[u16; 2048],
@@ -513,7 +626,7 @@ fn step(
 {
     let phase = w.phase;
     match phase {
-        Phase::Outer => outer_step(
+        Phase::Outer => outer_steps(
             targets,
             starts,
             words,
@@ -527,7 +640,7 @@ fn step(
             spent,
             w,
         ),
-        Phase::Nested => nested_step(
+        Phase::Nested => nested_steps(
             targets,
             starts,
             parent,

@@ -1,48 +1,63 @@
 -- `nested_scan` meets its contract: each turn is one skip of the model. Assumes nothing.
+use mathlib.Core.Path.{refl}
 use Prim.Native.Nat.{_+_, _-_, _≤_, _<_}
 use native.Mathlib.Omega.{arith}
 use denote.Ref.{now}
 use Rattle.search.specs.Core.{Inwards, Skips}
-use Rattle.search.proofs.Scans.{skips-none, nested-passes, swept-at, goes-on, swept-all}
+use Rattle.search.proofs.Scans.{skips-none, nested-passes, edge-there, no-edge-there, goes-on, swept}
 use Rattle.search.proofs.nested_scan.Statement.{statement}
 use Rattle.search.proofs.nested_scan.Tie as tie
 
 abbrev Inv-loop : tie.InvT-loop
-Inv-loop targets starts stamp walk depth spent₀ height v k from stop end at₀ spent at =
+Inv-loop targets starts stamp walk depth spent₀ height v k from stop at₀ spent at =
     (from + k ≤ at) × (at < from + 65536) × Skips (Inwards stamp walk depth height) targets starts v k spent₀ (at - from) spent
 
 abbrev μ-loop : tie.MeasureT-loop
-μ-loop targets starts stamp walk depth spent₀ height v k from stop end at₀ spent at = end - at
+μ-loop targets starts stamp walk depth spent₀ height v k from stop at₀ spent at = stop - at
 
 abbrev start : tie.After-wide Inv-loop μ-loop → tie.Start Inv-loop μ-loop
-start c = c .before .before .before
+start c = c .before .before
 
 row-of-requires : tie.Need-row-of-requires Inv-loop μ-loop
 row-of-requires c κs = c .pre .0 .starts-size
-
-least-requires : tie.Need-least-requires Inv-loop μ-loop
-least-requires c κs = tt
 
 wide-requires : tie.Need-wide-requires Inv-loop μ-loop
 wide-requires c κs = tt
 
 add-at : tie.Need-add-at Inv-loop μ-loop
-add-at c = omega (arith, c .wide .ensures .1, c .before .before .row-of .ensures .2)
+add-at c = omega (arith, c .wide .ensures .1, c .before .row-of .ensures .2)
 
 loop-holds : tie.Need-loop-holds Inv-loop μ-loop
 loop-holds c =
-    let a = start c .args in
-    let from = c .before .before .row-of .result .from in (
-      omega (arith, c .wide .ensures .0),
-      omega (arith, c .wide .ensures .1),
-      skips-none (Inwards (now (a .stamp)) (now (a .walk)) (now (a .depth)) (a .height)) (now (a .targets)) (now (a .starts)) (a .v) (a .k) (now (a .spent)) (from + c .wide .result - from) (omega (arith, c .wide .ensures .0)),
+    let w = c .before in
+    let a = start w .args in
+    let from = w .before .row-of .result .from in (
+      omega (arith, w .wide .ensures .0),
+      omega (arith, w .wide .ensures .1),
+      skips-none (Inwards (now (a .stamp)) (now (a .walk)) (now (a .depth)) (a .height)) (now (a .targets)) (now (a .starts)) (a .v) (a .k) (now (a .spent)) (from + w .wide .result - from) (omega (arith, w .wide .ensures .0)),
     )
 
+edge-at-requires : tie.Need-edge-at-requires Inv-loop μ-loop
+edge-at-requires c κs =
+    let w = c .before .before in
+    (start w .pre .0 .targets-size, omega arith, omega (arith, w .wide .ensures .1))
+
+returns : tie.Need-returns Inv-loop μ-loop
+returns c =
+    let w = c .before .before .before in
+    let a = start w .args in
+    let row = w .before .row-of .ensures in
+    let from = w .before .row-of .result .from in
+    swept (Inwards (now (a .stamp)) (now (a .walk)) (now (a .depth)) (a .height)) (now (a .targets)) (now (a .starts)) (a .v) (a .k) (now (a .spent)) _ _ (from + w .wide .result) (now (a .spent)) (row .0) (row .1)
+    (omega (arith, w .wide .ensures .0))
+    (skips-none (Inwards (now (a .stamp)) (now (a .walk)) (now (a .depth)) (a .height)) (now (a .targets)) (now (a .starts)) (a .v) (a .k) (now (a .spent)) (from + w .wide .result - from) (omega (arith, w .wide .ensures .0)))
+    _ _ (c .edge-at .ensures)
+
 look-requires : tie.Need-look-requires Inv-loop μ-loop
-look-requires c κs = start (c .before .before .before) .pre .0 .targets-size
+look-requires c κs = start (c .before .before .before .before) .pre .0 .targets-size
 
 stops-requires : tie.Need-stops-requires Inv-loop μ-loop
-stops-requires c κs = start (c .before .before .before .before) .pre .1
+stops-requires c κs = start (c .before .before .before .before .before) .pre .1
 
 sub-narrow : tie.Need-sub-narrow Inv-loop μ-loop
 sub-narrow c = omega (arith, c .before .before .before .before .before .loop .inv .0)
@@ -50,22 +65,22 @@ sub-narrow c = omega (arith, c .before .before .before .before .before .loop .in
 narrow-requires : tie.Need-narrow-requires Inv-loop μ-loop
 narrow-requires c κs = omega (arith, c .before .before .before .before .before .loop .inv .1)
 
-returns : tie.Need-returns Inv-loop μ-loop
-returns c =
+returns-2 : tie.Need-returns-2 Inv-loop μ-loop
+returns-2 c =
     let l = c .before .before .before in
     let i = l .before .before in
     let h = i .before in
-    let a = start (h .before) .args in
-    let row = h .before .before .before .row-of .ensures in
-    swept-at (Inwards (now (a .stamp)) (now (a .walk)) (now (a .depth)) (a .height)) (now (a .targets)) (now (a .starts)) (a .v) (a .k) (now (a .spent)) _ _ (h .loop .at) (h .loop .spent) (row .0) (row .1)
-    (h .loop .inv .0) (h .loop .inv .2) (omega (arith, i .loop-test .taken, h .before .before .least .ensures)) _ _ _ (c .narrow .ensures) (l .look .ensures .0)
-    (l .look .ensures .1)
+    let w = h .before .before in
+    let a = start w .args in
+    let row = w .before .row-of .ensures in
+    swept (Inwards (now (a .stamp)) (now (a .walk)) (now (a .depth)) (a .height)) (now (a .targets)) (now (a .starts)) (a .v) (a .k) (now (a .spent)) _ _ (h .loop .at) (h .loop .spent) (row .0) (row .1)
+    (h .loop .inv .0) (h .loop .inv .2) _ _
+    (edge-there (now (a .targets)) _ _ (h .loop .at) (h .loop .spent) _ _ (c .narrow .ensures) _ (i .loop-test .taken) (l .look .ensures .0) (l .look .ensures .1))
 
 add-at-2 : tie.Need-add-at-2 Inv-loop μ-loop
 add-at-2 c =
     let i = c .before .before .before .before in
-    let e = i .before .before .before in
-    omega (arith, i .loop-test .taken, e .least .ensures, e .before .row-of .ensures .3)
+    omega (arith, i .loop-test .taken, i .before .before .before .before .row-of .ensures .3)
 
 loop-less : tie.Need-loop-less Inv-loop μ-loop
 loop-less c = omega (arith, c .before .before .before .before .loop-test .taken)
@@ -76,15 +91,15 @@ loop-again c =
     let l = g .before in
     let i = l .before .before in
     let h = i .before in
-    let a = start (h .before) .args in
-    let row = h .before .before .before .row-of .ensures in
-    let more : h .loop .at < h .before .before .before .row-of .result .stop = omega (arith, i .loop-test .taken, h .before .before .least .ensures) in (
+    let w = h .before .before in
+    let a = start w .args in
+    let row = w .before .row-of .ensures in (
       omega (arith, h .loop .inv .0),
-      omega (arith, more, row .3),
+      omega (arith, i .loop-test .taken, row .3),
       goes-on (Inwards (now (a .stamp)) (now (a .walk)) (now (a .depth)) (a .height)) (now (a .targets)) (now (a .starts)) (a .v) (a .k) (now (a .spent)) _ _ (h .loop .at) (h .loop .spent) (row .0) (row .1)
-          (h .loop .inv .0) (h .loop .inv .2) more (l .look .result) _ (row .3) (l .look .ensures .0) (l .look .ensures .1)
+          (h .loop .inv .0) (h .loop .inv .2) (i .loop-test .taken) (l .look .result) _ (row .3) (l .look .ensures .0) (l .look .ensures .1)
           (λ words s at-it there edge e on. nested-passes (now (a .targets)) (now (a .starts)) (now (a .stamp)) (now (a .walk)) (now (a .depth)) (a .height) (a .v) _ _ (l .look .result) (h .loop .spent) _ edge e
-          (g .stops .ensures (c .if1 .left) .0) (g .stops .ensures (c .if1 .left) .1) (l .look .ensures .1) on words s at-it there),
+          (g .stops .ensures (c .if2 .left) .0) (g .stops .ensures (c .if2 .left) .1) (l .look .ensures .1) on words s at-it there),
     )
 
 sub-narrow-2 : tie.Need-sub-narrow-2 Inv-loop μ-loop
@@ -93,25 +108,15 @@ sub-narrow-2 c = omega (arith, c .before .loop .inv .0)
 narrow-requires-2 : tie.Need-narrow-requires-2 Inv-loop μ-loop
 narrow-requires-2 c κs = omega (arith, c .before .loop .inv .1)
 
-look-requires-2 : tie.Need-look-requires-2 Inv-loop μ-loop
-look-requires-2 c κs = start (c .before .before .before .before .before) .pre .0 .targets-size
-
-returns-2 : tie.Need-returns-2 Inv-loop μ-loop
-returns-2 c =
-    let i = c .before .before in
-    let h = i .before .before .before in
-    let a = start (h .before) .args in
-    let row = h .before .before .before .row-of .ensures in
-    swept-at (Inwards (now (a .stamp)) (now (a .walk)) (now (a .depth)) (a .height)) (now (a .targets)) (now (a .starts)) (a .v) (a .k) (now (a .spent)) _ _ (h .loop .at) (h .loop .spent) (row .0) (row .1)
-    (h .loop .inv .0) (h .loop .inv .2) (i .if2 .taken) _ _ _ (i .before .narrow2 .ensures) (c .look2 .ensures .0) (c .look2 .ensures .1)
-
 returns-3 : tie.Need-returns-3 Inv-loop μ-loop
 returns-3 c =
-    let h = c .before .before .before in
-    let a = start (h .before) .args in
-    let row = h .before .before .before .row-of .ensures in
-    swept-all (Inwards (now (a .stamp)) (now (a .walk)) (now (a .depth)) (a .height)) (now (a .targets)) (now (a .starts)) (a .v) (a .k) (now (a .spent)) _ _ (h .loop .at) (h .loop .spent) (row .0) (row .1)
-    (h .loop .inv .0) (h .loop .inv .2) _ (c .if2 .left) (c .before .narrow2 .ensures)
+    let h = c .before .before in
+    let w = h .before .before in
+    let a = start w .args in
+    let row = w .before .row-of .ensures in
+    swept (Inwards (now (a .stamp)) (now (a .walk)) (now (a .depth)) (a .height)) (now (a .targets)) (now (a .starts)) (a .v) (a .k) (now (a .spent)) _ _ (h .loop .at) (h .loop .spent) (row .0) (row .1)
+    (h .loop .inv .0) (h .loop .inv .2) _ _
+    (no-edge-there (now (a .targets)) _ _ (h .loop .at) (h .loop .spent) _ _ (c .narrow2 .ensures) (c .before .loop-test .left) refl)
 
 pub nested-scan-spec : {M : Type 1} → statement M
 nested-scan-spec =
@@ -120,20 +125,19 @@ nested-scan-spec =
     Inv-loop
     μ-loop
     row-of-requires
-    least-requires
     wide-requires
     add-at
+    edge-at-requires
+    returns
     loop-holds
     look-requires
     stops-requires
     sub-narrow
     narrow-requires
-    returns
+    returns-2
     add-at-2
     loop-less
     loop-again
     sub-narrow-2
     narrow-requires-2
-    look-requires-2
-    returns-2
     returns-3)

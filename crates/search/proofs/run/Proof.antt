@@ -1,11 +1,10 @@
 -- `run` meets its contract: each turn takes a step or more, and a search that is over has taken as many as one likes. Assumes nothing.
-use mathlib.Core.Path.{sym, subst, _∙_}
+use mathlib.Core.Path.{sym, _∙_}
 use Prim.Native.Nat.{_-_, _≤_}
 use native.Mathlib.Omega.{arith}
 use denote.Ref.{now}
 use Rattle.search.specs.Core.{Core, Sized, coreOf, Ran}
-use Rattle.search.proofs.Ways.{run-sized}
-use Rattle.search.proofs.Scans.{ran-none, ran-more, ran-over, ran-all}
+use Rattle.search.proofs.Scans.{ran-none, ran-more, ran-over, ran-all, advanced-sized}
 use Rattle.search.proofs.run.Statement.{statement}
 use Rattle.search.proofs.run.Tie as tie
 
@@ -63,7 +62,7 @@ loop-again c =
     let h = i .before in
     let a = h .before .args in
     let q = c .step .ensures in (
-      subst Sized (sym (q .reached)) (run-sized (now (a .targets)) (now (a .starts)) (now (a .words)) _ (at h) (h .loop .inv .0)),
+      advanced-sized (now (a .targets)) (now (a .starts)) (now (a .words)) (h .loop .inv .0) q,
       omega (arith, h .loop .inv .1),
       ran-more (now (a .targets)) (now (a .starts)) (now (a .words)) (first (h .before)) (at h) _ (a .budget) (h .loop .left) (i .loop-test .taken)
           (h .loop .inv .1) (h .loop .inv .2) q,

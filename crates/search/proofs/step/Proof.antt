@@ -17,8 +17,8 @@ at c =
 enum-told : tie.Need-enum-told
 enum-told c = c .match .keys1
 
-outer-step-requires : tie.Need-outer-step-requires
-outer-step-requires c κs =
+outer-steps-requires : tie.Need-outer-steps-requires
+outer-steps-requires c κs =
     let k = c .before .before .before .before .before .before .before .before in
     let b = k .before .before in
     (k .enum-told .given .1, b .pre .0, recorded (at b) (b .pre .1))
@@ -26,8 +26,8 @@ outer-step-requires c κs =
 enum-told-2 : tie.Need-enum-told-2
 enum-told-2 c = c .match .keys2
 
-nested-step-requires : tie.Need-nested-step-requires
-nested-step-requires c κs =
+nested-steps-requires : tie.Need-nested-steps-requires
+nested-steps-requires c κs =
     let k = c .before .before .before .before .before .before .before in
     let b = k .before .before in
     (k .enum-told2 .given .1, b .pre .0, trailed (at b) (b .pre .1))
@@ -39,10 +39,10 @@ enum-told-4 : tie.Need-enum-told-4
 enum-told-4 c = c .match .keys4
 
 returns : tie.Need-returns
-returns c = let b = c .before .before .before .before .before .before .before .before .before .before .before in c .outer-step .ensures (now (b .args .cursor))
+returns c = let b = c .before .before .before .before .before .before .before .before .before .before .before in c .outer-steps .ensures (now (b .args .cursor))
 
 returns-2 : tie.Need-returns-2
-returns-2 c = let b = c .before .before .before .before .before .before .before .before .before .before in c .nested-step .ensures (now (b .args .words)) (now (b .args .number)) (now (b .args .probes))
+returns-2 c = let b = c .before .before .before .before .before .before .before .before .before .before in c .nested-steps .ensures (now (b .args .words)) (now (b .args .number)) (now (b .args .probes))
 
 returns-3 : tie.Need-returns-3
 returns-3 c =
@@ -59,9 +59,9 @@ step-spec =
     tie.close
     (tie.spec
     enum-told
-    outer-step-requires
+    outer-steps-requires
     enum-told-2
-    nested-step-requires
+    nested-steps-requires
     enum-told-3
     enum-told-4
     returns
