@@ -29,6 +29,10 @@ use Rattle.watch.specs.declared.Task.the-variants.{Nothing, Refuse, Load
 use Rattle.watch.specs.declared.Plan.{Plan}
 use Rattle.watch.specs.declared.Written.{Written}
 
+-- what is held before the first line
+abbrev pub firstLead : Lead
+firstLead = record { stage = Waiting; size = 0; start = 0; words = replicate 8 0; count = 0 }
+
 -- ---- what a line asks for
 
 abbrev pub pickPlan : Bool → Plan → Plan → Plan

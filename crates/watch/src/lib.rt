@@ -14,7 +14,7 @@ ghost use lib.ListN.{length, take};
 ghost use Rattle.answer.specs.Bytes.{Put};
 ghost use Rattle.answer.specs.Rendering.{render};
 ghost use Rattle.line.specs.Records.{recordOf};
-ghost use Rattle.watch.specs.Model.{staged as Model·staged, held as Model·held, refusing as Model·refusing, changing as Model·changing, askedFirst, askedMove, askedBefore, askedAfter, asked, Filed, Serves, lineSaid, isRefused, leadFor, linesFor, Told, isOver, fits};
+ghost use Rattle.watch.specs.Model.{firstLead, staged as Model·staged, held as Model·held, refusing as Model·refusing, changing as Model·changing, askedFirst, askedMove, askedBefore, askedAfter, asked, Filed, Serves, lineSaid, isRefused, leadFor, linesFor, Told, isOver, fits};
 ghost use Rattle.watch.specs.Text.{counted, outputOf, Fitted, Watched};
 
 // "An input of more than 4,294,967,295 bytes counts as ending behind the last newline among these."
@@ -62,7 +62,7 @@ pub struct Written {
 
 // What is held before the first line.
 pub fn first_lead() -> Lead
-    ensures { λ r. ⌜ r .stage ≡ Stage.Waiting ⌝ }
+    ensures { λ r. ⌜ r ≡ firstLead ⌝ }
 {
     Lead {
         stage: Stage::Waiting,
@@ -74,7 +74,9 @@ pub fn first_lead() -> Lead
 }
 
 // What stands in place of a session before the first load: a load of nothing, which is refused.
-pub fn no_session() -> Outcome {
+pub fn no_session() -> Outcome
+    ensures { λ r. ⌜ (r .answer ≡ Answer.Refused 2) × (r .session .size ≡ 0) ⌝ }
+{
     let numbers: [u16; 1] = [0; 1];
     let mut lent: [u16; 1] = [0; 1];
     session::load(0, 0, [0; 8], &numbers, &mut lent)

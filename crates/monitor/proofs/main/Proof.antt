@@ -10,6 +10,7 @@ use Prim.Native.Nat.{ℕ}
 use lib.ListN.{length, replicate}
 use lib.Seq.{length-take-le}
 use Rattle.line.specs.Records.{recordOf}
+use Rattle.watch.specs.declared.Lead.{Lead}
 use Rattle.watch.specs.Text.{waiting, limit}
 use Rattle.watch.proofs.Steps.{Tracks}
 use Rattle.watch.proofs.Turns.{Behind, behind}
@@ -59,7 +60,7 @@ loop-holds c = (
   search needs,
   search needs,
   within-same (c .standing .result) _ 512 (c .standing .ensures) (record { at = omega arith; end = omega arith; len = omega arith }),
-  ([], ([], (starts c, c .before .before .first-lead .ensures))),
+  ([], ([], (starts c, ap (λ (l : Lead). l .stage) (c .before .before .first-lead .ensures)))),
 )
 
 next-line-requires : tie.Need-next-line-requires Inv-loop μ-loop

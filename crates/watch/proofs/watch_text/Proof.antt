@@ -1,6 +1,6 @@
 -- `watch::watch_text`: what is left to be written behind `at` is what the lines from `from` on are answered with, by what is held.
 use Prim.Native.Nat.{ℕ, _+_, _-_, _≤_}
-use mathlib.Core.Path.{_≡_, refl, sym, subst, _∙_}
+use mathlib.Core.Path.{_≡_, refl, sym, ap, subst, _∙_}
 use mathlib.Core.List.{List, [], _++_, map}
 use native.Mathlib.Omega.{arith}
 use borrow.Author.Needs.{needs}
@@ -10,6 +10,7 @@ use Rattle.line.specs.Records.{recordOf}
 use Rattle.line.specs.declared.Record.{Record}
 use Rattle.line.proofs.Fields.{end-within}
 use Rattle.answer.specs.Rendering.{render}
+use Rattle.watch.specs.declared.Lead.{Lead}
 use Rattle.watch.specs.Text.{Lead as Held, waiting, step, outputOf}
 use Rattle.watch.proofs.Steps.{Tracks}
 use Rattle.watch.proofs.Output.{Rest, rest-start, rest-end, all-put, not-put, fits-within}
@@ -52,7 +53,7 @@ no-session-requires c κs = search needs
 
 loop-holds : tie.Need-loop-holds Inv-loop μ-loop
 unfolding outputOf
-loop-holds c = (omega arith, refl, search needs, search needs, search needs, (waiting, (c .before .first-lead .ensures, rest-start _ _ _)))
+loop-holds c = (omega arith, refl, search needs, search needs, search needs, (waiting, (ap (λ (l : Lead). l .stage) (c .before .first-lead .ensures), rest-start _ _ _)))
 
 end-of-requires : tie.Need-end-of-requires Inv-loop μ-loop
 end-of-requires c κs = search needs
