@@ -1,24 +1,29 @@
 -- What is promised of the plain answers: demand 2, and what "kept" means (demand 3). proofs/Demands.antt proves it. Assumes nothing.
-use Prim.Native.Nat.{ℕ, _+_, _*_, _-_, _≤_}
+use Prim.Native.Nat.{ℕ, _+_, _*_, _≤_}
 use mathlib.Core.Path.{_≡_}
 use mathlib.Core.Logic.{_≢_}
 use mathlib.Core.Bool.{Bool, true, false}
 use mathlib.Core.List.{List, _∷_, _++_}
-use lib.ListN.{length}
-use Rattle.plain.specs.Lists.{any}
+use lib.ListN.{length, take, drop}
+use Rattle.plain.specs.Lists.{any, filter}
 use Rattle.plain.specs.Search.{Edge, none, lasso, unfinished, verdict, count, taken}
 use Rattle.plain.specs.Cycles.{FreeRound, Lasso}
 use Rattle.plain.specs.Table.{Table, graphOf, final, firstMeeting}
-use Rattle.plain.specs.Refusals.{accepted, Load, loadTrial}
-use Rattle.plain.specs.Machine.{Change, named, apply, tableOf, Call, trialOf, kept}
+use Rattle.plain.specs.Refusals.{accepted, Load, loadTrial, sameEdge}
+use Rattle.plain.specs.Machine.{Change, named, apply, tableOf, Call, trialOf}
 
 -- the tables that a session can hold: those that a load accepts, and those to which accepted changes lead
 pub data Arises : Table → Type 0 where
   loaded : (l : Load) (room : ℕ) → loadTrial l room ≡ accepted → Arises (tableOf l)
   changed : (t : Table) (c : Call) → Arises t → trialOf c t ≡ accepted → Arises (apply (c .change) t)
 
+-- how often a move stands among looks
+unfoldable pub times : Edge → List Edge → ℕ
+times e looks = length (filter (sameEdge e) looks)
+
 -- Demand 2: ""None" exactly when no free round can be reached from the start state; otherwise a walk that the present table really has, into a
--- free round and once along it." With it, from the plain search's section: the walk has at most N states; the looks are at most twice the moves.
+-- free round and once along it." With it, from the plain search's section: the walk has at most N states; the looks are at most twice the moves, and
+-- no move is looked at more than twice.
 pub record VerdictRight (t : Table) : Type 0 where
   pub ends : verdict (final t) ≢ unfinished
   pub none-only : verdict (final t) ≡ none → FreeRound (graphOf t) → ⊥
@@ -26,15 +31,30 @@ pub record VerdictRight (t : Table) : Type 0 where
   pub walk : (stem cycle : List ℕ) → verdict (final t) ≡ lasso stem cycle → Lasso (graphOf t) stem cycle
   pub short : (stem cycle : List ℕ) → verdict (final t) ≡ lasso stem cycle → length stem + length cycle ≤ t .size
   pub looks : count (final t) ≤ 2 * length (t .edges)
+  pub each : (e : Edge) → times e (taken (final t)) ≤ 2
 
--- Of a change: the kept looks are the first of the new search's, and "the run before began with these looks, move for move".
-pub record KeptRight (c : Change) (t : Table) : Type 0 where
-  pub rest : List Edge
-  pub new-run : taken (final (apply c t)) ≡ taken (firstMeeting (named c) (apply c t)) ++ rest
-  pub others : List Edge
-  pub run-before : taken (final t) ≡ taken (firstMeeting (named c) (apply c t)) ++ others
+-- A verdict as a caller gets it: "none", or "round" with the lengths of stem and round, and the walk.
+pub data Report : Type 0 where
+  clear : Report
+  round : ℕ → ℕ → List ℕ → Report
+
+-- Demand 2 of such a verdict: "none" exactly when no free round can be reached; otherwise the walk has the lengths told, and is a stem and a round of
+-- the table.
+pub record ReportRight (r : Report) (t : Table) : Type 0 where
+  pub clear-only : r ≡ clear → FreeRound (graphOf t) → ⊥
+  pub clear-if : (FreeRound (graphOf t) → ⊥) → r ≡ clear
+  pub lengths : (stem cycle : ℕ) (walk : List ℕ) → r ≡ round stem cycle walk → length walk ≡ stem + cycle
+  pub lasso-there : (stem cycle : ℕ) (walk : List ℕ) → r ≡ round stem cycle walk → Lasso (graphOf t) (take stem walk) (drop stem walk)
+
+-- Of a change that is answered with so many looks spent and kept; t is the table as the change finds it.
+pub record KeptRight (c : Change) (t : Table) (spent kept : ℕ) : Type 0 where
+  -- "Kept is the looks which that search makes before it first meets the state that the changed move leaves (all if never)"
+  pub kept-is : kept ≡ count (firstMeeting (named c) (apply c t))
+  pub new-run : take kept (taken (final (apply c t))) ≡ taken (firstMeeting (named c) (apply c t))
+  -- "the run before began with these looks, move for move"
+  pub run-before : take kept (taken (final t)) ≡ taken (firstMeeting (named c) (apply c t))
   -- "Kept + spent = that search's full count"
-  pub adds-up : kept (named c) (apply c t) + (count (final (apply c t)) - kept (named c) (apply c t)) ≡ count (final (apply c t))
+  pub adds-up : kept + spent ≡ count (final (apply c t))
 
 -- "a number is handed back when its condition holds and no earlier one that is tried there does, and only then": cs are the conditions, in the
 -- order tried, each with its number

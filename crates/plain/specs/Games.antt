@@ -3,7 +3,7 @@ use Prim.Native.Nat.{ℕ, _+_, _^_}
 use mathlib.Core.List.{List, [], _∷_}
 use lib.ListN.{replicate}
 use Rattle.plain.specs.Refusals.{Load}
-use Rattle.plain.specs.Machine.{Change, add, cut, Call, Line, gameLine, roundLine, noneLine, noLine}
+use Rattle.plain.specs.Machine.{Change, add, cut, Call, numbered, Line, gameLine, roundLine, noneLine, noLine}
 
 -- a game, the changes made to it in turn, and the lines printed
 pub record Known : Type 0 where
@@ -37,7 +37,7 @@ games =
     ∷ roundLine 2 2 1 2 (0 ∷ 1 ∷ 2 ∷ [])
     ∷ roundLine 3 2 1 2 (0 ∷ 1 ∷ 2 ∷ [])
     ∷ noneLine 0 1
-    ∷ noLine 10
+    ∷ noLine (numbered 10)
     ∷ noneLine 0 1
     ∷ [])
     -- B

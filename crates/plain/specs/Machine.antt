@@ -38,24 +38,32 @@ unfoldable pub changeTrial : Change → Table → ℕ → Trial
 changeTrial (add e) t room = addTrial t e room
 changeTrial (cut e) t room = cutTrial t e room
 
--- "Each answers with a verdict, the looks spent and the looks kept"; a refused call with its number.
+-- "A refused call's answer is its number, with what a ticket adds to it."
+pub record Refusal : Type 0 where
+  pub number : ℕ
+
+abbrev pub numbered : ℕ → Refusal
+numbered n = record { number = n }
+
+-- "Each answers with a verdict, the looks spent and the looks kept"; a refused call with its refusal.
 pub data Answer : Type 0 where
-  refusal : ℕ → Answer
+  refusal : Refusal → Answer
   answer : Verdict → ℕ → ℕ → Answer
 
 -- "kept is the looks of the plain search on the new table before it first meets the state that the move leaves, or all its looks"
-unfoldable pub kept : List ℕ → Table → ℕ
-kept states t = count (firstMeeting states t)
+-- t is the table as the change finds it
+unfoldable pub kept : Change → Table → ℕ
+kept c t = count (firstMeeting (named c) (apply c t))
 
 -- "After a load, kept is 0."
 unfoldable pub loadAnswer : Trial → Table → Answer
 loadAnswer accepted t = answer (verdict (final t)) (count (final t)) 0
-loadAnswer (refused n) t = refusal n
+loadAnswer (refused n) t = refusal (numbered n)
 
--- "spent is the rest": t is the table as the change leaves it
-unfoldable pub changeAnswer : Trial → List ℕ → Table → Answer
-changeAnswer accepted states t = answer (verdict (final t)) (count (final t) - kept states t) (kept states t)
-changeAnswer (refused n) states t = refusal n
+-- "spent is the rest": t is the table as the change finds it
+unfoldable pub changeAnswer : Trial → Change → Table → Answer
+changeAnswer accepted c t = answer (verdict (final (apply c t))) (count (final (apply c t)) - kept c t) (kept c t)
+changeAnswer (refused n) c t = refusal (numbered n)
 
 -- "a refused call leaves it as it was"
 abbrev pub after : Trial → Table → Table → Table
@@ -71,7 +79,7 @@ unfoldable pub trialOf : Call → Table → Trial
 trialOf c t = changeTrial (c .change) t (c .room)
 
 unfoldable pub answerTo : Call → Table → Answer
-answerTo c t = changeAnswer (trialOf c t) (named (c .change)) (apply (c .change) t)
+answerTo c t = changeAnswer (trialOf c t) (c .change) t
 
 unfoldable pub tableAfter : Call → Table → Table
 tableAfter c t = after (trialOf c t) (apply (c .change) t) t
@@ -84,7 +92,7 @@ answers (c ∷ cs) t = answerTo c t ∷ answers cs (tableAfter c t)
 -- What the list lent for the walk then holds: "the stem first, and the round .. behind the stem. Entries after the walk keep their values;
 -- for "none" all do", and no lent list changes on a refusal.
 unfoldable pub written : Answer → List ℕ → List ℕ
-written (refusal n) lent = lent
+written (refusal r) lent = lent
 written (answer none spent kept) lent = lent
 written (answer (lasso stem cycle) spent kept) lent = stem ++ (cycle ++ drop (length stem + length cycle) lent)
 written (answer unfinished spent kept) lent = lent
@@ -98,10 +106,10 @@ pub data Line : Type 0 where
   -- spent, kept
   noneLine : ℕ → ℕ → Line
   -- the refusal's number
-  noLine : ℕ → Line
+  noLine : Refusal → Line
 
 unfoldable pub answerLine : Answer → List Line
-answerLine (refusal n) = noLine n ∷ []
+answerLine (refusal r) = noLine r ∷ []
 answerLine (answer none spent kept) = noneLine spent kept ∷ []
 answerLine (answer (lasso stem cycle) spent kept) = roundLine spent kept (length stem) (length cycle) (stem ++ cycle) ∷ []
 answerLine (answer unfinished spent kept) = []
@@ -115,5 +123,5 @@ unfoldable pub transcript : Load → ℕ → List Call → List Line
 transcript l room cs = elim (loadTrial l room) [
   | accepted ↦ gameLine (l .size) (length (pairs (l .numbers))) (acceptingCount (l .words))
       ∷ answerLines (loadAnswer accepted (tableOf l) ∷ answers cs (tableOf l))
-  | refused n ↦ noLine n ∷ []
+  | refused n ↦ noLine (numbered n) ∷ []
 ]

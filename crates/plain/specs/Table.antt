@@ -50,8 +50,13 @@ acceptingCount words = countBelow 512 (accepts words)
 unfoldable pub row : List Edge → ℕ → List ℕ
 row es s = map (λ (e : Edge). e .1) (filter (λ (e : Edge). eqb (e .0) s) es)
 
+-- the game as a graph: what free rounds are
 abbrev pub graphOf : Table → Graph
 graphOf t = record { start = t .start; successors = row (t .edges); accepting = accepts (t .words) }
+
+-- The graph that the search runs on. It is the game's own.
+abbrev pub searched : Table → Graph
+searched t = graphOf t
 
 -- more steps than the search on a table takes (proofs/Demands.antt, `ends`)
 unfoldable pub budget : Table → ℕ
@@ -59,8 +64,8 @@ budget t = 2 * length (t .edges) + 3 * t .size + 2
 
 -- the plain search on the table, at its end
 unfoldable pub final : Table → Config
-final t = run (graphOf t) (budget t)
+final t = run (searched t) (budget t)
 
 -- that search where it first meets a named state, or at its end if it never does
 unfoldable pub firstMeeting : List ℕ → Table → Config
-firstMeeting named t = until (graphOf t) named (budget t) (begin (graphOf t))
+firstMeeting named t = until (searched t) named (budget t) (begin (searched t))
