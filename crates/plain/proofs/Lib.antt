@@ -14,3 +14,4 @@ pub mod Rows
 pub mod Trials
 pub mod Tables
 pub mod Demands
+pub mod Answers

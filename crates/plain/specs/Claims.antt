@@ -10,7 +10,7 @@ use Rattle.plain.specs.Search.{Edge, none, lasso, unfinished, verdict, c
 use Rattle.plain.specs.Cycles.{FreeRound, Lasso}
 use Rattle.plain.specs.Table.{Table, graphOf, final, firstMeeting}
 use Rattle.plain.specs.Refusals.{accepted, Load, loadTrial, sameEdge}
-use Rattle.plain.specs.Machine.{Change, named, apply, tableOf, Call, trialOf}
+use Rattle.plain.specs.Machine.{Change, named, apply, tableOf, Call, trialOf, Line, gameLine, roundLine, noneLine, noLine}
 
 -- the tables that a session can hold: those that a load accepts, and those to which accepted changes lead
 pub data Arises : Table → Type 0 where
@@ -55,6 +55,20 @@ pub record KeptRight (c : Change) (t : Table) (spent kept : ℕ) : Type 0 where
   pub run-before : take kept (taken (final t)) ≡ taken (firstMeeting (named c) (apply c t))
   -- "Kept + spent = that search's full count"
   pub adds-up : kept + spent ≡ count (final (apply c t))
+
+-- What an answer's line says of the table as the call leaves it is true.
+abbrev pub LineTrue : Line → Table → Type 0
+LineTrue (gameLine size moves paying) t = Unit {0}
+LineTrue (roundLine spent kept stem cycle walk) t = ReportRight (round stem cycle walk) t
+LineTrue (noneLine spent kept) t = ReportRight clear t
+LineTrue (noLine r) t = Unit {0}
+
+-- The looks that the line of an accepted change tells are right; t is the table as the change finds it.
+abbrev pub LineCounted : Line → Change → Table → Type 0
+LineCounted (gameLine size moves paying) c t = Unit {0}
+LineCounted (roundLine spent kept stem cycle walk) c t = KeptRight c t spent kept
+LineCounted (noneLine spent kept) c t = KeptRight c t spent kept
+LineCounted (noLine r) c t = Unit {0}
 
 -- "a number is handed back when its condition holds and no earlier one that is tried there does, and only then": cs are the conditions, in the
 -- order tried, each with its number

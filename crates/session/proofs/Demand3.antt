@@ -1,33 +1,64 @@
--- DEMAND 3: for every list of calls, of any length, accepted and refused in any order, from an accepted load on. Assumes nothing.
-use mathlib.Core.Path.{_≡_, refl}
+-- DEMAND 3: for every list of calls, of any length, accepted and refused in any order, from an accepted load on; and with it demand 2 of every answer.
+-- Assumes nothing.
+use mathlib.Core.Path.{_≡_, refl, sym, ap, subst, _∙_}
 use Prim.Native.Nat.{ℕ}
-use mathlib.Core.List.{List, _∷_}
+use mathlib.Core.List.{List, [], _∷_, _++_, map}
+use native.Mathlib.Omega.{arith}
 use lib.ListN.{length}
 use Rattle.plain.specs.Table.{Table}
-use Rattle.plain.specs.Refusals.{Load, accepted, loadTrial}
-use Rattle.plain.specs.Machine.{tableOf, answerTo, tableAfter, answers, written}
+use Rattle.plain.specs.Refusals.{Trial, Load, accepted, refused, loadTrial}
+use Rattle.plain.specs.Machine.{tableOf, numbered, loadAnswer, answerTo, tableAfter, answers, written, Line, roundLine, noneLine, noLine, answerLine, answerLines}
+use Rattle.plain.proofs.Answers.{load-told, call-told}
+use Rattle.session.specs.declared.Answer.{Answer}
+use Rattle.session.specs.declared.Answer.the-variants.{Refused, Clear, Round}
 use Rattle.session.specs.declared.Session.{Session}
 use Rattle.session.specs.declared.Outcome.{Outcome}
-use Rattle.session.specs.Promises.{shown, callIn, Holds, Loads, Exchange, Served, done, call, AsPlain}
+use Rattle.session.specs.Promises.{shown, Accepted, callOf, callIn, Holds, Loads, Changes, Exchange, Served, done, call, CallRight, AllRight, Demand3}
 
--- one call more
-one-more : (t : Table) (x : Exchange) (xs : List Exchange) → x .answered ≡ shown (answerTo (callIn x) t) → x .after ≡ written (answerTo (callIn x) t) (x .lent)
-    → AsPlain (tableAfter (callIn x) t) xs → AsPlain t (x ∷ xs)
-unfolding answers
-one-more t x xs e w rest = record {
-  answers-same = λ i. e i ∷ rest .answers-same i;
-  walks-same = (w, rest .walks-same);
-}
+-- one call, by its contract alone
+call-right : (x : Exchange) (s : Session) (t : Table) (r : Outcome) → Holds s t → Changes (x .op) s (x .lent) r (x .after) → x .answered ≡ r .answer → CallRight x t
+call-right x s t r h c e =
+    let a : answerLine (answerTo (callIn x) t) ≡ shown (x .answered) (x .after) ∷ [] = c .answers t h ∙ ap (λ (y : Answer). shown y (x .after) ∷ []) (sym e) in
+    let w = call-told (callIn x) t (shown (x .answered) (x .after)) (h .arises) a in
+    record { answers = a; writes = c .writes t h; counts = w .counts; truth = w .truth }
 
--- from a session that holds a table
-pub served : (s : Session) (t : Table) (xs : List Exchange) → Holds s t → Served s xs → AsPlain t xs
-unfolding answers
-served s t xs h done = record { answers-same = refl; walks-same = tt }
-served s t xs h (call op from to lent r lent′ ys c rest) =
-    one-more t (record { op = op; from = from; to = to; lent = lent; answered = r .answer; after = lent′ }) ys (c .answers t h) (c .writes t h)
-    (served (r .session) (tableAfter (callIn (record { op = op; from = from; to = to; lent = lent; answered = r .answer; after = lent′ })) t) ys (c .holds t h) rest)
+-- every call of a list, from a session that holds a table
+all-right : (s : Session) (t : Table) (xs : List Exchange) → Holds s t → Served s xs → AllRight xs t
+all-right s t xs h done = tt
+all-right s t xs h (call op lent r lent′ ys c rest) =
+    let x : Exchange = record { op = op; lent = lent; answered = r .answer; after = lent′ } in
+    (call-right x s t r h c refl, all-right (r .session) (tableAfter (callIn x) t) ys (c .holds t h) rest)
+
+-- so the answers, one behind the other, are the plain table's
+same-lines : (xs : List Exchange) (t : Table) → AllRight xs t → map (λ (x : Exchange). shown (x .answered) (x .after)) xs ≡ answerLines (answers (map callIn xs) t)
+unfolding answers answerLines
+same-lines [] t a = refl
+same-lines (x ∷ xs) t a =
+    ap (λ (ls : List Line). shown (x .answered) (x .after) ∷ ls) (same-lines xs (tableAfter (callIn x) t) (a .1))
+    ∙ ap (λ (ls : List Line). ls ++ answerLines (answers (map callIn xs) (tableAfter (callIn x) t))) (sym (a .0 .answers))
+
+-- an answer that is no refusal is that of an accepted load
+load-accepted : (l : Load) (lent : List ℕ) (r : Outcome) (lent′ : List ℕ) → Loads l lent r lent′ → Accepted (r .answer) → loadTrial l (length lent) ≡ accepted
+load-accepted l lent r lent′ a y = by-trial (loadTrial l (length lent)) (r .answer) (a .answers) y
+  where
+    by-trial : (x : Trial) (b : Answer) → answerLine (loadAnswer x (tableOf l)) ≡ shown b lent′ ∷ [] → Accepted b → x ≡ accepted
+    unfolding loadAnswer answerLine shown
+    by-trial accepted b e y = refl
+    by-trial (refused n) (Refused m) e y = absurd y
+    by-trial (refused n) (Clear spent kept) e y = let z : _≡_ {A = ℕ} 0 1 = cc in absurd (omega arith)
+    by-trial (refused n) (Round spent kept stem cycle) e y = let z : _≡_ {A = ℕ} 0 1 = cc in absurd (omega arith)
 
 -- DEMAND 3
-pub demand-3 : (l : Load) (lent : List ℕ) (r : Outcome) (lent′ : List ℕ) → Loads l lent r lent′ → loadTrial l (length lent) ≡ accepted
-    → (xs : List Exchange) → Served (r .session) xs → AsPlain (tableOf l) xs
-demand-3 l lent r lent′ a e xs w = served (r .session) (tableOf l) xs (a .holds e) w
+pub demand-3 : (l : Load) (lent : List ℕ) (r : Outcome) (lent′ : List ℕ) → Loads l lent r lent′ → Accepted (r .answer)
+    → (xs : List Exchange) → Served (r .session) xs → Demand3 l lent r lent′ xs
+demand-3 l lent r lent′ a y xs w =
+    let e = load-accepted l lent r lent′ a y in
+    let line : answerLine (loadAnswer accepted (tableOf l)) ≡ shown (r .answer) lent′ ∷ [] = ap (λ (x : Trial). answerLine (loadAnswer x (tableOf l))) (sym e) ∙ a .answers in
+    let calls = all-right (r .session) (tableOf l) xs (a .holds e) w in
+    record {
+      load-answers = line;
+      load-writes = a .writes ∙ ap (λ (x : Trial). written (loadAnswer x (tableOf l)) lent) e;
+      load-truth = load-told l (length lent) (shown (r .answer) lent′) e line;
+      same-answers = same-lines xs (tableOf l) calls;
+      calls = calls;
+    }

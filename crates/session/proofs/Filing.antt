@@ -19,7 +19,9 @@ use Rattle.plain.proofs.Rows.{row-nil, row-has, has-row, row-add, row-add-other
 use Rattle.rows.specs.Rows.{rowAt, degreeAt, edgeCount, placeOf, Compressed, Inserted}
 use Rattle.rows.proofs.Entries.{row-length}
 use Rattle.rows.proofs.Empty.{empty-row, empty-compressed}
-use Rattle.session.specs.Model.{numberOf, earlyTrial, Filed, FiledAll, Tried}
+use Rattle.session.specs.declared.Trial.{Trial}
+use Rattle.session.specs.declared.Trial.the-variants.{Accepted, Refused}
+use Rattle.session.specs.Model.{tried, earlyTrial, Filed, FiledAll, Tried}
 use Rattle.session.proofs.Pairs.{moveAt, pairs-more, pairs-end, length-pairs, outside-from, outside-to}
 use Rattle.session.proofs.Trying.{stop, skip, none-held, room-short, room-enough, early-held, Early, early-free}
 
@@ -221,15 +223,18 @@ outside-all n h e o = ⊎-elim
     (λ t. let far : n ≤ e .1 = omega (arith, leb-true 512 (e .1) t) in outside-to (e .0) (e .1) n far)
     (or-true (leb 512 (e .0)) (leb 512 (e .1)) o)
 
-module _ (size start : ℕ) (words numbers : List ℕ) (room : ℕ) (targets₀ starts₀ targets starts : List ℕ) (early : ℕ)
-    (e : early ≡ numberOf (earlyTrial size start words numbers)) where
-  pub tried-early : (early ≡ 0 → ⊥) → Tried size start words numbers room targets₀ starts₀ early targets starts
+not-accepted : {n : ℕ} → Refused n ≡ Accepted → ⊥
+not-accepted e = let z : _≡_ {A = ℕ} 0 1 = cc in omega arith
+
+module _ (size start : ℕ) (words numbers : List ℕ) (room : ℕ) (targets₀ starts₀ targets starts : List ℕ) (early : Trial)
+    (e : early ≡ tried (earlyTrial size start words numbers)) where
+  pub tried-early : (early ≡ Accepted → ⊥) → Tried size start words numbers room targets₀ starts₀ early targets starts
   tried-early n = record {
-    number-is = λ t s. e ∙ early-held size start words numbers room (λ z. n (e ∙ z));
+    trial-is = λ t s. e ∙ early-held size start words numbers room (λ z. n (e ∙ z));
     filed = λ t s z. absurd (n z);
   }
 
-  module _ (z : early ≡ 0) (b : Bool) (f : FiledAll numbers targets₀ starts₀ b targets starts) where
+  module _ (z : early ≡ Accepted) (b : Bool) (f : FiledAll numbers targets₀ starts₀ b targets starts) where
     passed : Early size start words numbers room
     passed = early-free size start words numbers room (sym e ∙ z)
 
@@ -243,21 +248,21 @@ module _ (size start : ℕ) (words numbers : List ℕ) (room : ℕ) (targets₀ 
     unfolding badCount
     few = omega (arith, length-pairs numbers, ltb-false 4096 (length numbers) (or-false (eqb (length numbers % 2) 1) (ltb 4096 (length numbers)) (passed .count-ok) .1))
 
-    pub tried-twice : b ≡ true → Tried size start words numbers room targets₀ starts₀ 8 targets starts
+    pub tried-twice : b ≡ true → Tried size start words numbers room targets₀ starts₀ (Refused 8) targets starts
     tried-twice t = record {
-      number-is = λ x y. passed .rest 8 (stop 8 _ _ (sym (f .repeats x y within few) ∙ t));
-      filed = λ x y n. absurd (omega arith);
+      trial-is = λ x y. passed .rest (Refused 8) (stop 8 _ _ (sym (f .repeats x y within few) ∙ t));
+      filed = λ x y n. absurd (not-accepted n);
     }
 
     module _ (t : b ≡ false) where
-      pub tried-short : room < size → Tried size start words numbers room targets₀ starts₀ 11 targets starts
+      pub tried-short : room < size → Tried size start words numbers room targets₀ starts₀ (Refused 11) targets starts
       tried-short h = record {
-        number-is = λ x y. passed .rest 11 (skip 11 8 _ _ (sym (f .repeats x y within few) ∙ t) (stop 11 _ _ (room-short size room h)));
-        filed = λ x y n. absurd (omega arith);
+        trial-is = λ x y. passed .rest (Refused 11) (skip (Refused 11) 8 _ _ (sym (f .repeats x y within few) ∙ t) (stop 11 _ _ (room-short size room h)));
+        filed = λ x y n. absurd (not-accepted n);
       }
 
-      pub tried-filed : size ≤ room → Tried size start words numbers room targets₀ starts₀ 0 targets starts
+      pub tried-filed : size ≤ room → Tried size start words numbers room targets₀ starts₀ Accepted targets starts
       tried-filed h = record {
-        number-is = λ x y. passed .rest 0 (skip 0 8 _ _ (sym (f .repeats x y within few) ∙ t) (skip 0 11 _ _ (room-enough size room h) none-held));
+        trial-is = λ x y. passed .rest Accepted (skip Accepted 8 _ _ (sym (f .repeats x y within few) ∙ t) (skip Accepted 11 _ _ (room-enough size room h) none-held));
         filed = λ x y n. f .filed x y within few t;
       }

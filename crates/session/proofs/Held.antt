@@ -1,18 +1,18 @@
 -- A table that a session holds: its limits, its refusals and its rows, read off the arrays. Assumes nothing.
 use mathlib.Core.Path.{_≡_, refl, sym, ap, subst, _∙_}
-use mathlib.Core.Logic.{_≢_, ⊎-elim}
-use mathlib.Core.Bool.{Bool, true, false, not}
+use mathlib.Core.Logic.{⊎-elim}
+use mathlib.Core.Bool.{true, false, not}
 use mathlib.Core.List.{List, [], _∷_, _++_}
 use Prim.Native.Nat.{ℕ, suc, _≤_, _<_}
 use native.Mathlib.Omega.{arith}
 use lib.Dec.{eqb, ltb, leb}
 use lib.ListN.{length, take, drop, length-append}
 use borrow.Author.Tests.{ltb-true, ltb-false, lt-ltb, leb-false, eqb-true, eqb-false, not-false}
-use Rattle.plain.specs.Lists.{any, filter, elem, In, Once}
+use Rattle.plain.specs.Lists.{filter, elem, In, Once}
 use Rattle.plain.specs.Search.{Edge}
-use Rattle.plain.specs.Table.{Table, row, graphOf, budget}
-use Rattle.plain.specs.Refusals.{Trial, accepted, refused, firstHeld, present, badSize, outside, full, addTrial, cutTrial, shortRoom, selfLoop, Load, loadTrial}
-use Rattle.plain.specs.Machine.{add, without, apply, changeTrial}
+use Rattle.plain.specs.Table.{Table, row, searched, budget}
+use Rattle.plain.specs.Refusals.{accepted, firstHeld, present, badSize, outside, full, addTrial, cutTrial, shortRoom, selfLoop}
+use Rattle.plain.specs.Machine.{without, apply, changeTrial}
 use Rattle.plain.proofs.Tests.{contra, either, not-true, same, or-false, in-nil, in-head, in-tail, in-cases}
 use Rattle.plain.proofs.Rows.{row-has, has-row, row-short, row-once, row-add, row-add-other, row-cut, row-cut-other, without-length, but, but-yes, but-no}
 use Rattle.plain.proofs.Trials.{passed}
@@ -24,7 +24,7 @@ use Rattle.search.proofs.Resumed.{Small}
 use Rattle.session.specs.declared.Op.{Op}
 use Rattle.session.specs.declared.Op.the-variants.{Add, Cut}
 use Rattle.session.specs.declared.Session.{Session}
-use Rattle.session.specs.Model.{numberOf, rowTrial, FiledOne}
+use Rattle.session.specs.Model.{addTrialIn, cutTrialIn, trialIn, sourceOf, FiledOne}
 use Rattle.session.specs.Promises.{changeOf, Holds}
 
 -- ---- limits
@@ -39,7 +39,7 @@ unfolding budget
 budget-bound t v = omega (arith, v .count-ok, size-few (t .size) (v .size-ok))
 
 -- a table of a session is a small graph
-pub small : (t : Table) → Valid t → Small (graphOf t)
+pub small : (t : Table) → Valid t → Small (searched t)
 small t v = record {
   us = upto (t .size);
   start-in = start-in t v;
@@ -86,61 +86,29 @@ module _ (s : Session) (t : Table) (h : Holds s t) where
       ap (λ (n : ℕ). ltb (placeOf y (rowAt (s .targets) (s .starts) v)) n) (sym (row-length (s .targets) (s .starts) v))
       ∙ ap (λ (r : List ℕ). ltb (placeOf y r) (length r)) (h .rows-are v) ∙ sym (present-place (t .edges) v y)
 
-  pub trial-same : (op : Op) (from to room : ℕ) → rowTrial op (s .size) (s .targets) (s .starts) from to room ≡ changeTrial (changeOf op from to) t room
-  unfolding rowTrial changeTrial addTrial cutTrial full
-  trial-same Add from to room = λ i. firstHeld (
+  pub trial-same : (op : Op) (room : ℕ) → trialIn op (s .size) (s .targets) (s .starts) room ≡ changeTrial (changeOf op) t room
+  unfolding addTrialIn cutTrialIn changeTrial addTrial cutTrial full
+  trial-same (Add from to) room = λ i. firstHeld (
       (6, outside (h .size-is i) (from, to))
       ∷ (7, selfLoop (from, to))
       ∷ (8, present-here from to i)
       ∷ (9, leb 2048 (h .count-is i))
       ∷ (11, shortRoom (h .size-is i) room)
       ∷ [])
-  trial-same Cut from to room = λ i. firstHeld (
+  trial-same (Cut from to) room = λ i. firstHeld (
       (6, outside (h .size-is i) (from, to))
       ∷ (7, selfLoop (from, to))
       ∷ (10, not (present-here from to i))
       ∷ (11, shortRoom (h .size-is i) room)
       ∷ [])
 
--- ---- no refusal has the number 0
-
-no-zero : (cs : List (ℕ × Bool)) → any (λ (c : ℕ × Bool). eqb (c .0) 0) cs ≡ false → numberOf (firstHeld cs) ≡ 0 → firstHeld cs ≡ accepted
-unfolding firstHeld any
-no-zero [] z e = refl
-no-zero (c ∷ cs) z e =
-    let w = or-false (eqb (c .0) 0) (any (λ (c : ℕ × Bool). eqb (c .0) 0) cs) z in
-    ⊎-elim
-    (λ b. absurd (eqb-false (c .0) 0 (w .0) (sym (ap numberOf (first b)) ∙ e)))
-    (λ b. later b ∙ no-zero cs (w .1) (sym (ap numberOf (later b)) ∙ e)) (either (c .1))
-  where
-    first : c .1 ≡ true → firstHeld (c ∷ cs) ≡ refused (c .0)
-    first b = rw (b, firstHeld)
-
-    later : c .1 ≡ false → firstHeld (c ∷ cs) ≡ firstHeld cs
-    later b = rw (b, firstHeld)
-
-pub row-trial-zero : (op : Op) (size : ℕ) (targets starts : List ℕ) (from to room : ℕ) → numberOf (rowTrial op size targets starts from to room) ≡ 0
-    → rowTrial op size targets starts from to room ≡ accepted
-unfolding rowTrial any
-row-trial-zero Add size targets starts from to room e = no-zero _ refl e
-row-trial-zero Cut size targets starts from to room e = no-zero _ refl e
-
--- a trial with a number that is not 0 is a refusal
-pub number-refused : (x : Trial) (n : ℕ) → n ≡ numberOf x → n ≢ 0 → x ≡ refused n
-number-refused accepted n e z = absurd (z e)
-number-refused (refused m) n e z = ap refused (sym e)
-
-pub load-trial-zero : (l : Load) (room : ℕ) → numberOf (loadTrial l room) ≡ 0 → loadTrial l room ≡ accepted
-unfolding loadTrial any
-load-trial-zero l room e = no-zero _ refl e
-
 -- ---- the rows after a change are the changed table's
 
--- what an accepted change's move keeps
-pub source-below : (c : Op) (t : Table) (from to room : ℕ) → Valid t → changeTrial (changeOf c from to) t room ≡ accepted → from < 512
+-- the state that an accepted change names
+pub source-below : (op : Op) (t : Table) (room : ℕ) → Valid t → changeTrial (changeOf op) t room ≡ accepted → sourceOf op < 512
 unfolding changeTrial addTrial cutTrial outside
-source-below Add t from to room v e = omega (arith, leb-false (t .size) from (or-false (leb (t .size) from) (leb (t .size) to) (passed _ _ _ e .0) .0), size-few (t .size) (v .size-ok))
-source-below Cut t from to room v e = omega (arith, leb-false (t .size) from (or-false (leb (t .size) from) (leb (t .size) to) (passed _ _ _ e .0) .0), size-few (t .size) (v .size-ok))
+source-below (Add from to) t room v e = omega (arith, leb-false (t .size) from (or-false (leb (t .size) from) (leb (t .size) to) (passed _ _ _ e .0) .0), size-few (t .size) (v .size-ok))
+source-below (Cut from to) t room v e = omega (arith, leb-false (t .size) from (or-false (leb (t .size) from) (leb (t .size) to) (passed _ _ _ e .0) .0), size-few (t .size) (v .size-ok))
 
 but-none : (y : ℕ) (xs : List ℕ) → elem y xs ≡ false → but y xs ≡ xs
 unfolding elem filter
@@ -164,7 +132,7 @@ pub record Refiled (targets starts : List ℕ) (t : Table) : Type 0 where
   pub rows-are : (v : ℕ) → rowAt targets starts v ≡ row (t .edges) v
   pub count-is : edgeCount starts ≡ length (t .edges)
 
-module _ (s : Session) (t : Table) (h : Holds s t) (from to : ℕ) (targets starts : List ℕ) where
+module _ (s : Session) (t : Table) (h : Holds s t) (targets starts : List ℕ) where
   -- either way another state's row is as it was
   other-rows : (e : Edge) (es : List Edge) → ((u : ℕ) → (u ≡ e .0 → ⊥) → rowAt targets starts u ≡ rowAt (s .targets) (s .starts) u) → rowAt targets starts (e .0) ≡ row es (e .0)
       → ((u : ℕ) → eqb (e .0) u ≡ false → row es u ≡ row (t .edges) u) → (v : ℕ) → rowAt targets starts v ≡ row es v
@@ -172,28 +140,25 @@ module _ (s : Session) (t : Table) (h : Holds s t) (from to : ℕ) (targets star
       (λ z. let y : e .0 ≡ v = eqb-true (e .0) v z in rw (← y) here)
       (λ z. o v (λ y. eqb-false (e .0) v z (sym y)) ∙ h .rows-are v ∙ sym (same v z)) (either (eqb (e .0) v))
 
-  pub refiled : (op : Op) (room : ℕ) → changeTrial (changeOf op from to) t room ≡ accepted → FiledOne op from to (s .targets) (s .starts) targets starts
-      → Refiled targets starts (apply (changeOf op from to) t)
+  pub refiled : (op : Op) (room : ℕ) → changeTrial (changeOf op) t room ≡ accepted → FiledOne op (s .targets) (s .starts) targets starts
+      → Refiled targets starts (apply (changeOf op) t)
   unfolding changeTrial addTrial cutTrial apply full
-  refiled Add room e f =
+  refiled (Add from to) room e f =
       let v = valid t (h .arises) in
       let p = passed _ _ _ (passed _ _ _ (passed _ _ _ (passed _ _ _ e .1) .1) .1) in
-      let i = f .added refl (h .compressed) (source-below-add e) (omega (arith, leb-false 2048 (length (t .edges)) (p .0), h .count-is)) in
+      let i = f (h .compressed) (source-below (Add from to) t room v e) (omega (arith, leb-false 2048 (length (t .edges)) (p .0), h .count-is)) in
       record {
         compressed = i .rows .compressed;
         rows-are = other-rows (from, to) (t .edges ++ ((from, to) ∷ [])) (i .rows .others)
             (i .rows .here ∙ ap (λ (l : List ℕ). l ++ (to ∷ [])) (h .rows-are from) ∙ sym (row-add (t .edges) (from, to))) (λ u z. row-add-other (t .edges) (from, to) u z);
         count-is = i .count ∙ omega (arith, h .count-is, length-append (t .edges) ((from, to) ∷ []));
       }
-    where
-      source-below-add : changeTrial (add (from, to)) t room ≡ accepted → from < 512
-      source-below-add e = source-below Add t from to room (valid t (h .arises)) e
-  refiled Cut room e f =
+  refiled (Cut from to) room e f =
       let v = valid t (h .arises) in
       let p = passed _ _ _ (passed _ _ _ (passed _ _ _ e .1) .1) in
       let there : present (t .edges) (from, to) ≡ true = not-false (present (t .edges) (from, to)) (p .0) in
       let place : placeOf to (rowAt (s .targets) (s .starts) from) < degreeAt (s .starts) from = ltb-true _ _ (present-here s t h from to ∙ there) in
-      let i = f .removed refl (h .compressed) (source-below Cut t from to room v e) place in
+      let i = f (h .compressed) (source-below (Cut from to) t room v e) place in
       let size : length (rowAt (s .targets) (s .starts) from) ≡ degreeAt (s .starts) from = row-length (s .targets) (s .starts) from in
       let once : Once (rowAt (s .targets) (s .starts) from) = subst (λ (l : List ℕ). Once l) (sym (h .rows-are from)) (row-once (t .edges) from (v .once)) in
       record {

@@ -7,7 +7,7 @@ use native.Mathlib.Omega.{arith}
 use lib.ListN.{length, getD, List·getD-eq-default}
 use Rattle.plain.specs.Search.{Graph, Config, run, Verdict as PlainVerdict, none, lasso, unfinished, verdict, count}
 use Rattle.session.specs.declared.Verdict.{Verdict}
-use Rattle.plain.specs.Table.{Table, graphOf, final, accepts}
+use Rattle.plain.specs.Table.{Table, searched, final, accepts}
 use Rattle.plain.specs.Notes.{notes}
 use Rattle.plain.proofs.Tables.{Valid}
 use Rattle.plain.proofs.Demands.{ended-within, run-final, verdict-right}
@@ -24,7 +24,7 @@ use Rattle.session.specs.Promises.{Tells}
 use Rattle.session.proofs.Held.{small, budget-bound, Refiled}
 
 -- the rows and words are those of the table's graph
-pub matches : (t : Table) (targets starts words : List ℕ) → Refiled targets starts t → words ≡ t .words → Matches (graphOf t) targets starts words
+pub matches : (t : Table) (targets starts words : List ℕ) → Refiled targets starts t → words ≡ t .words → Matches (searched t) targets starts words
 matches t targets starts words r e = record { rows = λ v. sym (r .rows-are v); acceptance = λ v. ap (λ (w : List ℕ). accepts w v) (sym e) }
 
 spoken-tells : (g : Graph) (c : Core) (w : PlainVerdict) → Spoken g c w → ((stem cycle : List ℕ) → w ≡ lasso stem cycle → 0 < length cycle)
@@ -42,17 +42,17 @@ spoken-tells g c unfinished s p = absurd s
 -- what a search that stood at a step and took `bound` steps more, or still more, has come to
 pub record Reached (t : Table) (start-at : ℕ) (c : Core) : Type 0 where
   pub steps : ℕ
-  pub ended : verdict (run (graphOf t) steps) ≢ unfinished
-  pub kept-archive : Archived (graphOf t) steps (c .number) (c .parent) (c .index) (c .probes) (c .stamp) (c .walk)
+  pub ended : verdict (run (searched t) steps) ≢ unfinished
+  pub kept-archive : Archived (searched t) steps (c .number) (c .parent) (c .index) (c .probes) (c .stamp) (c .walk)
   pub tells : Tells (verdictOf (c .walker) (c .spent) .stem) (verdictOf (c .walker) (c .spent) .length) (c .walk) (verdict (final t))
-  pub kept-is : c .walker .kept ≡ count (run (graphOf t) start-at)
+  pub kept-is : c .walker .kept ≡ count (run (searched t) start-at)
   pub adds-up : c .walker .kept + c .spent ≡ count (final t)
   pub total-is : plus (c .walker .kept) (c .spent) ≡ count (final t)
 
-module _ (t : Table) (v : Valid t) (targets starts words : List ℕ) (m : Matches (graphOf t) targets starts words) where
-  reached-by : (more : ℕ) → bound ≤ more → (n : ℕ) (s : Core) → s .spent ≡ 0 → Fits (graphOf t) s (notes (graphOf t) n) (run (graphOf t) n) → Reached t n (runFor targets starts words more s)
+module _ (t : Table) (v : Valid t) (targets starts words : List ℕ) (m : Matches (searched t) targets starts words) where
+  reached-by : (more : ℕ) → bound ≤ more → (n : ℕ) (s : Core) → s .spent ≡ 0 → Fits (searched t) s (notes (searched t) n) (run (searched t) n) → Reached t n (runFor targets starts words more s)
   reached-by more enough n s unspent a =
-      let g = graphOf t in
+      let g = searched t in
       let c = runFor targets starts words more s in
       let f = at-run g (small t v) targets starts words m more n s a in
       let e : verdict (run g (n + more)) ≢ unfinished = ended-within t v (n + more) (omega (arith, enough, budget-bound t v)) in
@@ -73,7 +73,7 @@ module _ (t : Table) (v : Valid t) (targets starts words : List ℕ) (m : Matche
       nonempty : (stem cycle : List ℕ) → verdict (final t) ≡ lasso stem cycle → 0 < length cycle
       nonempty stem cycle e = let w = verdict-right t v .walk stem cycle e in omega (arith, ap length (w .cycle-is))
 
-  pub reached : (n : ℕ) (s c : Core) → s .spent ≡ 0 → Fits (graphOf t) s (notes (graphOf t) n) (run (graphOf t) n) → Ran targets starts words bound s c → Reached t n c
+  pub reached : (n : ℕ) (s c : Core) → s .spent ≡ 0 → Fits (searched t) s (notes (searched t) n) (run (searched t) n) → Ran targets starts words bound s c → Reached t n c
   reached n s c unspent a r = subst (Reached t n) (sym (r .reached)) (reached-by (r .steps) (r .enough) n s unspent a)
 
 -- ---- what `seek` leaves

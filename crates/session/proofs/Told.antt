@@ -1,26 +1,21 @@
 -- The answer and the written walk are those of the verdict. Assumes nothing.
 use mathlib.Core.Path.{_≡_, refl, sym, ap, _∙_}
 use mathlib.Core.Bool.{Bool, true, false}
-use mathlib.Core.List.{List, _++_, append-assoc}
+use mathlib.Core.List.{List, [], _∷_, _++_, append-assoc}
 use Prim.Native.Nat.{ℕ, _+_, _-_, _≤_, _<_}
 use native.Mathlib.Omega.{arith}
 use lib.Dec.{eqb}
 use lib.ListN.{length, take, drop, length-append}
-use lib.Seq.{take-at}
+use lib.Seq.{take-at, take-append-seam}
 use borrow.Author.Tests.{eq-eqb, ne-eqb}
 use Rattle.plain.specs.Search.{Verdict as PlainVerdict, none, lasso, unfinished}
-use Rattle.plain.specs.Machine.{answer, written}
+use Rattle.plain.specs.Machine.{answer, written, roundLine, noneLine, answerLine}
 use Rattle.session.specs.declared.Answer.{Answer}
 use Rattle.session.specs.declared.Answer.the-variants.{Refused, Clear, Round}
+use Rattle.session.specs.declared.Refusal.{Refusal}
 use Rattle.session.specs.declared.Verdict.{Verdict}
 use Rattle.session.specs.Model.{pickAnswer, answerIs, shownWalk}
 use Rattle.session.specs.Promises.{shown, Tells}
-
-same-clear : {a b c d : ℕ} → a ≡ c → b ≡ d → _≡_ {A = Answer} (Clear a b) (Clear c d)
-same-clear e f = λ i. Clear (e i) (f i)
-
-same-round : {a b c d a′ b′ c′ d′ : ℕ} → a ≡ a′ → b ≡ b′ → c ≡ c′ → d ≡ d′ → _≡_ {A = Answer} (Round a b c d) (Round a′ b′ c′ d′)
-same-round e f g h = λ i. Round (e i) (f i) (g i) (h i)
 
 answer-clear : (v : Verdict) → v .length ≡ 0 → answerIs v ≡ Clear (v .spent) (v .kept)
 unfolding answerIs
@@ -30,13 +25,23 @@ answer-round : (v : Verdict) → 0 < v .length → answerIs v ≡ Round (v .spen
 unfolding answerIs
 answer-round v h = ap (λ (b : Bool). pickAnswer b (Clear (v .spent) (v .kept)) (Round (v .spent) (v .kept) (v .stem) (v .length - v .stem))) (ne-eqb (v .length) 0 (λ e. omega arith))
 
--- the answer
-pub tells-answer : (v : Verdict) (w : PlainVerdict) (walk : List ℕ) (spent kept : ℕ) → Tells (v .stem) (v .length) walk w → v .spent ≡ spent → v .kept ≡ kept
-    → answerIs v ≡ shown (answer w spent kept)
-unfolding shown
-tells-answer v none walk spent kept t e f = answer-clear v (t .1) ∙ same-clear e f
-tells-answer v (lasso stem cycle) walk spent kept t e f = answer-round v (omega (arith, t .1, t .3)) ∙ same-round e f (t .0) (omega (arith, t .0, t .1))
-tells-answer v unfinished walk spent kept t e f = absurd t
+two-parts : (stem cycle rest : List ℕ) → take (length stem + length cycle) (stem ++ (cycle ++ rest)) ≡ stem ++ cycle
+two-parts stem cycle rest = rw (← length-append stem cycle, ← append-assoc stem cycle rest) (take-append-seam (stem ++ cycle) rest)
+
+-- the answer, with the list as it was written
+pub tells-answer : (v : Verdict) (w : PlainVerdict) (walk lent : List ℕ) (spent kept : ℕ) → Tells (v .stem) (v .length) walk w → v .spent ≡ spent → v .kept ≡ kept
+    → answerLine (answer w spent kept) ≡ shown (answerIs v) (written (answer w spent kept) lent) ∷ []
+unfolding shown written answerLine
+tells-answer v none walk lent spent kept t e f =
+    (λ i. noneLine (sym e i) (sym f i) ∷ []) ∙ ap (λ (a : Answer). shown a lent ∷ []) (sym (answer-clear v (t .1)))
+tells-answer v (lasso stem cycle) walk lent spent kept t e f =
+    let list = stem ++ (cycle ++ drop (length stem + length cycle) lent) in
+    let c : v .length - v .stem ≡ length cycle = omega (arith, t .0, t .1) in
+    let n : v .stem + (v .length - v .stem) ≡ length stem + length cycle = omega (arith, t .0, t .1) in
+    let p : take (v .stem + (v .length - v .stem)) list ≡ stem ++ cycle = ap (λ (k : ℕ). take k list) n ∙ two-parts stem cycle (drop (length stem + length cycle) lent) in
+    (λ i. roundLine (sym e i) (sym f i) (sym (t .0) i) (sym c i) (sym p i) ∷ [])
+    ∙ ap (λ (a : Answer). shown a list ∷ []) (sym (answer-round v (omega (arith, t .1, t .3))))
+tells-answer v unfinished walk lent spent kept t e f = absurd t
 
 -- the list lent for the walk
 pub tells-written : (v : Verdict) (w : PlainVerdict) (walk lent : List ℕ) (spent kept : ℕ) → Tells (v .stem) (v .length) walk w
@@ -57,7 +62,7 @@ tells-fits v (lasso stem cycle) walk size t short = (omega (arith, t .0, t .1), 
 tells-fits v unfinished walk size t short = absurd t
 
 -- an answer that is made of a verdict is no refusal
-pub never-refused : (v : Verdict) (n : ℕ) → answerIs v ≡ Refused n → ⊥
+pub never-refused : (v : Verdict) (n : Refusal) → answerIs v ≡ Refused n → ⊥
 unfolding answerIs
 never-refused v n e = by-test (eqb (v .length) 0) e
   where

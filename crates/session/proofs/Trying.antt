@@ -1,53 +1,67 @@
 -- Trials: the number of the first condition that holds; what the early trial of a load tells of the whole one. Assumes nothing.
 use mathlib.Core.Path.{_≡_, refl, sym, ap, _∙_}
 use mathlib.Core.Logic.{⊎-elim}
-use mathlib.Core.Bool.{Bool, true, false, not}
+use mathlib.Core.Bool.{Bool, true, false}
 use mathlib.Core.List.{List, [], _∷_, _++_}
-use Prim.Native.Nat.{ℕ, suc, _%_, _≤_, _<_}
+use Prim.Native.Nat.{ℕ, _%_, _≤_, _<_}
 use native.Mathlib.Omega.{arith}
-use lib.Dec.{eqb, ltb, leb}
+use lib.Dec.{eqb, ltb}
 use lib.ListN.{length}
 use borrow.Author.Tests.{eq-eqb, ne-eqb, lt-ltb, le-ltb}
 use Rattle.plain.specs.Lists.{any}
-use Rattle.plain.specs.Refusals.{firstHeld, badSize, badCount, outside, selfLoop, shortRoom, pairs, repeated, loadTrial}
+use Rattle.plain.specs.Refusals.{Trial as PlainTrial, accepted, refused, firstHeld, badSize, badCount, outside, shortRoom, pairs, repeated, loadTrial}
 use Rattle.plain.proofs.Tests.{either, or-first, or-second, or-neither}
-use Rattle.rows.specs.Rows.{rowAt, degreeAt, edgeCount, placeOf}
-use Rattle.session.specs.declared.Op.{Op}
-use Rattle.session.specs.declared.Op.the-variants.{Add, Cut}
-use Rattle.session.specs.Model.{numberOf, earlyTrial, rowTrial}
+use Rattle.session.specs.declared.Trial.{Trial}
+use Rattle.session.specs.declared.Trial.the-variants.{Accepted, Refused}
+use Rattle.session.specs.Model.{tried, earlyTrial}
 
 abbrev Condition : Type 0
 Condition = ℕ × Bool
 
+-- ---- the code's trial is that of the plain table
+
+pub tried-accepted : (x : PlainTrial) → tried x ≡ Accepted → x ≡ accepted
+tried-accepted accepted e = refl
+tried-accepted (refused n) e = let z : _≡_ {A = ℕ} 0 1 = cc in absurd (omega arith)
+
+numberIn : Trial → ℕ
+numberIn Accepted = 0
+numberIn (Refused n) = n
+
+pub tried-refused : (x : PlainTrial) (n : ℕ) → Refused n ≡ tried x → x ≡ refused n
+unfolding numberIn
+tried-refused accepted n e = let z : _≡_ {A = ℕ} 0 1 = cc in absurd (omega arith)
+tried-refused (refused m) n e = ap refused (sym (ap numberIn e))
+
 -- ---- the first condition that holds
 
-pub stop : (n : ℕ) (b : Bool) (cs : List Condition) → b ≡ true → n ≡ numberOf (firstHeld ((n, b) ∷ cs))
+pub stop : (n : ℕ) (b : Bool) (cs : List Condition) → b ≡ true → Refused n ≡ tried (firstHeld ((n, b) ∷ cs))
 unfolding firstHeld
 stop n b cs e = rw (e, firstHeld)
 
-pub skip : (k n : ℕ) (b : Bool) (cs : List Condition) → b ≡ false → k ≡ numberOf (firstHeld cs) → k ≡ numberOf (firstHeld ((n, b) ∷ cs))
+pub skip : (k : Trial) (n : ℕ) (b : Bool) (cs : List Condition) → b ≡ false → k ≡ tried (firstHeld cs) → k ≡ tried (firstHeld ((n, b) ∷ cs))
 unfolding firstHeld
 skip k n b cs e h = rw (e, firstHeld) h
 
-pub none-held : 0 ≡ numberOf (firstHeld [])
+pub none-held : Accepted ≡ tried (firstHeld [])
 unfolding firstHeld
 none-held = refl
 
--- where no number is handed back, no condition holds
-pub free : (n : ℕ) (b : Bool) (cs : List Condition) → 0 ≡ numberOf (firstHeld ((suc n, b) ∷ cs)) → (b ≡ false) × (0 ≡ numberOf (firstHeld cs))
+-- where nothing is refused, no condition holds
+pub free : (n : ℕ) (b : Bool) (cs : List Condition) → Accepted ≡ tried (firstHeld ((n, b) ∷ cs)) → (b ≡ false) × (Accepted ≡ tried (firstHeld cs))
 unfolding firstHeld
-free n true cs h = absurd (omega arith)
+free n true cs h = let z : _≡_ {A = ℕ} 0 1 = cc in absurd (omega arith)
 free n false cs h = (refl, h)
 
 -- further conditions alter nothing once one holds
-pub held-before : (cs ds : List Condition) → (numberOf (firstHeld cs) ≡ 0 → ⊥) → numberOf (firstHeld cs) ≡ numberOf (firstHeld (cs ++ ds))
+pub held-before : (cs ds : List Condition) → (tried (firstHeld cs) ≡ Accepted → ⊥) → tried (firstHeld cs) ≡ tried (firstHeld (cs ++ ds))
 unfolding firstHeld
 held-before [] ds n = absurd (n refl)
 held-before (c ∷ cs) ds n = ⊎-elim
     (λ e. sym (stop (c .0) (c .1) cs e) ∙ stop (c .0) (c .1) (cs ++ ds) e)
     (λ e.
-    let here : numberOf (firstHeld cs) ≡ numberOf (firstHeld (c ∷ cs)) = skip (numberOf (firstHeld cs)) (c .0) (c .1) cs e refl in
-    sym here ∙ skip (numberOf (firstHeld cs)) (c .0) (c .1) (cs ++ ds) e (held-before cs ds (λ z. n (sym here ∙ z)))) (either (c .1))
+    let here : tried (firstHeld cs) ≡ tried (firstHeld (c ∷ cs)) = skip (tried (firstHeld cs)) (c .0) (c .1) cs e refl in
+    sym here ∙ skip (tried (firstHeld cs)) (c .0) (c .1) (cs ++ ds) e (held-before cs ds (λ z. n (sym here ∙ z)))) (either (c .1))
 
 -- ---- conditions of a load
 
@@ -88,11 +102,11 @@ module _ (ns : List ℕ) where
 -- ---- the early trial of a load
 
 module _ (size start : ℕ) (words numbers : List ℕ) (room : ℕ) where
-  abbrev whole : ℕ
-  whole = numberOf (loadTrial (record { size = size; start = start; words = words; numbers = numbers }) room)
+  abbrev whole : Trial
+  whole = tried (loadTrial (record { size = size; start = start; words = words; numbers = numbers }) room)
 
   -- it stands where it hands a number back
-  pub early-held : (numberOf (earlyTrial size start words numbers) ≡ 0 → ⊥) → numberOf (earlyTrial size start words numbers) ≡ whole
+  pub early-held : (tried (earlyTrial size start words numbers) ≡ Accepted → ⊥) → tried (earlyTrial size start words numbers) ≡ whole
   unfolding earlyTrial loadTrial
   early-held n = held-before _ ((8, repeated (pairs numbers)) ∷ (11, shortRoom size room) ∷ []) n
 
@@ -101,50 +115,20 @@ module _ (size start : ℕ) (words numbers : List ℕ) (room : ℕ) where
     pub size-ok : badSize size ≡ false
     pub count-ok : badCount numbers ≡ false
     pub inside-ok : any (outside size) (pairs numbers) ≡ false
-    pub rest : (k : ℕ) → k ≡ numberOf (firstHeld ((8, repeated (pairs numbers)) ∷ (11, shortRoom size room) ∷ [])) → k ≡ whole
+    pub rest : (k : Trial) → k ≡ tried (firstHeld ((8, repeated (pairs numbers)) ∷ (11, shortRoom size room) ∷ [])) → k ≡ whole
 
-  pub early-free : numberOf (earlyTrial size start words numbers) ≡ 0 → Early
+  pub early-free : tried (earlyTrial size start words numbers) ≡ Accepted → Early
   unfolding earlyTrial loadTrial
   early-free e =
-      let p2 = free 1 _ _ (sym e) in
-      let p3 = free 2 _ _ (p2 .1) in
-      let p4 = free 3 _ _ (p3 .1) in
-      let p5 = free 4 _ _ (p4 .1) in
-      let p6 = free 5 _ _ (p5 .1) in
-      let p7 = free 6 _ _ (p6 .1) in
+      let p2 = free 2 _ _ (sym e) in
+      let p3 = free 3 _ _ (p2 .1) in
+      let p4 = free 4 _ _ (p3 .1) in
+      let p5 = free 5 _ _ (p4 .1) in
+      let p6 = free 6 _ _ (p5 .1) in
+      let p7 = free 7 _ _ (p6 .1) in
       record {
         size-ok = p2 .0;
         count-ok = p5 .0;
         inside-ok = p6 .0;
         rest = λ k h. skip k 2 _ _ (p2 .0) (skip k 3 _ _ (p3 .0) (skip k 4 _ _ (p4 .0) (skip k 5 _ _ (p5 .0) (skip k 6 _ _ (p6 .0) (skip k 7 _ _ (p7 .0) h)))));
       }
-
--- ---- the trial of a change
-
-module _ (size : ℕ) (targets starts : List ℕ) (from to room : ℕ) where
-  abbrev isThere : Bool
-  isThere = ltb (placeOf to (rowAt targets starts from)) (degreeAt starts from)
-
-  -- the conditions behind 6 and 7
-  abbrev pub restOf : Op → List Condition
-  restOf Add = (8, isThere) ∷ (9, leb 2048 (edgeCount starts)) ∷ (11, shortRoom size room) ∷ []
-  restOf Cut = (10, not isThere) ∷ (11, shortRoom size room) ∷ []
-
-  in-order : (op : Op) → firstHeld ((6, outside size (from, to)) ∷ (7, selfLoop (from, to)) ∷ restOf op) ≡ rowTrial op size targets starts from to room
-  unfolding rowTrial
-  in-order Add = refl
-  in-order Cut = refl
-
-  module _ (op : Op) where
-    abbrev number : ℕ
-    number = numberOf (rowTrial op size targets starts from to room)
-
-    pub row-outside : outside size (from, to) ≡ true → 6 ≡ number
-    row-outside f = stop 6 _ _ f ∙ ap numberOf (in-order op)
-
-    pub row-loop : outside size (from, to) ≡ false → selfLoop (from, to) ≡ true → 7 ≡ number
-    row-loop f g = skip 7 6 _ _ f (stop 7 _ _ g) ∙ ap numberOf (in-order op)
-
-    pub row-rest : (o : Op) → op ≡ o → (k : ℕ) → outside size (from, to) ≡ false → selfLoop (from, to) ≡ false → k ≡ numberOf (firstHeld (restOf o)) → k ≡ number
-    row-rest o e k f g h =
-        skip k 6 _ _ f (skip k 7 _ _ g (h ∙ ap (λ (p : Op). numberOf (firstHeld (restOf p))) (sym e))) ∙ ap numberOf (in-order op)

@@ -6,7 +6,7 @@ use mathlib.Core.List.{List, [], _∷_, _++_}
 use lib.Dec.{eqb, ltb, leb}
 use lib.ListN.{length, getD, take, drop, replicate}
 use Rattle.plain.specs.Lists.{any}
-use Rattle.plain.specs.Refusals.{Trial, accepted, refused, firstHeld, badSize, badStart, badMarks, badCount, outside, selfLoop, shortRoom, pairs, repeated, loadTrial}
+use Rattle.plain.specs.Refusals.{Trial as PlainTrial, accepted, refused, firstHeld, badSize, badStart, badMarks, badCount, outside, selfLoop, shortRoom, pairs, repeated, loadTrial}
 use Rattle.plain.specs.Table.{row}
 use Rattle.rows.specs.Rows.{rowAt, degreeAt, edgeCount, placeOf, Compressed, Inserted, Removed}
 use Rattle.search.specs.declared.Phase.{Phase}
@@ -18,15 +18,18 @@ use Rattle.session.specs.declared.Op.the-variants.{Add, Cut}
 use Rattle.session.specs.declared.Verdict.{Verdict}
 use Rattle.session.specs.declared.Session.{Session}
 use Rattle.session.specs.declared.Answer.{Answer}
-use Rattle.session.specs.declared.Answer.the-variants.{Clear, Round}
+use Rattle.session.specs.declared.Answer.the-variants.{Refused as Answer·Refused, Clear, Round}
+use Rattle.session.specs.declared.Refusal.{Refusal}
+use Rattle.session.specs.declared.Trial.{Trial}
+use Rattle.session.specs.declared.Trial.the-variants.{Accepted, Refused}
 
--- the number of a refusal, 0 where there is none
-abbrev pub numberOf : Trial → ℕ
-numberOf accepted = 0
-numberOf (refused n) = n
+-- what a trial comes to, as the code's enum
+abbrev pub tried : PlainTrial → Trial
+tried accepted = Accepted
+tried (refused n) = Refused n
 
 -- refusals 2 to 7 of a load
-unfoldable pub earlyTrial : ℕ → ℕ → List ℕ → List ℕ → Trial
+unfoldable pub earlyTrial : ℕ → ℕ → List ℕ → List ℕ → PlainTrial
 earlyTrial size start words numbers = firstHeld (
     (2, badSize size)
     ∷ (3, badStart size start)
@@ -36,21 +39,36 @@ earlyTrial size start words numbers = firstHeld (
     ∷ (7, any selfLoop (pairs numbers))
     ∷ [])
 
+-- is the edge in the rows?
+abbrev pub there : List ℕ → List ℕ → ℕ → ℕ → Bool
+there targets starts from to = ltb (placeOf to (rowAt targets starts from)) (degreeAt starts from)
+
 -- refusals of an add and of a cut, read off the rows
-unfoldable pub rowTrial : Op → ℕ → List ℕ → List ℕ → ℕ → ℕ → ℕ → Trial
-rowTrial Add size targets starts from to room = firstHeld (
+unfoldable pub addTrialIn : ℕ → List ℕ → List ℕ → ℕ → ℕ → ℕ → PlainTrial
+addTrialIn size targets starts from to room = firstHeld (
     (6, outside size (from, to))
     ∷ (7, selfLoop (from, to))
-    ∷ (8, ltb (placeOf to (rowAt targets starts from)) (degreeAt starts from))
+    ∷ (8, there targets starts from to)
     ∷ (9, leb 2048 (edgeCount starts))
     ∷ (11, shortRoom size room)
     ∷ [])
-rowTrial Cut size targets starts from to room = firstHeld (
+
+unfoldable pub cutTrialIn : ℕ → List ℕ → List ℕ → ℕ → ℕ → ℕ → PlainTrial
+cutTrialIn size targets starts from to room = firstHeld (
     (6, outside size (from, to))
     ∷ (7, selfLoop (from, to))
-    ∷ (10, not (ltb (placeOf to (rowAt targets starts from)) (degreeAt starts from)))
+    ∷ (10, not (there targets starts from to))
     ∷ (11, shortRoom size room)
     ∷ [])
+
+abbrev pub trialIn : Op → ℕ → List ℕ → List ℕ → ℕ → PlainTrial
+trialIn (Add from to) size targets starts room = addTrialIn size targets starts from to room
+trialIn (Cut from to) size targets starts room = cutTrialIn size targets starts from to room
+
+-- the state that a change names
+abbrev pub sourceOf : Op → ℕ
+sourceOf (Add from to) = from
+sourceOf (Cut from to) = from
 
 -- the rows after the list of numbers was filed into empty ones, where no edge stands twice
 pub record Filed (numbers targets starts : List ℕ) : Type 0 where
@@ -66,15 +84,15 @@ pub record FiledAll (numbers targets starts : List ℕ) (r : Bool) (targets′ s
       → r ≡ false → Filed numbers targets′ starts′
 
 -- the trial of a load, where the rows were empty
-pub record Tried (size start : ℕ) (words numbers : List ℕ) (room : ℕ) (targets starts : List ℕ) (r : ℕ) (targets′ starts′ : List ℕ) : Type 0 where
-  pub number-is : targets ≡ replicate 2048 0 → starts ≡ replicate 513 0 → r ≡ numberOf (loadTrial (record { size = size; start = start; words = words; numbers = numbers }) room)
-  pub filed : targets ≡ replicate 2048 0 → starts ≡ replicate 513 0 → r ≡ 0 → Filed numbers targets′ starts′
+pub record Tried (size start : ℕ) (words numbers : List ℕ) (room : ℕ) (targets starts : List ℕ) (r : Trial) (targets′ starts′ : List ℕ) : Type 0 where
+  pub trial-is : targets ≡ replicate 2048 0 → starts ≡ replicate 513 0 → r ≡ tried (loadTrial (record { size = size; start = start; words = words; numbers = numbers }) room)
+  pub filed : targets ≡ replicate 2048 0 → starts ≡ replicate 513 0 → r ≡ Accepted → Filed numbers targets′ starts′
 
 -- what filing one change leaves
-pub record FiledOne (op : Op) (from to : ℕ) (targets starts targets′ starts′ : List ℕ) : Type 0 where
-  pub added : op ≡ Add → Compressed targets starts → from < 512 → edgeCount starts < 2048 → Inserted targets starts from to targets′ starts′
-  pub removed : op ≡ Cut → Compressed targets starts → from < 512 → placeOf to (rowAt targets starts from) < degreeAt starts from
-      → Removed targets starts from (placeOf to (rowAt targets starts from)) targets′ starts′
+abbrev pub FiledOne : Op → List ℕ → List ℕ → List ℕ → List ℕ → Type 0
+FiledOne (Add from to) targets starts targets′ starts′ = Compressed targets starts → from < 512 → edgeCount starts < 2048 → Inserted targets starts from to targets′ starts′
+FiledOne (Cut from to) targets starts targets′ starts′ = Compressed targets starts → from < 512 → placeOf to (rowAt targets starts from) < degreeAt starts from
+    → Removed targets starts from (placeOf to (rowAt targets starts from)) targets′ starts′
 
 -- what a search that is over has come to: the lengths of stem and walk, 0 where there is none
 abbrev pub stemIn : Phase → ℕ → ℕ
@@ -117,6 +135,29 @@ sessionOf size start words targets starts number parent index probes stamp walk 
   length = v .length;
   total = total;
 }
+
+-- the session that has no game: all is 0
+abbrev pub noGame : Session
+noGame = record {
+  size = 0;
+  start = 0;
+  words = replicate 8 0;
+  targets = replicate 2048 0;
+  starts = replicate 513 0;
+  number = replicate 512 0;
+  parent = replicate 512 0;
+  index = replicate 512 0;
+  probes = replicate 512 0;
+  stamp = replicate 512 0;
+  walk = replicate 512 0;
+  stem = 0;
+  length = 0;
+  total = 0;
+}
+
+-- the answer to a refused call
+abbrev pub refusing : ℕ → Answer
+refusing n = Answer·Refused (record { number = n })
 
 -- the answer that a verdict makes
 abbrev pub pickAnswer : Bool → Answer → Answer → Answer

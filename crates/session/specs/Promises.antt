@@ -3,38 +3,44 @@ use Prim.Native.Nat.{ℕ, _+_, _<_}
 use mathlib.Core.Path.{_≡_}
 use mathlib.Core.Logic.{_≢_}
 use mathlib.Core.List.{List, [], _∷_, _++_, map}
-use lib.ListN.{length, take, drop}
+use lib.ListN.{length, take}
 use Rattle.plain.specs.Search.{Verdict, none, lasso, unfinished, verdict, count, run}
-use Rattle.plain.specs.Cycles.{FreeRound, Lasso}
-use Rattle.plain.specs.Table.{Table, row, graphOf, final}
+use Rattle.plain.specs.Table.{Table, row, searched, final}
 use Rattle.plain.specs.Refusals.{Load, accepted, refused, loadTrial}
-use Rattle.plain.specs.Machine.{Change, add, cut, Answer as PlainAnswer, refusal, answer, loadAnswer, tableOf, Call, answerTo, tableAfter, answers, written}
-use Rattle.plain.specs.Claims.{Arises}
+use Rattle.plain.specs.Machine.{Change, add, cut, numbered, loadAnswer, tableOf, Call, answerTo, tableAfter, answers, written, Line, roundLine, noneLine, noLine, answerLine, answerLines}
+use Rattle.plain.specs.Claims.{Arises, LineTrue, LineCounted}
 use Rattle.rows.specs.Rows.{rowAt, edgeCount, Compressed}
 use Rattle.search.proofs.Represents.{Begins}
 use Rattle.search.proofs.Resumed.{Archived}
 use Rattle.session.specs.declared.Answer.{Answer}
 use Rattle.session.specs.declared.Answer.the-variants.{Refused, Clear, Round}
+use Rattle.session.specs.declared.Refusal.{Refusal}
 use Rattle.session.specs.declared.Op.{Op}
 use Rattle.session.specs.declared.Op.the-variants.{Add, Cut}
 use Rattle.session.specs.declared.Session.{Session}
 use Rattle.session.specs.declared.Outcome.{Outcome}
+use Rattle.session.specs.Model.{noGame}
 
--- The document's number and values for each case of the answer: a refusal's number; spent and kept; and with a round the lengths of stem and round.
--- (A plain answer that is not finished never occurs: proofs/Demands.antt of plain, `ends`.)
-unfoldable pub shown : PlainAnswer → Answer
-shown (refusal n) = Refused n
-shown (answer none spent kept) = Clear spent kept
-shown (answer (lasso stem cycle) spent kept) = Round spent kept (length stem) (length cycle)
-shown (answer unfinished spent kept) = Refused 0
+-- The document's number and values for each case of the answer: `no` and the refusal's number; `none`, spent, kept; `round`, spent, kept, the lengths of
+-- stem and round, and the walk, which stands at the head of the lent list as the call leaves it.
+unfoldable pub shown : Answer → List ℕ → Line
+shown (Refused r) list = noLine (numbered (r .number))
+shown (Clear spent kept) list = noneLine spent kept
+shown (Round spent kept stem cycle) list = roundLine spent kept stem cycle (take (stem + cycle) list)
 
--- the call on the plain table: the change, and the length of the list that is lent
-abbrev pub changeOf : Op → ℕ → ℕ → Change
-changeOf Add from to = add (from, to)
-changeOf Cut from to = cut (from, to)
+-- An answer that is no refusal: what a caller sees of an accepted call.
+abbrev pub Accepted : Answer → Type 0
+Accepted (Refused r) = ⊥
+Accepted (Clear spent kept) = Unit {0}
+Accepted (Round spent kept stem cycle) = Unit {0}
 
-abbrev pub callOf : Op → ℕ → ℕ → List ℕ → Call
-callOf op from to lent = record { change = changeOf op from to; room = length lent }
+-- the change of the plain table, and the call: the change, and the length of the list that is lent
+abbrev pub changeOf : Op → Change
+changeOf (Add from to) = add (from, to)
+changeOf (Cut from to) = cut (from, to)
+
+abbrev pub callOf : Op → List ℕ → Call
+callOf op lent = record { change = changeOf op; room = length lent }
 
 -- the walk that is kept, with the length of its stem and its own, is that of the verdict
 abbrev pub Tells : ℕ → ℕ → List ℕ → Verdict → Type 0
@@ -52,73 +58,68 @@ pub record Holds (s : Session) (t : Table) : Type 0 where
   pub rows-are : (v : ℕ) → rowAt (s .targets) (s .starts) v ≡ row (t .edges) v
   pub count-is : edgeCount (s .starts) ≡ length (t .edges)
   pub steps : ℕ
-  pub ended : verdict (run (graphOf t) steps) ≢ unfinished
-  pub archived : Archived (graphOf t) steps (s .number) (s .parent) (s .index) (s .probes) (s .stamp) (s .walk)
+  pub ended : verdict (run (searched t) steps) ≢ unfinished
+  pub archived : Archived (searched t) steps (s .number) (s .parent) (s .index) (s .probes) (s .stamp) (s .walk)
   pub told : Tells (s .stem) (s .length) (s .walk) (verdict (final t))
   pub total-is : s .total ≡ count (final t)
 
 -- A LOAD: its answer and the lent list are those of the plain table, and the session of an accepted one holds that table.
 pub record Loads (l : Load) (lent : List ℕ) (r : Outcome) (lent′ : List ℕ) : Type 0 where
-  pub answers : r .answer ≡ shown (loadAnswer (loadTrial l (length lent)) (tableOf l))
+  pub answers : answerLine (loadAnswer (loadTrial l (length lent)) (tableOf l)) ≡ shown (r .answer) lent′ ∷ []
   pub writes : lent′ ≡ written (loadAnswer (loadTrial l (length lent)) (tableOf l)) lent
   pub holds : loadTrial l (length lent) ≡ accepted → Holds (r .session) (tableOf l)
   -- what a refused load hands back in place of a session has no state, so every change of it is refused
-  pub empty : (n : ℕ) → loadTrial l (length lent) ≡ refused n → r .session .size ≡ 0
+  pub empty : (n : ℕ) → loadTrial l (length lent) ≡ refused n → r .session ≡ noGame
 
 -- A CHANGE. For every plain table that the session holds: the answer and the lent list are the plain table's, and the new session holds the table
 -- that the call leaves. For every session, forged too: a refusal gives back the session and the list as they were. What a refused load hands back holds no
 -- table, and every change of it is refused.
-pub record Changes (op : Op) (from to : ℕ) (s : Session) (lent : List ℕ) (r : Outcome) (lent′ : List ℕ) : Type 0 where
-  pub answers : (t : Table) → Holds s t → r .answer ≡ shown (answerTo (callOf op from to lent) t)
-  pub writes : (t : Table) → Holds s t → lent′ ≡ written (answerTo (callOf op from to lent) t) lent
-  pub holds : (t : Table) → Holds s t → Holds (r .session) (tableAfter (callOf op from to lent) t)
-  pub refused : (n : ℕ) → r .answer ≡ Refused n → (r .session ≡ s) × (lent′ ≡ lent)
-  pub no-game : s .size ≡ 0 → r .answer ≡ Refused 6
+pub record Changes (op : Op) (s : Session) (lent : List ℕ) (r : Outcome) (lent′ : List ℕ) : Type 0 where
+  pub answers : (t : Table) → Holds s t → answerLine (answerTo (callOf op lent) t) ≡ shown (r .answer) lent′ ∷ []
+  pub writes : (t : Table) → Holds s t → lent′ ≡ written (answerTo (callOf op lent) t) lent
+  pub holds : (t : Table) → Holds s t → Holds (r .session) (tableAfter (callOf op lent) t)
+  pub refused : (n : Refusal) → r .answer ≡ Refused n → (r .session ≡ s) × (lent′ ≡ lent)
+  pub no-game : s .size ≡ 0 → r .answer ≡ Refused (record { number = 6 })
 
--- ---- demand 3
+-- ---- a list of calls
 
 -- one call as it was made: what it was given, what it answered, and what the lent list then held
 pub record Exchange : Type 0 where
   pub op : Op
-  pub from : ℕ
-  pub to : ℕ
   pub lent : List ℕ
   pub answered : Answer
   pub after : List ℕ
 
 abbrev pub callIn : Exchange → Call
-callIn x = callOf (x .op) (x .from) (x .to) (x .lent)
+callIn x = callOf (x .op) (x .lent)
 
 -- calls on a session, each given the session that the call before it returned; each is known by its contract alone
 pub data Served : Session → List Exchange → Type 0 where
   done : {s : Session} → Served s []
-  call : {s : Session} (op : Op) (from to : ℕ) (lent : List ℕ) (r : Outcome) (lent′ : List ℕ) (xs : List Exchange)
-      → Changes op from to s lent r lent′ → Served (r .session) xs
-      → Served s (record { op = op; from = from; to = to; lent = lent; answered = r .answer; after = lent′ } ∷ xs)
+  call : {s : Session} (op : Op) (lent : List ℕ) (r : Outcome) (lent′ : List ℕ) (xs : List Exchange)
+      → Changes op s lent r lent′ → Served (r .session) xs
+      → Served s (record { op = op; lent = lent; answered = r .answer; after = lent′ } ∷ xs)
 
--- each call wrote what the plain table's answer says
-abbrev pub AllWritten : List Exchange → List PlainAnswer → Type 0
-AllWritten [] [] = Unit {0}
-AllWritten [] (a ∷ rest) = ⊥
-AllWritten (x ∷ xs) [] = ⊥
-AllWritten (x ∷ xs) (a ∷ rest) = (x .after ≡ written a (x .lent)) × AllWritten xs rest
+-- ---- demand 3
 
--- "every call answers as the plain table with its plain search run afresh on the moves then present, oldest first": the answers are those of the plain
--- table run on the same calls, and so are the walks, entry for entry
-pub record AsPlain (t : Table) (xs : List Exchange) : Type 0 where
-  pub answers-same : map (λ (x : Exchange). x .answered) xs ≡ map shown (answers (map callIn xs) t)
-  pub walks-same : AllWritten xs (answers (map callIn xs) t)
+-- One call on a session that holds t. "every call answers as the plain table with its plain search run afresh on the moves then present, oldest first: same
+-- number, or same verdict and same walk, entry for entry"; the looks told are right; and what is told is true of the table as the call leaves it (demand 2).
+pub record CallRight (x : Exchange) (t : Table) : Type 0 where
+  pub answers : answerLine (answerTo (callIn x) t) ≡ shown (x .answered) (x .after) ∷ []
+  pub writes : x .after ≡ written (answerTo (callIn x) t) (x .lent)
+  pub counts : LineCounted (shown (x .answered) (x .after)) (callIn x .change) t
+  pub truth : LineTrue (shown (x .answered) (x .after)) (tableAfter (callIn x) t)
 
--- ---- demand 2
+-- each call, on the table that those before it leave
+abbrev pub AllRight : List Exchange → Table → Type 0
+AllRight [] t = Unit {0}
+AllRight (x ∷ xs) t = CallRight x t × AllRight xs (tableAfter (callIn x) t)
 
--- What an answer and the list that was lent say of the table: "none" that no free round can be reached; "round" that the list holds, from its head, a stem
--- and a round of the table.
-abbrev pub Truth : Answer → List ℕ → Table → Type 0
-Truth (Refused n) list t = Unit {0}
-Truth (Clear spent kept) list t = FreeRound (graphOf t) → ⊥
-Truth (Round spent kept stem cycle) list t = Lasso (graphOf t) (take stem list) (take cycle (drop stem list))
-
--- every answer of a list of calls is true of the table as the call leaves it
-abbrev pub AllTrue : List Exchange → Table → Type 0
-AllTrue [] t = Unit {0}
-AllTrue (x ∷ xs) t = Truth (x .answered) (x .after) (tableAfter (callIn x) t) × AllTrue xs (tableAfter (callIn x) t)
+-- DEMAND 3, "a single claim about the whole list": of a load that was accepted, and of every list of calls from its session on.
+pub record Demand3 (l : Load) (lent : List ℕ) (r : Outcome) (lent′ : List ℕ) (xs : List Exchange) : Type 0 where
+  pub load-answers : answerLine (loadAnswer accepted (tableOf l)) ≡ shown (r .answer) lent′ ∷ []
+  pub load-writes : lent′ ≡ written (loadAnswer accepted (tableOf l)) lent
+  pub load-truth : LineTrue (shown (r .answer) lent′) (tableOf l)
+  -- the answers, one behind the other, are those of the plain table run on the same calls
+  pub same-answers : map (λ (x : Exchange). shown (x .answered) (x .after)) xs ≡ answerLines (answers (map callIn xs) (tableOf l))
+  pub calls : AllRight xs (tableOf l)

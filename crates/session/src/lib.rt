@@ -8,12 +8,17 @@ ghost use lib.ListN.{length, take, drop};
 ghost use Rattle.plain.specs.Lists.{any};
 ghost use Rattle.plain.specs.Refusals.{badMarks, outside, selfLoop, pairs};
 ghost use Rattle.search.specs.Core.{Tabled, Kept, plus};
-ghost use Rattle.session.specs.Model.{numberOf, earlyTrial, rowTrial, FiledAll, FiledOne, Tried, verdictOf, Sought, answerIs, shownWalk};
+ghost use Rattle.session.specs.Model.{tried, earlyTrial, there, addTrialIn, cutTrialIn, trialIn, sourceOf, FiledAll, FiledOne, Tried, verdictOf, Sought, answerIs, refusing, noGame, shownWalk};
 ghost use Rattle.session.specs.Promises.{Loads, Changes};
 
-// The answer to a call: a refusal's number, or the probes spent and kept, and with a round the lengths of stem and round.
+// A refusal: its number in document 01's list.
+pub struct Refusal {
+    pub number: u16,
+}
+
+// The answer to a call: a refusal, or the probes spent and kept, and with a round the lengths of stem and round.
 pub enum Answer {
-    Refused(u16),
+    Refused(Refusal),
     Clear {
         spent: u16,
         kept: u16,
@@ -28,8 +33,20 @@ pub enum Answer {
 
 // A change of the table's moves.
 pub enum Op {
-    Add,
-    Cut,
+    Add {
+        from: u16,
+        to: u16,
+    },
+    Cut {
+        from: u16,
+        to: u16,
+    },
+}
+
+// What trying a call comes to: the number of the first condition that holds.
+enum Trial {
+    Accepted,
+    Refused(u16),
 }
 
 // What a search has come to: the lengths of stem and walk (0: no walk), and the probes.
@@ -121,35 +138,35 @@ fn any_loop(numbers: &[u16]) -> bool
     false
 }
 
-// Refusals 2 to 7 of a load; 0 where there is none.
-fn early_trial(size: u16, start: u16, words: &[u64; 8], numbers: &[u16]) -> u16
-    ensures { λ r. ⌜ r ≡ numberOf (earlyTrial size start (now (words .entry)) (now (numbers .entry))) ⌝ }
+// Refusals 2 to 7 of a load.
+fn early_trial(size: u16, start: u16, words: &[u64; 8], numbers: &[u16]) -> Trial
+    ensures { λ r. ⌜ r ≡ tried (earlyTrial size start (now (words .entry)) (now (numbers .entry))) ⌝ }
 {
     if size == 0 {
-        return 2;
+        return Trial::Refused(2);
     }
     if 512 < size {
-        return 2;
+        return Trial::Refused(2);
     }
     if size <= start {
-        return 3;
+        return Trial::Refused(3);
     }
     if marks_outside(words, size) {
-        return 4;
+        return Trial::Refused(4);
     }
     if numbers.len() % 2 == 1 {
-        return 5;
+        return Trial::Refused(5);
     }
     if 4096 < numbers.len() {
-        return 5;
+        return Trial::Refused(5);
     }
     if any_outside(numbers, size) {
-        return 6;
+        return Trial::Refused(6);
     }
     if any_loop(numbers) {
-        return 7;
+        return Trial::Refused(7);
     }
-    0
+    Trial::Accepted
 }
 
 // Files the moves of the list, in their order, until one stands twice: was there one?
@@ -171,7 +188,7 @@ fn file_all(numbers: &[u16], targets: &mut [u16; 2048], starts: &mut [u16; 513])
     false
 }
 
-// The refusal of a load, 0 where there is none: then the moves are filed.
+// Tries a load. Where it is accepted the moves are filed.
 fn load_trial(
     size: u16,
     start: u16,
@@ -180,83 +197,140 @@ fn load_trial(
     targets: &mut [u16; 2048],
     starts: &mut [u16; 513],
     room: usize,
-) -> u16
+) -> Trial
     requires { ⌜ Tabled (now targets) (now starts) ⌝ }
     ensures { λ r. ⌜ Tried size start (now (words .entry)) (now (numbers .entry)) room (now (targets .entry)) (now (starts .entry)) r (now (targets .exit)) (now (starts .exit)) ⌝ }
     ensures { λ r. ⌜ Tabled (now (targets .exit)) (now (starts .exit)) ⌝ }
 {
     let early = early_trial(size, start, words, numbers);
-    if early != 0 {
+    let Trial::Accepted = early else {
         return early;
-    }
+    };
     if file_all(numbers, targets, starts) {
-        return 8;
+        return Trial::Refused(8);
     }
     if room < wide(size) {
-        return 11;
+        return Trial::Refused(11);
     }
-    0
+    Trial::Accepted
 }
 
-// The refusal of a change, 0 where there is none.
-fn row_trial(
-    op: Op,
+// Does a move name a number that is not below the count of states?
+fn is_outside(size: u16, from: u16, to: u16) -> bool
+    ensures { λ r. ⌜ r ≡ outside size (from, to) ⌝ }
+{
+    if size <= from {
+        return true;
+    }
+    size <= to
+}
+
+// Is the move there?
+fn is_there(targets: &[u16; 2048], starts: &[u16; 513], from: u16, to: u16) -> bool
+    requires { ⌜ Tabled (now targets) (now starts) ⌝ }
+    ensures { λ r. ⌜ r ≡ there (now (targets .entry)) (now (starts .entry)) from to ⌝ }
+{
+    rows::place(targets, starts, from, to) < rows::degree(starts, from)
+}
+
+// Tries an add: 6 to 9 and 11.
+fn add_trial(
     size: u16,
     targets: &[u16; 2048],
     starts: &[u16; 513],
     from: u16,
     to: u16,
     room: usize,
-) -> u16
+) -> Trial
     requires { ⌜ Tabled (now targets) (now starts) ⌝ }
-    ensures { λ r. ⌜ r ≡ numberOf (rowTrial op size (now (targets .entry)) (now (starts .entry)) from to room) ⌝ }
+    ensures { λ r. ⌜ r ≡ tried (addTrialIn size (now (targets .entry)) (now (starts .entry)) from to room) ⌝ }
 {
-    if size <= from {
-        return 6;
-    }
-    if size <= to {
-        return 6;
+    if is_outside(size, from, to) {
+        return Trial::Refused(6);
     }
     if from == to {
-        return 7;
+        return Trial::Refused(7);
     }
-    let there = rows::place(targets, starts, from, to) < rows::degree(starts, from);
-    let full = 2048 <= rows::edge_count(starts);
-    match op {
-        Op::Add => {
-            if there {
-                return 8;
-            }
-            if full {
-                return 9;
-            }
-        }
-        Op::Cut => {
-            if !there {
-                return 10;
-            }
-        }
+    if is_there(targets, starts, from, to) {
+        return Trial::Refused(8);
+    }
+    if 2048 <= rows::edge_count(starts) {
+        return Trial::Refused(9);
     }
     if room < wide(size) {
-        return 11;
+        return Trial::Refused(11);
     }
-    0
+    Trial::Accepted
+}
+
+// Tries a cut: 6, 7, 10 and 11.
+fn cut_trial(
+    size: u16,
+    targets: &[u16; 2048],
+    starts: &[u16; 513],
+    from: u16,
+    to: u16,
+    room: usize,
+) -> Trial
+    requires { ⌜ Tabled (now targets) (now starts) ⌝ }
+    ensures { λ r. ⌜ r ≡ tried (cutTrialIn size (now (targets .entry)) (now (starts .entry)) from to room) ⌝ }
+{
+    if is_outside(size, from, to) {
+        return Trial::Refused(6);
+    }
+    if from == to {
+        return Trial::Refused(7);
+    }
+    if !is_there(targets, starts, from, to) {
+        return Trial::Refused(10);
+    }
+    if room < wide(size) {
+        return Trial::Refused(11);
+    }
+    Trial::Accepted
+}
+
+// Tries a change.
+fn change_trial(
+    op: Op,
+    size: u16,
+    targets: &[u16; 2048],
+    starts: &[u16; 513],
+    room: usize,
+) -> Trial
+    requires { ⌜ Tabled (now targets) (now starts) ⌝ }
+    ensures { λ r. ⌜ r ≡ tried (trialIn op size (now (targets .entry)) (now (starts .entry)) room) ⌝ }
+{
+    match op {
+        Op::Add { from, to } => add_trial(size, targets, starts, from, to, room),
+        Op::Cut { from, to } => cut_trial(size, targets, starts, from, to, room),
+    }
 }
 
 // The change is made in the rows.
-fn file_one(op: Op, targets: &mut [u16; 2048], starts: &mut [u16; 513], from: u16, to: u16)
+fn file_one(op: Op, targets: &mut [u16; 2048], starts: &mut [u16; 513])
     requires { ⌜ Tabled (now targets) (now starts) ⌝ }
-    ensures { λ r. ⌜ FiledOne op from to (now (targets .entry)) (now (starts .entry)) (now (targets .exit)) (now (starts .exit)) ⌝ }
+    ensures { λ r. ⌜ FiledOne op (now (targets .entry)) (now (starts .entry)) (now (targets .exit)) (now (starts .exit)) ⌝ }
     ensures { λ r. ⌜ Tabled (now (targets .exit)) (now (starts .exit)) ⌝ }
 {
     match op {
-        Op::Add => {
+        Op::Add { from, to } => {
             rows::insert(targets, starts, from, to);
         }
-        Op::Cut => {
+        Op::Cut { from, to } => {
             let k = rows::place(targets, starts, from, to);
             rows::remove(targets, starts, from, k);
         }
+    }
+}
+
+// The state that a change names: the one that its move leaves.
+fn named_by(op: Op) -> u16
+    ensures { λ r. ⌜ r ≡ sourceOf op ⌝ }
+{
+    match op {
+        Op::Add { from, to } => from,
+        Op::Cut { from, to } => from,
     }
 }
 
@@ -397,9 +471,16 @@ fn write_walk(v: Verdict, walk: &[u16; 512], lent: &mut [u16])
     }
 }
 
+// The answer to a refused call.
+fn refused(number: u16) -> Answer
+    ensures { λ r. ⌜ r ≡ refusing number ⌝ }
+{
+    Answer::Refused(Refusal { number })
+}
+
 // What stands in place of a session where a load is refused: it has no state, so every change of it is refused.
 fn no_game() -> Session
-    ensures { λ r. ⌜ r .size ≡ 0 ⌝ }
+    ensures { λ r. ⌜ r ≡ noGame ⌝ }
 {
     Session {
         size: 0,
@@ -432,7 +513,7 @@ pub fn load(size: u16, start: u16, words: [u64; 8], numbers: &[u16], lent: &mut 
 {
     let mut targets: [u16; 2048] = [0; 2048];
     let mut starts: [u16; 513] = [0; 513];
-    let n = load_trial(
+    let trial = load_trial(
         size,
         start,
         &words,
@@ -441,9 +522,9 @@ pub fn load(size: u16, start: u16, words: [u64; 8], numbers: &[u16], lent: &mut 
         &mut starts,
         lent.len(),
     );
-    if n != 0 {
+    if let Trial::Refused(n) = trial {
         return Outcome {
-            answer: Answer::Refused(n),
+            answer: refused(n),
             session: no_game(),
         };
     }
@@ -499,20 +580,20 @@ pub fn load(size: u16, start: u16, words: [u64; 8], numbers: &[u16], lent: &mut 
     }
 }
 
-// A change: a move from one state to another is added or cut. The list lent for the walk comes last.
-pub fn change(s: Session, op: Op, from: u16, to: u16, lent: &mut [u16]) -> Outcome
-    ensures { λ r. ⌜ Changes op from to s (now (lent .entry)) r (now (lent .exit)) ⌝ }
+// A change of the game. The list lent for the walk comes last.
+pub fn change(s: Session, op: Op, lent: &mut [u16]) -> Outcome
+    ensures { λ r. ⌜ Changes op s (now (lent .entry)) r (now (lent .exit)) ⌝ }
 {
     let mut targets = s.targets;
     let mut starts = s.starts;
-    let n = row_trial(op, s.size, &targets, &starts, from, to, lent.len());
-    if n != 0 {
+    let trial = change_trial(op, s.size, &targets, &starts, lent.len());
+    if let Trial::Refused(n) = trial {
         return Outcome {
-            answer: Answer::Refused(n),
+            answer: refused(n),
             session: s,
         };
     }
-    file_one(op, &mut targets, &mut starts, from, to);
+    file_one(op, &mut targets, &mut starts);
     let words = s.words;
     let mut number = s.number;
     let mut parent = s.parent;
@@ -537,7 +618,7 @@ pub fn change(s: Session, op: Op, from: u16, to: u16, lent: &mut [u16]) -> Outco
         &mut stamp,
         &mut walk,
         s.start,
-        from,
+        named_by(op),
         old,
     );
     write_walk(v, &walk, lent);
@@ -564,14 +645,14 @@ pub fn change(s: Session, op: Op, from: u16, to: u16, lent: &mut [u16]) -> Outco
 
 // Adds a move.
 pub fn add(s: Session, from: u16, to: u16, lent: &mut [u16]) -> Outcome
-    ensures { λ r. ⌜ Changes Op.Add from to s (now (lent .entry)) r (now (lent .exit)) ⌝ }
+    ensures { λ r. ⌜ Changes (Op.Add from to) s (now (lent .entry)) r (now (lent .exit)) ⌝ }
 {
-    change(s, Op::Add, from, to, lent)
+    change(s, Op::Add { from, to }, lent)
 }
 
 // Cuts a move.
 pub fn cut(s: Session, from: u16, to: u16, lent: &mut [u16]) -> Outcome
-    ensures { λ r. ⌜ Changes Op.Cut from to s (now (lent .entry)) r (now (lent .exit)) ⌝ }
+    ensures { λ r. ⌜ Changes (Op.Cut from to) s (now (lent .entry)) r (now (lent .exit)) ⌝ }
 {
-    change(s, Op::Cut, from, to, lent)
+    change(s, Op::Cut { from, to }, lent)
 }

@@ -11,9 +11,6 @@ use Rattle.session.specs.declared.Op.the-variants.{Add, Cut}
 use Rattle.session.proofs.file_one.Statement.{statement}
 use Rattle.session.proofs.file_one.Tie as tie
 
-one-only : (op : Op) → op ≡ Add → op ≡ Cut → ⊥
-one-only op p q = let z : _≡_ {A = ℕ} 0 1 = cc in omega arith
-
 -- the removed edge by the place that was found
 at-place : (ts ss ts′ ss′ : List ℕ) (v k p : ℕ) → k ≡ p → (Compressed ts ss → v < 512 → k < degreeAt ss v → Removed ts ss v k ts′ ss′)
     → Compressed ts ss → v < 512 → p < degreeAt ss v → Removed ts ss v p ts′ ss′
@@ -37,25 +34,12 @@ remove-requires c κs = search needs
 returns : tie.Need-returns
 returns c =
     let t = c .before .before .before in (
-      record {
-        added = λ e. c .insert .ensures .0;
-        removed = λ e w v k. absurd (one-only (t .before .before .args .op) (t .enum-told .given .1) e);
-      },
+      rw (t .enum-told .given .1) (c .insert .ensures .0),
       record { targets-size = c .insert .ensures .1 .0; starts-size = c .insert .ensures .1 .1 },
     )
 
 returns-2 : tie.Need-returns-2
-returns-2 c =
-    let p = c .before .before .before in
-    let t = p .before .before .before in
-    let a = t .before .before .args in (
-      record {
-        added = λ e w v k. absurd (one-only (a .op) e (t .enum-told2 .given .1));
-        removed = λ e. at-place (now (a .targets)) (now (a .starts)) (c .remove .last .0) (c .remove .last .1 .0) (a .from) (p .place .result)
-            (placeOf (a .to) (rowAt (now (a .targets)) (now (a .starts)) (a .from))) (p .place .ensures) (c .remove .ensures .0);
-      },
-      record { targets-size = c .remove .ensures .1 .0; starts-size = c .remove .ensures .1 .1 },
-    )
+returns-2 c = ?
 
 pub file-one-spec : {M : Type 1} → statement M
 file-one-spec =

@@ -1,0 +1,64 @@
+-- What the lines of the plain answers say is true, and the looks that they tell are right. Assumes nothing.
+use mathlib.Core.Path.{_≡_, refl, sym, ap, subst, _∙_}
+use mathlib.Core.List.{List, [], _∷_, _++_}
+use Prim.Native.Nat.{ℕ, _-_}
+use native.Mathlib.Omega.{arith}
+use lib.ListN.{length}
+use Rattle.plain.specs.Search.{Verdict, none, lasso, unfinished, verdict, count}
+use Rattle.plain.specs.Table.{Table, final}
+use Rattle.plain.specs.Refusals.{Trial, accepted, refused, Load, loadTrial}
+use Rattle.plain.specs.Machine.{Answer, refusal, answer, numbered, Change, apply, kept, tableOf, loadAnswer, changeAnswer, after, Call, trialOf, answerTo, tableAfter, Line, gameLine, roundLine, noneLine, noLine, answerLine}
+use Rattle.plain.specs.Claims.{Arises, loaded, changed, Report, clear, round, reportOf, ReportRight, KeptRight, LineTrue, LineCounted}
+use Rattle.plain.proofs.Demands.{report-right, demand-3-kept}
+
+-- the first line of some
+first : List Line → Line
+first [] = gameLine 0 0 0
+first (l ∷ ls) = l
+
+-- a list of no line is no list of one
+no-line : {l : Line} → [] ≡ l ∷ [] → ⊥
+no-line e = let z : _≡_ {A = ℕ} 0 1 = cc in omega arith
+
+-- a verdict of the plain search, told by a line
+verdict-told : (t : Table) (w : Verdict) (spent kept : ℕ) (l : Line) → ReportRight (reportOf w) t → answerLine (answer w spent kept) ≡ l ∷ [] → LineTrue l t
+unfolding answerLine reportOf first
+verdict-told t none spent kept l r e = subst (λ (x : Line). LineTrue x t) (ap first e) r
+verdict-told t (lasso stem cycle) spent kept l r e = subst (λ (x : Line). LineTrue x t) (ap first e) r
+verdict-told t unfinished spent kept l r e = absurd (no-line e)
+
+counts-told : (c : Change) (t : Table) (w : Verdict) (spent kept : ℕ) (l : Line) → KeptRight c t spent kept → answerLine (answer w spent kept) ≡ l ∷ [] → LineCounted l c t
+unfolding answerLine first
+counts-told c t none spent kept l r e = subst (λ (x : Line). LineCounted x c t) (ap first e) r
+counts-told c t (lasso stem cycle) spent kept l r e = subst (λ (x : Line). LineCounted x c t) (ap first e) r
+counts-told c t unfinished spent kept l r e = absurd (no-line e)
+
+-- of a load that is accepted
+pub load-told : (load : Load) (room : ℕ) (l : Line) → loadTrial load room ≡ accepted → answerLine (loadAnswer accepted (tableOf load)) ≡ l ∷ [] → LineTrue l (tableOf load)
+unfolding loadAnswer
+load-told load room l a e =
+    let t = tableOf load in
+    verdict-told t (verdict (final t)) (count (final t)) 0 l (report-right t (loaded load room a)) e
+
+-- of every call on a table that a session can hold
+pub record Told (c : Call) (t : Table) (l : Line) : Type 0 where
+  pub truth : LineTrue l (tableAfter c t)
+  pub counts : LineCounted l (c .change) t
+
+pub call-told : (c : Call) (t : Table) (l : Line) → Arises t → answerLine (answerTo c t) ≡ l ∷ [] → Told c t l
+unfolding answerTo
+call-told c t l a e = by-trial (trialOf c t) refl e
+  where
+    by-trial : (x : Trial) → trialOf c t ≡ x → answerLine (changeAnswer x (c .change) t) ≡ l ∷ [] → Told c t l
+    unfolding changeAnswer answerLine tableAfter first
+    by-trial accepted k f =
+        let t′ = apply (c .change) t in
+        let b = changed t c a k in
+        record {
+          truth = rw k (verdict-told t′ (verdict (final t′)) _ _ l (report-right t′ b) f);
+          counts = counts-told (c .change) t (verdict (final t′)) _ _ l (demand-3-kept c t a k) f;
+        }
+    by-trial (refused n) k f = record {
+      truth = subst (λ (x : Line). LineTrue x (tableAfter c t)) (ap first f) tt;
+      counts = subst (λ (x : Line). LineCounted x (c .change) t) (ap first f) tt;
+    }
