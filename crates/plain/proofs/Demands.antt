@@ -3,27 +3,28 @@ use mathlib.Core.Path.{_≡_, refl, sym, ap, _∙_}
 use mathlib.Core.Logic.{_≢_, ⊎-elim}
 use mathlib.Core.Bool.{true, false}
 use mathlib.Core.List.{List, [], _∷_, _++_, reverse, reverse-append}
-use Prim.Native.Nat.{ℕ, zero, suc, _+_, _*_, _≤_, _<_}
+use Prim.Native.Nat.{ℕ, zero, suc, _+_, _*_, _-_, _≤_, _<_}
 use native.Mathlib.Omega.{arith}
 use lib.Dec.{eqb, leb}
-use lib.ListN.{length, length-append}
+use lib.ListN.{length, take, drop, length-append, length-reverse}
+use lib.Seq.{take-at, drop-at}
 use borrow.Author.Tests.{leb-false, eqb-false}
 use Rattle.plain.specs.Lists.{any, elem, In, Once}
 use Rattle.plain.specs.Search.{Graph, Edge, Config, probesOf, taken, count, meets, run, Verdict, none, lasso, unfinished, verdict}
 use Rattle.plain.specs.Cycles.{FreeRound, Lasso}
-use Rattle.plain.specs.Table.{Table, row, graphOf, budget, final, firstMeeting}
+use Rattle.plain.specs.Table.{Table, one, row, graphOf, searched, budget, final, firstMeeting}
 use Rattle.plain.specs.Refusals.{badStart, outside, accepted}
 use Rattle.plain.specs.Machine.{Change, named, apply, kept, Call, trialOf}
 use Rattle.plain.specs.Notes.{Notes, notes}
-use Rattle.plain.specs.Claims.{Arises, changed, VerdictRight, KeptRight}
-use Rattle.plain.proofs.Tests.{either, same, not-in, in-nil, in-head, in-tail, in-cases, or-first, or-false, none-cons, any-in}
+use Rattle.plain.specs.Claims.{Arises, changed, times, VerdictRight, clear, round, reportOf, ReportRight, KeptRight}
+use Rattle.plain.proofs.Tests.{either, not-in, in-nil, in-head, in-tail, in-cases, or-first, or-false, one-le, none-cons, any-in}
 use Rattle.plain.proofs.Runs.{lasso-free, lasso-inside}
 use Rattle.plain.proofs.Lassos.{sound, none-right}
-use Rattle.plain.proofs.Bounds.{left, once-short, probes-twice, ended-by}
+use Rattle.plain.proofs.Bounds.{left, left-add, left-const, left-alone, once-short, times-reverse, times-row, probes-twice, probes-each, ended-by}
 use Rattle.plain.proofs.Prefix.{FirstMeeting, first-meeting}
 use Rattle.plain.proofs.Resume.{one-end, one-until, met-at-end, until-end, until-at, probes-grow, Holds, holds-notes, unchanged, resumed}
 use Rattle.plain.proofs.Edges.{Has, has-cases, has-nil}
-use Rattle.plain.proofs.Rows.{row-yes, row-no, row-nil, row-has, agree}
+use Rattle.plain.proofs.Rows.{row-nil, row-length, row-has, row-once, agree}
 use Rattle.plain.proofs.Tables.{Valid, valid}
 
 -- ---- the states of a table
@@ -56,52 +57,23 @@ length-upto (suc n) = omega (arith, length-upto n)
 
 -- ---- the rows of different states hold at most the edges of the table
 
--- how often a stands in the list
-times : ℕ → List ℕ → ℕ
-times a [] = 0
-times a (u ∷ us) = elim (eqb a u) [ true ↦ suc (times a us) | false ↦ times a us ]
-
-times-yes : (a u : ℕ) (us : List ℕ) → eqb a u ≡ true → times a (u ∷ us) ≡ suc (times a us)
-unfolding times
-times-yes a u us e = rw (e, times)
-
-times-no : (a u : ℕ) (us : List ℕ) → eqb a u ≡ false → times a (u ∷ us) ≡ times a us
-unfolding times
-times-no a u us e = rw (e, times)
-
-times-out : (a : ℕ) (us : List ℕ) → elem a us ≡ false → times a us ≡ 0
-unfolding times elem
-times-out a [] f = refl
-times-out a (u ∷ us) f =
-    let w = or-false (eqb a u) (elem a us) f in
-    times-no a u us (w .0) ∙ times-out a us (w .1)
-
-times-once : (a : ℕ) (us : List ℕ) → Once us → times a us ≤ 1
-unfolding times
-times-once a [] o = omega arith
-times-once a (u ∷ us) o = ⊎-elim
-    (λ e. let z : a ≡ u = same e in omega (arith, times-yes a u us e, times-out a us (rw z (o .0))))
-    (λ e. omega (arith, times-no a u us e, times-once a us (o .1))) (either (eqb a u))
-
 -- the lengths of the rows of us, added
 abbrev total : List Edge → List ℕ → ℕ
 total es us = left (λ x. length (row es x)) [] us
 
-total-cons : (e : Edge) (es : List Edge) (us : List ℕ) → total (e ∷ es) us ≡ times (e .0) us + total es us
-unfolding left times elem
-total-cons e es [] = omega arith
-total-cons e es (u ∷ us) = ⊎-elim
-    (λ h. omega (arith, ap length (row-yes e es u h), times-yes (e .0) u us h, total-cons e es us))
-    (λ h. omega (arith, ap length (row-no e es u h), times-no (e .0) u us h, total-cons e es us)) (either (eqb (e .0) u))
-
-total-nil : (us : List ℕ) → total [] us ≡ 0
-unfolding left elem
-total-nil [] = refl
-total-nil (u ∷ us) = omega (arith, ap length (row-nil u), total-nil us)
-
 pub total-le : (es : List Edge) (us : List ℕ) → Once us → total es us ≤ length es
-total-le [] us o = omega (arith, total-nil us)
-total-le (e ∷ es) us o = omega (arith, total-cons e es us, times-once (e .0) us o, total-le es us o)
+total-le [] us o =
+    let none : total [] us ≡ left (λ x. 0) [] us = λ i. left (λ x. length (row-nil x i)) [] us in
+    omega (arith, left-const 0 us)
+total-le (e ∷ es) us o =
+    let more : total (e ∷ es) us ≡ left (λ x. one (eqb (e .0) x) + length (row es x)) [] us = λ i. left (λ x. row-length e es x i) [] us in
+    omega (
+      arith,
+      left-add (λ x. one (eqb (e .0) x)) (λ x. length (row es x)) us,
+      left-alone (λ x. one (eqb (e .0) x)) (e .0) (λ x f. rw f) us o,
+      one-le (eqb (e .0) (e .0)),
+      total-le es us o,
+    )
 
 has-inside : (n : ℕ) (es : List Edge) (e : Edge) → any (outside n) es ≡ false → Has es e → outside n e ≡ false
 has-inside n [] e f h = has-nil e h
@@ -109,22 +81,40 @@ has-inside n (x ∷ es) e f h =
     let w = none-cons (outside n) x es f in
     ⊎-elim (λ z. rw z (w .0)) (has-inside n es e (w .1)) (has-cases e x es h)
 
+-- ---- the graph that is searched, and the game. Today they are one: these facts, and `agree` of Rows.antt, are all that is made of it.
+
+-- a walk of the graph is one of the game
+lasso-there : (t : Table) (stem cycle : List ℕ) → Lasso (searched t) stem cycle → Lasso (graphOf t) stem cycle
+lasso-there t stem cycle w = w
+
+-- a free round of the game is one of the graph
+free-searched : (t : Table) → FreeRound (graphOf t) → FreeRound (searched t)
+free-searched t f = f
+
 module _ (t : Table) (v : Valid t) where
-  pub start-in : In (t .start) (upto (t .size))
+  pub start-in : In (searched t .start) (upto (t .size))
   unfolding badStart
   start-in = upto-in (t .start) (t .size) (leb-false (t .size) (t .start) (v .start-ok))
 
-  pub target-in : (x y : ℕ) → In x (upto (t .size)) → In y (row (t .edges) x) → In y (upto (t .size))
+  pub target-in : (x y : ℕ) → In x (upto (t .size)) → In y (searched t .successors x) → In y (upto (t .size))
   unfolding outside
   target-in x y i j =
       let f = has-inside (t .size) (t .edges) (x, y) (v .inside) (row-has (t .edges) x y j) in
       upto-in y (t .size) (leb-false (t .size) y (or-false (leb (t .size) x) (leb (t .size) y) f .1))
 
+  edges-few : left (λ x. length (searched t .successors x)) [] (upto (t .size)) ≤ length (t .edges)
+  edges-few = total-le (t .edges) (upto (t .size)) (once-upto (t .size))
+
+  rows-once : (x : ℕ) → Once (searched t .successors x)
+  rows-once x = row-once (t .edges) x (v .once)
+
+-- ---- demand 2
+
+module _ (t : Table) (v : Valid t) where
   -- The search ends within its budget.
-  pub ended-within : (n : ℕ) → budget t ≤ n → verdict (run (graphOf t) n) ≢ unfinished
+  pub ended-within : (n : ℕ) → budget t ≤ n → verdict (run (searched t) n) ≢ unfinished
   unfolding budget
-  ended-within n h = ended-by (graphOf t) (upto (t .size)) start-in target-in n
-      (omega (arith, total-le (t .edges) (upto (t .size)) (once-upto (t .size)), length-upto (t .size)))
+  ended-within n h = ended-by (searched t) (upto (t .size)) (start-in t v) (target-in t v) n (omega (arith, edges-few t v, length-upto (t .size)))
 
   pub ends : verdict (final t) ≢ unfinished
   unfolding final
@@ -132,11 +122,20 @@ module _ (t : Table) (v : Valid t) where
 
   looks-twice : count (final t) ≤ 2 * length (t .edges)
   unfolding final
-  looks-twice = omega (arith, probes-twice (graphOf t) (upto (t .size)) start-in target-in (budget t), total-le (t .edges) (upto (t .size)) (once-upto (t .size)))
+  looks-twice = omega (arith, probes-twice (searched t) (upto (t .size)) (start-in t v) (target-in t v) (budget t), edges-few t v)
 
-  walk-right : (stem cycle : List ℕ) → verdict (final t) ≡ lasso stem cycle → Lasso (graphOf t) stem cycle
+  each-twice : (e : Edge) → times e (taken (final t)) ≤ 2
+  unfolding final taken
+  each-twice e = omega (
+    arith,
+    times-reverse e (probesOf (final t)),
+    probes-each (searched t) (upto (t .size)) (start-in t v) (target-in t v) (once-upto (t .size)) (budget t) e,
+    times-row e (searched t .successors (e .0)) (rows-once t v (e .0)),
+  )
+
+  walk-right : (stem cycle : List ℕ) → verdict (final t) ≡ lasso stem cycle → Lasso (searched t) stem cycle
   unfolding final
-  walk-right stem cycle e = sound (graphOf t) (budget t) stem cycle e
+  walk-right stem cycle e = sound (searched t) (budget t) stem cycle e
 
   walk-short : (stem cycle : List ℕ) → verdict (final t) ≡ lasso stem cycle → length stem + length cycle ≤ t .size
   walk-short stem cycle e =
@@ -145,7 +144,7 @@ module _ (t : Table) (v : Valid t) where
         arith,
         length-append stem cycle,
         length-upto (t .size),
-        once-short (stem ++ cycle) (upto (t .size)) (w .once) (lasso-inside (graphOf t) (upto (t .size)) target-in start-in stem cycle w),
+        once-short (stem ++ cycle) (upto (t .size)) (w .once) (lasso-inside (searched t) (upto (t .size)) (target-in t v) (start-in t v) stem cycle w),
       )
 
   none-when : (FreeRound (graphOf t) → ⊥) → verdict (final t) ≡ none
@@ -153,37 +152,69 @@ module _ (t : Table) (v : Valid t) where
     where
       by-verdict : (w : Verdict) → verdict (final t) ≡ w → w ≡ none
       by-verdict none e = refl
-      by-verdict (lasso stem cycle) e = absurd (n (lasso-free (graphOf t) stem cycle (walk-right stem cycle e)))
+      by-verdict (lasso stem cycle) e = absurd (n (lasso-free (graphOf t) stem cycle (lasso-there t stem cycle (walk-right stem cycle e))))
       by-verdict unfinished e = absurd (ends e)
 
   pub verdict-right : VerdictRight t
   unfolding final
   verdict-right = record {
     ends = ends;
-    none-only = λ e f. none-right (graphOf t) (budget t) e f;
+    none-only = λ e f. none-right (searched t) (budget t) e (free-searched t f);
     none-if = none-when;
-    walk = walk-right;
+    walk = λ stem cycle e. lasso-there t stem cycle (walk-right stem cycle e);
     short = walk-short;
     looks = looks-twice;
+    each = each-twice;
   }
 
 -- DEMAND 2, of the plain answers
 pub demand-2 : (t : Table) → Arises t → VerdictRight t
 demand-2 t a = verdict-right t (valid t a)
 
+parts : (stem cycle : List ℕ) (a b : ℕ) (walk : List ℕ) → round (length stem) (length cycle) (stem ++ cycle) ≡ round a b walk
+    → (length stem ≡ a) × (length cycle ≡ b) × (stem ++ cycle ≡ walk)
+parts stem cycle a b walk e = ((cc), (cc), (cc))
+
+-- and of the verdict as a caller gets it
+pub verdict-report : (t : Table) → VerdictRight t → ReportRight (reportOf (verdict (final t))) t
+unfolding reportOf
+verdict-report t r = by-verdict (verdict (final t)) refl
+  where
+    apart : (stem cycle : ℕ) (walk : List ℕ) → round stem cycle walk ≡ clear → ⊥
+    apart stem cycle walk e = let z : _≡_ {A = ℕ} 0 1 = cc in omega arith
+
+    by-verdict : (w : Verdict) → verdict (final t) ≡ w → ReportRight (reportOf w) t
+    by-verdict none e = record {
+      clear-only = λ z f. r .none-only e f;
+      clear-if = λ n. refl;
+      lengths = λ a b walk z. absurd (apart a b walk (sym z));
+      lasso-there = λ a b walk z. absurd (apart a b walk (sym z));
+    }
+    by-verdict (lasso stem cycle) e = record {
+      clear-only = λ z f. apart (length stem) (length cycle) (stem ++ cycle) z;
+      clear-if = λ n. let y : verdict (final t) ≡ none = r .none-if n in cc;
+      lengths = λ a b walk z. let k = parts stem cycle a b walk z in omega (arith, k, length-append stem cycle, ap length (k .2));
+      lasso-there = λ a b walk z. let k = parts stem cycle a b walk z in
+          rw (← k .2, take-at stem cycle a (k .0), drop-at stem cycle a (k .0)) (r .walk stem cycle e);
+    }
+    by-verdict unfinished e = absurd (r .ends e)
+
+pub report-right : (t : Table) → Arises t → ReportRight (reportOf (verdict (final t))) t
+report-right t a = verdict-report t (demand-2 t a)
+
 -- ---- what a change keeps
 
 -- the search of n steps ends the search on the table
-pub run-final : (t : Table) → Valid t → (n : ℕ) → verdict (run (graphOf t) n) ≢ unfinished → run (graphOf t) n ≡ final t
+pub run-final : (t : Table) → Valid t → (n : ℕ) → verdict (run (searched t) n) ≢ unfinished → run (searched t) n ≡ final t
 unfolding final
-run-final t v n h = one-end (graphOf t) n (budget t) h (ends t v)
+run-final t v n h = one-end (searched t) n (budget t) h (ends t v)
 
-module _ (c : Change) (t : Table) (v : Valid t) (v′ : Valid (apply c t)) (n : ℕ) (ended : verdict (run (graphOf t) n) ≢ unfinished) where
+module _ (c : Change) (t : Table) (v : Valid t) (v′ : Valid (apply c t)) (n : ℕ) (ended : verdict (run (searched t) n) ≢ unfinished) where
   abbrev g : Graph
-  g = graphOf t
+  g = searched t
 
   abbrev h : Graph
-  h = graphOf (apply c t)
+  h = searched (apply c t)
 
   -- No named state is met: the search on the changed table is the one before, to its end, and the notes stay right; every look is kept.
   pub record Unmet (r : Notes) : Type 0 where
@@ -228,52 +259,53 @@ module _ (c : Change) (t : Table) (v : Valid t) (v′ : Valid (apply c t)) (n : 
 
 -- ---- "the run before began with these looks, move for move"
 
-taken-first : (c e : Config) → (new : List Edge) × (probesOf e ≡ new ++ probesOf c) → (later : List Edge) × (taken e ≡ taken c ++ later)
+-- a search that goes on from c begins with the looks of c
+taken-first : (c e : Config) → (new : List Edge) × (probesOf e ≡ new ++ probesOf c) → take (count c) (taken e) ≡ taken c
 unfolding taken
-taken-first c e (new, p) = (reverse new, ap reverse p ∙ reverse-append new (probesOf c))
+taken-first c e (new, p) =
+    ap (λ (l : List Edge). take (count c) (reverse l)) p ∙ ap (take (count c)) (reverse-append new (probesOf c))
+    ∙ take-at (reverse (probesOf c)) (reverse new) (count c) (length-reverse (probesOf c))
 
--- the search before begins with the probes of the new search up to its first meeting
-began : (c : Change) (t : Table) → Valid t → Valid (apply c t) → (later : List Edge) × (taken (final t) ≡ taken (firstMeeting (named c) (apply c t)) ++ later)
+-- the search before goes on from the probes of the new search up to its first meeting
+began : (c : Change) (t : Table) → Valid t → Valid (apply c t) → (new : List Edge) × (probesOf (final t) ≡ new ++ probesOf (firstMeeting (named c) (apply c t)))
 unfolding final
 began c t v v′ = ⊎-elim met unmet (either (meets (named c) (final t)))
   where
     Goal : Type 0
-    Goal = (later : List Edge) × (taken (final t) ≡ taken (firstMeeting (named c) (apply c t)) ++ later)
+    Goal = (new : List Edge) × (probesOf (final t) ≡ new ++ probesOf (firstMeeting (named c) (apply c t)))
 
     unmet : meets (named c) (final t) ≡ false → Goal
     unmet f =
-        let w = change-unmet c t v v′ (budget t) (ends t v) (notes (graphOf t) (budget t)) f (holds-notes (graphOf t) (budget t)) in
-        taken-first (firstMeeting (named c) (apply c t)) (final t) ([], ap probesOf (sym (w .all-kept)))
+        let w = change-unmet c t v v′ (budget t) (ends t v) (notes (searched t) (budget t)) f (holds-notes (searched t) (budget t)) in
+        ([], ap probesOf (sym (w .all-kept)))
 
     met : meets (named c) (final t) ≡ true → Goal
     met m =
-        let w = change-met c t v v′ (budget t) (ends t v) (notes (graphOf t) (budget t)) m (holds-notes (graphOf t) (budget t)) in
+        let w = change-met c t v v′ (budget t) (ends t v) (notes (searched t) (budget t)) m (holds-notes (searched t) (budget t)) in
         let f = w .meeting in
-        let e : probesOf (run (graphOf t) (f .at)) ≡ probesOf (firstMeeting (named c) (apply c t)) = ap probesOf (f .meeting .here) ∙ sym (ap probesOf (w .kept-here ∙ f .meeting .there)) in
-        let p = probes-grow (graphOf t) (f .at) (budget t) (f .in-time) in
-        taken-first (firstMeeting (named c) (apply c t)) (final t) (p .0, p .1 ∙ ap (λ (l : List Edge). p .0 ++ l) e)
+        let e : probesOf (run (searched t) (f .at)) ≡ probesOf (firstMeeting (named c) (apply c t)) = ap probesOf (f .meeting .here) ∙ sym (ap probesOf (w .kept-here ∙ f .meeting .there)) in
+        let p = probes-grow (searched t) (f .at) (budget t) (f .in-time) in
+        (p .0, p .1 ∙ ap (λ (l : List Edge). p .0 ++ l) e)
 
 goes-on : (states : List ℕ) (t : Table) → (new : List Edge) × (probesOf (final t) ≡ new ++ probesOf (firstMeeting states t))
 unfolding final firstMeeting
 goes-on states t =
-    let u = until-at (graphOf t) states (budget t) in
-    let p = probes-grow (graphOf t) (u .0) (budget t) (u .1) in
+    let u = until-at (searched t) states (budget t) in
+    let p = probes-grow (searched t) (u .0) (budget t) (u .1) in
     (p .0, p .1 ∙ ap (λ (c : Config). p .0 ++ probesOf c) (sym (u .2)))
 
-pub kept-right : (c : Change) (t : Table) → Valid t → Valid (apply c t) → KeptRight c t
+pub kept-right : (c : Change) (t : Table) → Valid t → Valid (apply c t) → KeptRight c t (count (final (apply c t)) - kept c t) (kept c t)
 unfolding kept
 kept-right c t v v′ =
     let p = goes-on (named c) (apply c t) in
-    let n = taken-first (firstMeeting (named c) (apply c t)) (final (apply c t)) p in
-    let b = began c t v v′ in
     record {
-      rest = n .0;
-      new-run = n .1;
-      others = b .0;
-      run-before = b .1;
+      kept-is = refl;
+      new-run = taken-first (firstMeeting (named c) (apply c t)) (final (apply c t)) p;
+      run-before = taken-first (firstMeeting (named c) (apply c t)) (final t) (began c t v v′);
       adds-up = omega (arith, ap length (p .1), length-append (p .0) (probesOf (firstMeeting (named c) (apply c t))));
     }
 
 -- what demand 3 says of "kept", for every accepted change of a table that a session can hold
-pub demand-3-kept : (c : Call) (t : Table) → Arises t → trialOf c t ≡ accepted → KeptRight (c .change) t
+pub demand-3-kept : (c : Call) (t : Table) → Arises t → trialOf c t ≡ accepted
+    → KeptRight (c .change) t (count (final (apply (c .change) t)) - kept (c .change) t) (kept (c .change) t)
 demand-3-kept c t a e = kept-right (c .change) t (valid t a) (valid (apply (c .change) t) (changed t c a e))

@@ -3,17 +3,17 @@ use mathlib.Core.Path.{_≡_, refl, sym, ap, _∙_}
 use mathlib.Core.Logic.{⊎-elim}
 use mathlib.Core.Bool.{true, false, not}
 use mathlib.Core.List.{List, [], _∷_, _++_}
-use Prim.Native.Nat.{ℕ, suc, _≤_}
+use Prim.Native.Nat.{ℕ, suc, _+_, _≤_}
 use native.Mathlib.Omega.{arith}
 use lib.Dec.{eqb}
 use lib.ListN.{length}
 use borrow.Author.Tests.{eqb-false}
 use Rattle.plain.specs.Lists.{filter, elem, In, Once}
 use Rattle.plain.specs.Search.{Edge}
-use Rattle.plain.specs.Table.{Table, row, graphOf}
+use Rattle.plain.specs.Table.{Table, one, row, searched}
 use Rattle.plain.specs.Refusals.{sameEdge, present, repeated}
 use Rattle.plain.specs.Machine.{Change, add, cut, named, without, apply}
-use Rattle.plain.proofs.Tests.{contra, either, not-true, same, self, in-nil, in-head, in-tail, in-cases, not-in, or-false, none-cons, filter-yes, filter-no}
+use Rattle.plain.proofs.Tests.{contra, either, not-true, same, self, in-nil, in-head, in-tail, in-cases, not-in, or-false, one-le, none-cons, filter-yes, filter-no}
 use Rattle.plain.proofs.Edges.{Has, has-head, has-tail, has-cases, has-nil, same-edge, same-self}
 use Rattle.plain.proofs.Prefix.{Agree}
 
@@ -49,12 +49,16 @@ has-row (e ∷ es) x y h = ⊎-elim
     (λ t. rw (row-yes e es x t) (in-tail y (e .1) (row es x) (has-row es x y j)))
     (λ f. rw (row-no e es x f) (has-row es x y j)) (either (eqb (e .0) x))) (has-cases (x, y) e es h)
 
+-- an edge counts in the row that it leaves
+pub row-length : (e : Edge) (es : List Edge) (v : ℕ) → length (row (e ∷ es) v) ≡ one (eqb (e .0) v) + length (row es v)
+row-length e es v = ⊎-elim
+    (λ h. ap length (row-yes e es v h) ∙ rw h (omega arith))
+    (λ h. ap length (row-no e es v h) ∙ rw h (omega arith)) (either (eqb (e .0) v))
+
 -- a row is no longer than the list of edges
 pub row-short : (es : List Edge) (v : ℕ) → length (row es v) ≤ length es
 row-short [] v = omega (arith, ap length (row-nil v))
-row-short (e ∷ es) v = ⊎-elim
-    (λ h. omega (arith, ap length (row-yes e es v h), row-short es v))
-    (λ h. omega (arith, ap length (row-no e es v h), row-short es v)) (either (eqb (e .0) v))
+row-short (e ∷ es) v = omega (arith, row-length e es v, one-le (eqb (e .0) v), row-short es v)
 
 -- and repeats no state, where the list repeats no edge
 pub row-once : (es : List Edge) (v : ℕ) → repeated es ≡ false → Once (row es v)
@@ -164,12 +168,12 @@ without-length (f ∷ es) e r h =
 pub row-again : (es : List Edge) (e : Edge) → row (without e es ++ (e ∷ [])) (e .0) ≡ but (e .1) (row es (e .0)) ++ (e .1 ∷ [])
 row-again es e = row-add (without e es) e ∙ ap (λ (l : List ℕ). l ++ (e .1 ∷ [])) (row-cut es e)
 
--- ---- so the graphs before and after a change agree but for the state that it names
+-- ---- so the graphs that are searched before and after a change agree but for the state that it names
 
 other-source : (e : Edge) (x : ℕ) → elem x (e .0 ∷ []) ≡ false → eqb (e .0) x ≡ false
 other-source e x o = not-true (eqb (e .0) x) (λ h. let z : e .0 ≡ x = same h in contra (rw z (in-head x [])) o)
 
-pub agree : (c : Change) (t : Table) → Agree (named c) (graphOf t) (graphOf (apply c t))
+pub agree : (c : Change) (t : Table) → Agree (named c) (searched t) (searched (apply c t))
 unfolding named apply
 agree (add e) t = record { start = refl; edges = λ x o. sym (row-add-other (t .edges) e x (other-source e x o)); acceptance = λ x o. refl }
 agree (cut e) t = record { start = refl; edges = λ x o. sym (row-cut-other (t .edges) e x (other-source e x o)); acceptance = λ x o. refl }

@@ -6,7 +6,7 @@ use mathlib.Core.Bool.{Bool, true, false}
 use mathlib.Core.List.{List, _∷_, _++_}
 use lib.ListN.{length, take, drop}
 use Rattle.plain.specs.Lists.{any, filter}
-use Rattle.plain.specs.Search.{Edge, none, lasso, unfinished, verdict, count, taken}
+use Rattle.plain.specs.Search.{Edge, Verdict, none, lasso, unfinished, verdict, count, taken}
 use Rattle.plain.specs.Cycles.{FreeRound, Lasso}
 use Rattle.plain.specs.Table.{Table, graphOf, final, firstMeeting}
 use Rattle.plain.specs.Refusals.{accepted, Load, loadTrial, sameEdge}
@@ -37,6 +37,12 @@ pub record VerdictRight (t : Table) : Type 0 where
 pub data Report : Type 0 where
   clear : Report
   round : ℕ → ℕ → List ℕ → Report
+
+-- The verdict of the plain search as a caller gets it. Of no table that a session can hold is it `unfinished` (VerdictRight, `ends`).
+unfoldable pub reportOf : Verdict → Report
+reportOf none = clear
+reportOf (lasso stem cycle) = round (length stem) (length cycle) (stem ++ cycle)
+reportOf unfinished = clear
 
 -- Demand 2 of such a verdict: "none" exactly when no free round can be reached; otherwise the walk has the lengths told, and is a stem and a round of
 -- the table.
