@@ -46,11 +46,10 @@ pub record Told (c : Call) (t : Table) (l : Line) : Type 0 where
   pub counts : LineCounted l (c .change) t
 
 pub call-told : (c : Call) (t : Table) (l : Line) → Arises t → answerLine (answerTo c t) ≡ l ∷ [] → Told c t l
-unfolding answerTo
+unfolding answerTo changeAnswer answerLine tableAfter first
 call-told c t l a e = by-trial (trialOf c t) refl e
   where
     by-trial : (x : Trial) → trialOf c t ≡ x → answerLine (changeAnswer x (c .change) t) ≡ l ∷ [] → Told c t l
-    unfolding changeAnswer answerLine tableAfter first
     by-trial accepted k f =
         let t′ = apply (c .change) t in
         let b = changed t c a k in

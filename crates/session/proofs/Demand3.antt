@@ -39,10 +39,10 @@ same-lines (x ∷ xs) t a =
 
 -- an answer that is no refusal is that of an accepted load
 load-accepted : (l : Load) (lent : List ℕ) (r : Outcome) (lent′ : List ℕ) → Loads l lent r lent′ → Accepted (r .answer) → loadTrial l (length lent) ≡ accepted
+unfolding loadAnswer answerLine shown
 load-accepted l lent r lent′ a y = by-trial (loadTrial l (length lent)) (r .answer) (a .answers) y
   where
     by-trial : (x : Trial) (b : Answer) → answerLine (loadAnswer x (tableOf l)) ≡ shown b lent′ ∷ [] → Accepted b → x ≡ accepted
-    unfolding loadAnswer answerLine shown
     by-trial accepted b e y = refl
     by-trial (refused n) (Refused m) e y = absurd y
     by-trial (refused n) (Clear spent kept) e y = let z : _≡_ {A = ℕ} 0 1 = cc in absurd (omega arith)
