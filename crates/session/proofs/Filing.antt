@@ -223,7 +223,7 @@ outside-all n h e o = ⊎-elim
     (λ t. let far : n ≤ e .1 = omega (arith, leb-true 512 (e .1) t) in outside-to (e .0) (e .1) n far)
     (or-true (leb 512 (e .0)) (leb 512 (e .1)) o)
 
-not-accepted : {n : ℕ} → Refused n ≡ Accepted → ⊥
+pub not-accepted : {n : ℕ} → Refused n ≡ Accepted → ⊥
 not-accepted e = let z : _≡_ {A = ℕ} 0 1 = cc in omega arith
 
 module _ (size start : ℕ) (words numbers : List ℕ) (room : ℕ) (targets₀ starts₀ targets starts : List ℕ) (early : Trial)

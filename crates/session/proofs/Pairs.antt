@@ -67,6 +67,11 @@ module _ (a b : ℕ) where
   unfolding outside
   outside-to n h = or-second (leb n a) (leb n b) (le-leb n b h)
 
+  -- where the first number is inside, the second decides
+  pub outside-second : (n : ℕ) → a < n → outside n (a, b) ≡ leb n b
+  unfolding outside
+  outside-second n h = ap (λ (t : Bool). t || leb n b) (lt-leb n a h)
+
   pub inside : (n : ℕ) → a < n → b < n → outside n (a, b) ≡ false
   unfolding outside
   inside n h k = or-neither (leb n a) (leb n b) (lt-leb n a h) (lt-leb n b k)

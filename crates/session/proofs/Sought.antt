@@ -120,3 +120,10 @@ numbered number s i e size (inr l) z = omega (arith, past number s (omega arith)
   where
     past : (xs : List ℕ) (j : ℕ) → length xs ≤ j → getD xs j 0 ≡ 0
     past xs j h = List·getD-eq-default xs 0 h
+
+-- from the discovery of the same state
+pub sought-as : {targets starts words : List ℕ} {start s s₂ : ℕ} {old : Verdict} {number parent index probes stamp walk : List ℕ} {r : Verdict} {number′ parent′ index′ probes′ stamp′ walk′ : List ℕ} → s ≡ s₂
+    → Sought targets starts words start s old number parent index probes stamp walk r number′ parent′ index′ probes′ stamp′ walk′
+    → Sought targets starts words start s₂ old number parent index probes stamp walk r number′ parent′ index′ probes′ stamp′ walk′
+sought-as {targets = targets} {starts = starts} {words = words} {start = start} {old = old} {number = number} {parent = parent} {index = index} {probes = probes} {stamp = stamp} {walk = walk} {r = r} {number′ = number′} {parent′ = parent′} {index′ = index′} {probes′ = probes′} {stamp′ = stamp′} {walk′ = walk′} e h =
+    subst (λ (x : ℕ). Sought targets starts words start x old number parent index probes stamp walk r number′ parent′ index′ probes′ stamp′ walk′) e h

@@ -33,14 +33,8 @@ pub enum Answer {
 
 // A change of the table's moves.
 pub enum Op {
-    Add {
-        from: u16,
-        to: u16,
-    },
-    Cut {
-        from: u16,
-        to: u16,
-    },
+    Add { from: u16, to: u16 },
+    Cut { from: u16, to: u16 },
 }
 
 // What trying a call comes to: the number of the first condition that holds.
@@ -203,9 +197,9 @@ fn load_trial(
     ensures { λ r. ⌜ Tabled (now (targets .exit)) (now (starts .exit)) ⌝ }
 {
     let early = early_trial(size, start, words, numbers);
-    let Trial::Accepted = early else {
-        return early;
-    };
+    if let Trial::Refused(n) = early {
+        return Trial::Refused(n);
+    }
     if file_all(numbers, targets, starts) {
         return Trial::Refused(8);
     }
@@ -291,13 +285,7 @@ fn cut_trial(
 }
 
 // Tries a change.
-fn change_trial(
-    op: Op,
-    size: u16,
-    targets: &[u16; 2048],
-    starts: &[u16; 513],
-    room: usize,
-) -> Trial
+fn change_trial(op: Op, size: u16, targets: &[u16; 2048], starts: &[u16; 513], room: usize) -> Trial
     requires { ⌜ Tabled (now targets) (now starts) ⌝ }
     ensures { λ r. ⌜ r ≡ tried (trialIn op size (now (targets .entry)) (now (starts .entry)) room) ⌝ }
 {

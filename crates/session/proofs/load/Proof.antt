@@ -4,13 +4,13 @@ use mathlib.Core.Logic.{⊎-elim}
 use mathlib.Core.List.{List}
 use Prim.Native.Nat.{ℕ, zero, _≤_}
 use native.Mathlib.Omega.{arith}
-use Rattle.plain.specs.Refusals.{Load}
+use Rattle.plain.specs.Refusals.{Load, loadTrial}
 use denote.Ref.{now}
 use lib.ListN.{length, set, replicate, length-set, length-replicate}
 use lib.Seq.{set-out}
 use Rattle.search.specs.Core.{none}
 use Rattle.session.proofs.Loaded.{load-refused, load-accepted}
-use Rattle.session.proofs.Held.{load-trial-zero}
+use Rattle.session.proofs.Trying.{tried-accepted}
 use borrow.Author.Needs.{needs}
 use Rattle.session.proofs.load.Statement.{statement}
 use Rattle.session.proofs.load.Tie as tie
@@ -21,12 +21,23 @@ load-trial-requires c κs = search needs
 no-game-requires : tie.Need-no-game-requires
 no-game-requires c κs = search needs
 
+enum-known-trial : tie.Need-enum-known-trial
+enum-known-trial c = search needs
+
+refused-requires : tie.Need-refused-requires
+refused-requires c κs = search needs
+
 returns : tie.Need-returns
 returns c =
-    let n = c .before .before in
-    let a = n .before .before .before .before .before .before .args in
-    load-refused (record { size = a .size; start = a .start; words = a .t3; numbers = now (a .numbers) }) (now (a .lent)) (c .no-game .result) (n .load-trial .result) (c .no-game .ensures)
-    (n .load-trial .ensures .0 .number-is refl refl) (c .before .if1 .taken)
+    let r = c .before in
+    let k = r .before .before in
+    let e = k .before .before in
+    let a = e .before .before .before .before .before .before .args in
+    load-refused (record { size = a .size; start = a .start; words = a .t3; numbers = now (a .numbers) }) (now (a .lent)) (r .refused .result) (c .no-game .result) (k .trial .given .0 .0)
+    (r .refused .ensures) (c .no-game .ensures) (sym (k .trial .given .1) ∙ e .load-trial .ensures .0 .trial-is refl refl)
+
+enum-told : tie.Need-enum-told
+enum-told c = search needs
 
 wide-requires : tie.Need-wide-requires
 wide-requires c κs = search needs
@@ -44,22 +55,28 @@ blank-then start at number e w = w ∙ ap (λ (i : ℕ). set (replicate 512 none
 blank-else : (start at : ℕ) (number : List ℕ) → at ≡ start → 512 ≤ at → number ≡ replicate 512 none → number ≡ set (replicate 512 none) start 0
 blank-else start at number e f w = w ∙ sym (set-out (replicate 512 none) start 0 (omega (arith, e, f, length-replicate 512 none)))
 
-blank : (j : tie.Joined2) → j .if2 .number ≡ set (replicate 512 none) (j .before .before .before .before .before .before .before .before .before .args .start) 0
+abbrev tried-at : tie.Joined1 → tie.After-load-trial
+tried-at j = j .before .before .before .before
+
+abbrev begun : tie.Joined1 → tie.Start
+begun j = tried-at j .before .before .before .before .before .before
+
+blank : (j : tie.Joined1) → j .if1 .number ≡ set (replicate 512 none) (begun j .args .start) 0
 blank j =
-    let start = j .before .before .before .before .before .before .before .before .before .args .start in
+    let start = begun j .args .start in
     let e : j .before .wide .result ≡ start = j .before .wide .ensures .0 in
     ⊎-elim
-    (λ w. blank-then start (j .before .wide .result) (j .if2 .number) e (w .1))
-    (λ w. blank-else start (j .before .wide .result) (j .if2 .number) e (w .0 .left) (w .1))
-    (j .if2 .came)
+    (λ w. blank-then start (j .before .wide .result) (j .if1 .number) e (w .1))
+    (λ w. blank-else start (j .before .wide .result) (j .if1 .number) e (w .0 .left) (w .1))
+    (j .if1 .came)
 
 seek-requires : tie.Need-seek-requires
 seek-requires c κs =
     let j = c .before .before .before .before .before .before .before .before .before in (
-      j .before .before .before .load-trial .ensures .1,
+      tried-at j .load-trial .ensures .1,
       record {
-        number-size = ap length (blank j) ∙ length-set (replicate 512 none) (j .before .before .before .before .before .before .before .before .before .args .start) 0 ∙ length-replicate 512 none;
-        parent-size = length-replicate 512 (j .before .before .before .before .before .before .before .before .before .args .start);
+        number-size = ap length (blank j) ∙ length-set (replicate 512 none) (begun j .args .start) 0 ∙ length-replicate 512 none;
+        parent-size = length-replicate 512 (begun j .args .start);
         index-size = length-replicate 512 zero;
         probes-size = length-replicate 512 zero;
         stamp-size = length-replicate 512 none;
@@ -85,12 +102,12 @@ returns-2 c =
     let k = w .before .before .before in
     let j = k .before .before .before .before .before .before .before .before .before .before in
     let e = j .before .before in
-    let n = e .before in
-    let a = n .before .before .before .before .before .before .args in
+    let n = tried-at j in
+    let a = begun j .args in
     let l : Load = record { size = a .size; start = a .start; words = a .t3; numbers = now (a .numbers) } in
     load-accepted l (now (a .lent)) _ _ _ _ _ _ _ _ _ (replicate 512 zero) (k .seek .result)
-    (load-trial-zero l (length (now (a .lent))) (sym (n .load-trial .ensures .0 .number-is refl refl) ∙ e .if1 .left)) (n .load-trial .ensures .0 .filed refl refl (e .if1 .left)) (length-replicate 512 zero)
-    (j .if2 .number) (blank j) (k .seek .ensures .0) (w .write-walk .ensures)
+    (tried-accepted (loadTrial l (length (now (a .lent)))) (sym (n .load-trial .ensures .0 .trial-is refl refl) ∙ e .enum-told .given .1)) (n .load-trial .ensures .0 .filed refl refl (e .enum-told .given .1)) (length-replicate 512 zero)
+    (j .if1 .number) (blank j) (k .seek .ensures .0) (w .write-walk .ensures)
     (c .before .answer-of .result) (c .total-of .result) (c .before .answer-of .ensures) (c .total-of .ensures)
 
 pub load-spec : {M : Type 1} → statement M
@@ -98,8 +115,11 @@ load-spec =
     tie.close
     (tie.spec
     load-trial-requires
+    enum-known-trial
+    refused-requires
     no-game-requires
     returns
+    enum-told
     wide-requires
     mul-number
     array-write-number
