@@ -1,8 +1,8 @@
 // Replays a script of loads and changes on a session, and prints what each answers.
 // A script is a list of 16-bit numbers, the low byte first: 1 and a load, 2 and an add, 3 and a cut, 0 at the end.
 use session::Answer;
-use session::Op;
 use session::Outcome;
+use session::Session;
 ghost use Prim.Native.Nat.{_≤_, _<_};
 
 // Casts that say how large the result is, so that sums of it are seen to fit.
@@ -135,9 +135,9 @@ fn print_walk(lent: &[u16], count: usize) {
 
 fn print_answer(answer: Answer, lent: &[u16]) {
     match answer {
-        Answer::Refused(n) => {
+        Answer::Refused(r) => {
             print_line(0);
-            print_line(long(n));
+            print_line(long(r.number));
         }
         Answer::Clear { spent, kept } => {
             print_line(1);
@@ -173,11 +173,15 @@ fn load_at(text: &[u8], at: usize, lent: &mut [u16]) -> Outcome {
     session::load(size, start, words, &list[..count], &mut lent[..room])
 }
 
-fn op_of(what: u16) -> Op {
+// The change at a place, with as much of the list lent as it says.
+fn change_at(text: &[u8], at: usize, what: u16, s: Session, lent: &mut [u16]) -> Outcome {
+    let from = number_at(text, at, 2);
+    let to = number_at(text, at, 4);
+    let room = least(wide(number_at(text, at, 6)), lent.len());
     if what == 3 {
-        return Op::Cut;
+        return session::cut(s, from, to, &mut lent[..room]);
     }
-    Op::Add
+    session::add(s, from, to, &mut lent[..room])
 }
 
 // How many bytes the load or change at a place has.
@@ -206,10 +210,7 @@ fn main() {
         if what == 1 {
             c = load_at(&text, at, &mut lent);
         } else {
-            let from = number_at(&text, at, 2);
-            let to = number_at(&text, at, 4);
-            let room = least(wide(number_at(&text, at, 6)), 600);
-            c = session::change(c.session, op_of(what), from, to, &mut lent[..room]);
+            c = change_at(&text, at, what, c.session, &mut lent);
         }
         let answer = c.answer;
         print_answer(answer, &lent);

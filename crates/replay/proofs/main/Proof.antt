@@ -60,47 +60,14 @@ slice-aggregate-load-at-4 c = search needs
 load-at-requires-2 : tie.Need-load-at-requires-2 Inv-loop μ-loop
 load-at-requires-2 c κs = search needs
 
-slice-aggregate-number-at-2 : tie.Need-slice-aggregate-number-at-2 Inv-loop μ-loop
-slice-aggregate-number-at-2 c = search needs
+slice-aggregate-change-at : tie.Need-slice-aggregate-change-at Inv-loop μ-loop
+slice-aggregate-change-at c = search needs
 
-number-at-requires-2 : tie.Need-number-at-requires-2 Inv-loop μ-loop
-number-at-requires-2 c κs = search needs
+slice-aggregate-change-at-2 : tie.Need-slice-aggregate-change-at-2 Inv-loop μ-loop
+slice-aggregate-change-at-2 c = search needs
 
-slice-aggregate-number-at-3 : tie.Need-slice-aggregate-number-at-3 Inv-loop μ-loop
-slice-aggregate-number-at-3 c = search needs
-
-number-at-requires-3 : tie.Need-number-at-requires-3 Inv-loop μ-loop
-number-at-requires-3 c κs = search needs
-
-slice-aggregate-number-at-4 : tie.Need-slice-aggregate-number-at-4 Inv-loop μ-loop
-slice-aggregate-number-at-4 c = search needs
-
-number-at-requires-4 : tie.Need-number-at-requires-4 Inv-loop μ-loop
-number-at-requires-4 c κs = search needs
-
-wide-requires : tie.Need-wide-requires Inv-loop μ-loop
-wide-requires c κs = search needs
-
-least-requires : tie.Need-least-requires Inv-loop μ-loop
-least-requires c κs = search needs
-
-op-of-requires : tie.Need-op-of-requires Inv-loop μ-loop
-op-of-requires c κs = search needs
-
-array-borrow-prefix-lent : tie.Need-array-borrow-prefix-lent Inv-loop μ-loop
-array-borrow-prefix-lent c = search needs
-
-slice-aggregate-change : tie.Need-slice-aggregate-change Inv-loop μ-loop
-slice-aggregate-change c = sym (length-take-le _ _ (array-borrow-prefix-lent (c .before)))
-
-change-requires : tie.Need-change-requires Inv-loop μ-loop
-change-requires c κs = search needs
-
--- a part that is put back in its place, as long as it was, leaves the whole as long
-put-back : (k : ℕ) (part whole : List ℕ) → length part ≡ length (take k whole) → length (part ++ drop k whole) ≡ length whole
-put-back k part whole same =
-    length-append part (drop k whole) ∙ ap (λ (n : ℕ). n + length (drop k whole)) same
-    ∙ sym (length-append (take k whole) (drop k whole)) ∙ ap length (take-append-drop k whole)
+change-at-requires : tie.Need-change-at-requires Inv-loop μ-loop
+change-at-requires c κs = search needs
 
 -- after either branch the lent array is as long as before
 lent-length : (c : tie.Joined2 Inv-loop μ-loop) → length (c .if2 .lent) ≡ 600
@@ -108,7 +75,7 @@ lent-length c =
     let f = c .before .before in
     let filled : length (f .fill .last .0) ≡ 600 = f .fill .kept .0 ∙ f .before .before .before .before .before .before .loop .inv .2 in
     ⊎-elim (λ w. ap length (w .5) ∙ w .3 .kept .1 .1 .0 ∙ filled)
-    (λ w. ap length (w .13) ∙ put-back (w .8 .result) (w .11 .last .1 .1 .1 .1 .0) (f .fill .last .0) (w .11 .kept .1 .1 .1 .1 .0) ∙ filled)
+    (λ w. ap length (w .5) ∙ w .3 .kept .1 .1 .1 .1 .0 ∙ filled)
     (c .if2 .came)
 
 slice-aggregate-print-answer : tie.Need-slice-aggregate-print-answer Inv-loop μ-loop
@@ -159,18 +126,9 @@ main-spec =
     slice-aggregate-load-at-3
     slice-aggregate-load-at-4
     load-at-requires-2
-    slice-aggregate-number-at-2
-    number-at-requires-2
-    slice-aggregate-number-at-3
-    number-at-requires-3
-    slice-aggregate-number-at-4
-    number-at-requires-4
-    wide-requires
-    least-requires
-    op-of-requires
-    array-borrow-prefix-lent
-    slice-aggregate-change
-    change-requires
+    slice-aggregate-change-at
+    slice-aggregate-change-at-2
+    change-at-requires
     slice-aggregate-print-answer
     print-answer-requires
     slice-aggregate-size-at
