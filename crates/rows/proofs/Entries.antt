@@ -8,7 +8,7 @@ use mathlib.Core.List.{List, [], _∷_, _++_}
 use lib.ListN.{length, getD, take, drop, drop-of-length-le}
 use lib.Seq.{ext-getD, drop-cons, take-at, drop-at}
 use borrow.Author.Tests.{eq-eqb, ne-eqb}
-use Rattle.rows.specs.Rows.{entries, degreeAt, rowAt, placeOf}
+use Rattle.rows.specs.Rows.{entries, degreeAt, rowAt, placeOf, Compressed}
 use Rattle.rows.proofs.Paste.{past, same-place}
 
 pub entries-length : (n at : ℕ) (xs : List ℕ) → length (entries n at xs) ≡ n
@@ -74,8 +74,9 @@ module _ (targets starts : List ℕ) where
   unfolding rowAt entries
   row-none v e = ap (λ (n : ℕ). entries n (getD starts v 0) targets) e
 
-  pub no-row : length starts ≡ 513 → (v : ℕ) → 512 ≤ v → rowAt targets starts v ≡ []
-  no-row size v h = row-none v (omega (arith, past starts (suc v) (omega arith)))
+  -- no edge leaves a state of the size or above
+  pub no-row : (size : ℕ) → Compressed size targets starts → (v : ℕ) → size ≤ v → rowAt targets starts v ≡ []
+  no-row size good v h = row-none v (omega (arith, good .behind (suc v) (omega arith)))
 
 -- a row is another if it is as long and its entries are the same
 pub row-same : (xs ss xs′ ss′ : List ℕ) (u : ℕ) → degreeAt ss′ u ≡ degreeAt ss u → ((i : ℕ) → i < degreeAt ss u → getD xs′ (getD ss′ u 0 + i) 0 ≡ getD xs (getD ss u 0 + i) 0) → rowAt xs′ ss′ u ≡ rowAt xs ss u
