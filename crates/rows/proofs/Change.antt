@@ -29,7 +29,7 @@ module _ (size : ℕ) (xs ss : List ℕ) (good : Compressed size xs ss) where
       let e : i + (j - i) ≡ j = omega arith in
       omega (arith, rises (j - i) i (omega arith), same-place ss e)
 
-  row-end : (v : ℕ) → v < size → getD ss (suc v) 0 ≤ edgeCount size ss
+  row-end : (v : ℕ) → v < size → getD ss (suc v) 0 ≤ edgeCount ss size
   row-end v h = starts-rise (suc v) size h (omega arith)
 
 -- The starts behind v are more and less than before, the entries behind its row moved with them.
@@ -40,9 +40,9 @@ record Shifted (size : ℕ) (xs ss : List ℕ) (v more less : ℕ) (xs′ ss′ 
   behind : (u : ℕ) → v < u → u ≤ size → getD ss′ u 0 + less ≡ getD ss u 0 + more
   last : (u : ℕ) → size < u → getD ss′ u 0 ≡ getD ss u 0
   room : getD ss v 0 + less ≤ getD ss (suc v) 0 + more
-  fits : edgeCount size ss + more ≤ 2048 + less
+  fits : edgeCount ss size + more ≤ 2048 + less
   kept : (i : ℕ) → i < getD ss v 0 → getD xs′ i 0 ≡ getD xs i 0
-  moved : (i j : ℕ) → getD ss (suc v) 0 ≤ i → i < edgeCount size ss → j + less ≡ i + more → getD xs′ j 0 ≡ getD xs i 0
+  moved : (i j : ℕ) → getD ss (suc v) 0 ≤ i → i < edgeCount ss size → j + less ≡ i + more → getD xs′ j 0 ≡ getD xs i 0
 
 module _ (size : ℕ) (xs ss : List ℕ) (v more less : ℕ) (xs′ ss′ : List ℕ) (good : Compressed size xs ss) (small : v < size) (s : Shifted size xs ss v more less xs′ ss′) where
   still-rising : (u : ℕ) → u < size → getD ss′ u 0 ≤ getD ss′ (suc u) 0
@@ -96,15 +96,15 @@ module _ (size : ℕ) (xs ss : List ℕ) (v more less : ℕ) (xs′ ss′ : List
   changed row e = record { compressed = still-compressed; here = e; others = other-row }
 
 -- An edge to t is put in behind the row of v.
-module _ (size : ℕ) (xs ss : List ℕ) (v t : ℕ) (good : Compressed size xs ss) (small : v < size) (free : edgeCount size ss < 2048) (xs′ ss′ : List ℕ) (targets : xs′ ≡ opened xs (getD ss (suc v) 0) (edgeCount size ss) t) (starts : ss′ ≡ movedStarts true ss (suc v) size) where
-  space : edgeCount size ss < length xs
+module _ (size : ℕ) (xs ss : List ℕ) (v t : ℕ) (good : Compressed size xs ss) (small : v < size) (free : edgeCount ss size < 2048) (xs′ ss′ : List ℕ) (targets : xs′ ≡ opened xs (getD ss (suc v) 0) (edgeCount ss size) t) (starts : ss′ ≡ movedStarts true ss (suc v) size) where
+  space : edgeCount ss size < length xs
   space = omega (arith, good .targets-length)
 
   inside : size < length ss
   inside = omega (arith, good .starts-length, good .states)
 
   open-before : (i : ℕ) → i < getD ss (suc v) 0 → getD xs′ i 0 ≡ getD xs i 0
-  open-before = opened-before xs (getD ss (suc v) 0) (edgeCount size ss) t (row-end size xs ss good v small) space xs′ targets
+  open-before = opened-before xs (getD ss (suc v) 0) (edgeCount ss size) t (row-end size xs ss good v small) space xs′ targets
 
   one-more : (u : ℕ) → v < u → u ≤ size → getD ss′ u 0 ≡ getD ss u 0 + 1
   one-more u l h =
@@ -113,7 +113,7 @@ module _ (size : ℕ) (xs ss : List ℕ) (v t : ℕ) (good : Compressed size xs 
   pushed : Shifted size xs ss v 1 0 xs′ ss′
   pushed =
       record {
-        targets-length = opened-length xs (getD ss (suc v) 0) (edgeCount size ss) t (row-end size xs ss good v small) space xs′ targets ∙ good .targets-length;
+        targets-length = opened-length xs (getD ss (suc v) 0) (edgeCount ss size) t (row-end size xs ss good v small) space xs′ targets ∙ good .targets-length;
         starts-length = moved-length true ss (suc v) size small inside ss′ starts ∙ good .starts-length;
         before = λ u h. moved-before true ss (suc v) size small inside ss′ starts u (omega arith);
         behind = λ u l h. omega (arith, one-more u l h);
@@ -122,7 +122,7 @@ module _ (size : ℕ) (xs ss : List ℕ) (v t : ℕ) (good : Compressed size xs 
         fits = omega arith;
         kept = λ i h. open-before i (omega (arith, good .rising v small));
         moved = λ i j l h e.
-            same-place xs′ (omega arith) ∙ opened-behind xs (getD ss (suc v) 0) (edgeCount size ss) t (row-end size xs ss good v small) space xs′ targets i l h;
+            same-place xs′ (omega arith) ∙ opened-behind xs (getD ss (suc v) 0) (edgeCount ss size) t (row-end size xs ss good v small) space xs′ targets i l h;
       }
 
   longer-row : rowAt xs′ ss′ v ≡ rowAt xs ss v ++ (t ∷ [])
@@ -137,27 +137,27 @@ module _ (size : ℕ) (xs ss : List ℕ) (v t : ℕ) (good : Compressed size xs 
       ∙ entries-add d 1 a xs′
       ∙ ap₂ {A = List ℕ} {B = List ℕ} (λ r s. r ++ s)
       (entries-same d a a xs′ xs (λ i h. open-before (a + i) (omega arith)))
-      (ap {B = List ℕ} (λ x. x ∷ []) (same-place xs′ end ∙ opened-at xs (getD ss (suc v) 0) (edgeCount size ss) t (row-end size xs ss good v small) space xs′ targets))
+      (ap {B = List ℕ} (λ x. x ∷ []) (same-place xs′ end ∙ opened-at xs (getD ss (suc v) 0) (edgeCount ss size) t (row-end size xs ss good v small) space xs′ targets))
 
   opens-row : Inserted size xs ss v t xs′ ss′
   opens-row = record { rows = changed size xs ss v 1 0 xs′ ss′ good small pushed (rowAt xs ss v ++ (t ∷ [])) longer-row; count = one-more size small (omega arith) }
 
 -- Edge k of v is taken out.
-module _ (size : ℕ) (xs ss : List ℕ) (v k : ℕ) (good : Compressed size xs ss) (small : v < size) (there : k < degreeAt ss v) (xs′ ss′ : List ℕ) (targets : xs′ ≡ shut xs (getD ss v 0 + k) (edgeCount size ss)) (starts : ss′ ≡ movedStarts false ss (suc v) size) where
-  ahead : getD ss v 0 + k < edgeCount size ss
+module _ (size : ℕ) (xs ss : List ℕ) (v k : ℕ) (good : Compressed size xs ss) (small : v < size) (there : k < degreeAt ss v) (xs′ ss′ : List ℕ) (targets : xs′ ≡ shut xs (getD ss v 0 + k) (edgeCount ss size)) (starts : ss′ ≡ movedStarts false ss (suc v) size) where
+  ahead : getD ss v 0 + k < edgeCount ss size
   ahead = omega (arith, row-end size xs ss good v small)
 
-  held : edgeCount size ss ≤ length xs
+  held : edgeCount ss size ≤ length xs
   held = omega (arith, good .targets-length, good .within)
 
   ends-inside : size < length ss
   ends-inside = omega (arith, good .starts-length, good .states)
 
   closed-before : (i : ℕ) → i < getD ss v 0 + k → getD xs′ i 0 ≡ getD xs i 0
-  closed-before = shut-before xs (getD ss v 0 + k) (edgeCount size ss) ahead held xs′ targets
+  closed-before = shut-before xs (getD ss v 0 + k) (edgeCount ss size) ahead held xs′ targets
 
-  closed-behind : (i : ℕ) → getD ss v 0 + k ≤ i → suc i < edgeCount size ss → getD xs′ i 0 ≡ getD xs (suc i) 0
-  closed-behind = shut-behind xs (getD ss v 0 + k) (edgeCount size ss) ahead held xs′ targets
+  closed-behind : (i : ℕ) → getD ss v 0 + k ≤ i → suc i < edgeCount ss size → getD xs′ i 0 ≡ getD xs (suc i) 0
+  closed-behind = shut-behind xs (getD ss v 0 + k) (edgeCount ss size) ahead held xs′ targets
 
   one-less : (u : ℕ) → v < u → u ≤ size → getD ss′ u 0 + 1 ≡ getD ss u 0
   one-less u l h =
@@ -166,7 +166,7 @@ module _ (size : ℕ) (xs ss : List ℕ) (v k : ℕ) (good : Compressed size xs 
   pulled : Shifted size xs ss v 0 1 xs′ ss′
   pulled =
       record {
-        targets-length = shut-length xs (getD ss v 0 + k) (edgeCount size ss) ahead held xs′ targets ∙ good .targets-length;
+        targets-length = shut-length xs (getD ss v 0 + k) (edgeCount ss size) ahead held xs′ targets ∙ good .targets-length;
         starts-length = moved-length false ss (suc v) size small ends-inside ss′ starts ∙ good .starts-length;
         before = λ u h. moved-before false ss (suc v) size small ends-inside ss′ starts u (omega arith);
         behind = λ u l h. omega (arith, one-less u l h);
@@ -206,18 +206,18 @@ either false f g = g refl
 
 module _ (size v t : ℕ) (r r′ : Rows) (new : r′ ≡ inserted size v t r) where
   pub inserted-lengths : (length (r .targets) ≡ 2048) × (length (r .starts) ≡ 513) → (length (r′ .targets) ≡ 2048) × (length (r′ .starts) ≡ 513)
-  inserted-lengths l = either (hasRoom size v (r .starts))
+  inserted-lengths l = either (hasRoom (r .starts) size v)
       (λ e.
       let w = new ∙ inserted-room size v t r e in
       let f = room-is size v (r .starts) e in (
-        opened-length (r .targets) (getD (r .starts) (suc v) 0) (edgeCount size (r .starts)) t (f .2) (omega (arith, l .0)) (r′ .targets) (ap (λ (x : Rows). x .targets) w) ∙ l .0,
+        opened-length (r .targets) (getD (r .starts) (suc v) 0) (edgeCount (r .starts) size) t (f .2) (omega (arith, l .0)) (r′ .targets) (ap (λ (x : Rows). x .targets) w) ∙ l .0,
         moved-length true (r .starts) (suc v) size (f .1) (omega (arith, l .1)) (r′ .starts) (ap (λ (x : Rows). x .starts) w) ∙ l .1,
       ))
       (λ e.
       let w = new ∙ inserted-none size v t r e in
       (ap (λ (x : Rows). length (x .targets)) w ∙ l .0, ap (λ (x : Rows). length (x .starts)) w ∙ l .1))
 
-  pub inserts-edge : Compressed size (r .targets) (r .starts) → v < size → edgeCount size (r .starts) < 2048
+  pub inserts-edge : Compressed size (r .targets) (r .starts) → v < size → edgeCount (r .starts) size < 2048
       → Inserted size (r .targets) (r .starts) v t (r′ .targets) (r′ .starts)
   inserts-edge good small free =
       let w = new ∙ inserted-room size v t r (room size v (r .starts) (good .states) small (row-end size (r .targets) (r .starts) good v small) free) in
@@ -225,11 +225,11 @@ module _ (size v t : ℕ) (r r′ : Rows) (new : r′ ≡ inserted size v t r) w
 
 module _ (size v k : ℕ) (r r′ : Rows) (new : r′ ≡ removed size v k r) where
   pub removed-lengths : (length (r .targets) ≡ 2048) × (length (r .starts) ≡ 513) → (length (r′ .targets) ≡ 2048) × (length (r′ .starts) ≡ 513)
-  removed-lengths l = either (hasPlace size v k (r .starts))
+  removed-lengths l = either (hasPlace (r .starts) size v k)
       (λ e.
       let w = new ∙ removed-place size v k r e in
       let f = place-is size v (r .starts) k e in (
-        shut-length (r .targets) (getD (r .starts) v 0 + k) (edgeCount size (r .starts)) (f .2) (omega (arith, l .0)) (r′ .targets) (ap (λ (x : Rows). x .targets) w) ∙ l .0,
+        shut-length (r .targets) (getD (r .starts) v 0 + k) (edgeCount (r .starts) size) (f .2) (omega (arith, l .0)) (r′ .targets) (ap (λ (x : Rows). x .targets) w) ∙ l .0,
         moved-length false (r .starts) (suc v) size (f .1) (omega (arith, l .1)) (r′ .starts) (ap (λ (x : Rows). x .starts) w) ∙ l .1,
       ))
       (λ e.

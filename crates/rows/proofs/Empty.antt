@@ -15,7 +15,7 @@ reads-same (suc n) (suc i) a = reads-same n i a
 pub empty-row : (v : ℕ) → rowAt (replicate 2048 0) (replicate 513 0) v ≡ []
 empty-row v = row-none (replicate 2048 0) (replicate 513 0) v (omega (arith, reads-same 513 v 0, reads-same 513 (suc v) 0))
 
-pub empty-count : (size : ℕ) → edgeCount size (replicate 513 0) ≡ 0
+pub empty-count : (size : ℕ) → edgeCount (replicate 513 0) size ≡ 0
 empty-count size = reads-same 513 size 0
 
 pub empty-compressed : (size : ℕ) → size ≤ 512 → Compressed size (replicate 2048 0) (replicate 513 0)

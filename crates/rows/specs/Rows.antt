@@ -20,8 +20,8 @@ unfoldable pub rowAt : List ℕ → List ℕ → ℕ → List ℕ
 rowAt targets starts v = entries (degreeAt starts v) (getD starts v 0) targets
 
 -- the count of edges: where the rows of the states below a size end
-abbrev pub edgeCount : (size : ℕ) → List ℕ → ℕ
-edgeCount size starts = getD starts size 0
+abbrev pub edgeCount : List ℕ → ℕ → ℕ
+edgeCount starts size = getD starts size 0
 
 -- the place of the first t, the length of the list where there is none
 unfoldable pub placeOf : ℕ → List ℕ → ℕ
@@ -36,7 +36,7 @@ pub record Compressed (size : ℕ) (targets starts : List ℕ) : Type 0 where
   pub states : size ≤ 512
   pub first : getD starts 0 0 ≡ 0
   pub rising : (v : ℕ) → v < size → getD starts v 0 ≤ getD starts (suc v) 0
-  pub within : edgeCount size starts ≤ 2048
+  pub within : edgeCount starts size ≤ 2048
   pub behind : (v : ℕ) → size < v → getD starts v 0 ≡ 0
 
 -- one row is another, every other row is as it was
@@ -48,9 +48,9 @@ pub record Changed (size : ℕ) (targets starts : List ℕ) (v : ℕ) (row : Lis
 -- an edge to t is the newest of the row of v
 pub record Inserted (size : ℕ) (targets starts : List ℕ) (v t : ℕ) (targets′ starts′ : List ℕ) : Type 0 where
   pub rows : Changed size targets starts v (rowAt targets starts v ++ (t ∷ [])) targets′ starts′
-  pub count : edgeCount size starts′ ≡ edgeCount size starts + 1
+  pub count : edgeCount starts′ size ≡ edgeCount starts size + 1
 
 -- edge k of v is gone, the others of the row keep their order
 pub record Removed (size : ℕ) (targets starts : List ℕ) (v k : ℕ) (targets′ starts′ : List ℕ) : Type 0 where
   pub rows : Changed size targets starts v (take k (rowAt targets starts v) ++ drop (suc k) (rowAt targets starts v)) targets′ starts′
-  pub count : edgeCount size starts′ + 1 ≡ edgeCount size starts
+  pub count : edgeCount starts′ size + 1 ≡ edgeCount starts size

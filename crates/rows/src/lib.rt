@@ -34,10 +34,10 @@ pub fn start_of(starts: &[u16; 513], v: usize) -> u16
     if v < STARTS { starts[v] } else { 0 }
 }
 
-// The count of all edges: the rows of the states below size end there.
+// The count of all edges: where the rows of the states below size end.
 pub fn edge_count(starts: &[u16; 513], size: u16) -> u16
     requires { ⌜ length (now starts) ≡ 513 ⌝ }
-    ensures { λ r. ⌜ r ≡ edgeCount size (now (starts .entry)) ⌝ }
+    ensures { λ r. ⌜ r ≡ edgeCount (now (starts .entry)) size ⌝ }
 {
     start_of(starts, wide(size))
 }
@@ -111,7 +111,7 @@ fn shift_down(targets: &mut [u16; 2048], at: usize, count: usize)
     }
 }
 
-// A start one place further up, or down. No rows have a start at the largest number, or one to move down at 0: those stay, so that any array is safe.
+// A start one place further up, or down. The largest number and 0 stay: no rows have such a start to move, other arrays may.
 fn moved_one(x: u16, up: bool) -> u16
     ensures { λ r. ⌜ r ≡ movedOne up x ⌝ }
 {
@@ -121,7 +121,7 @@ fn moved_one(x: u16, up: bool) -> u16
     if 0 < x { x - 1 } else { x }
 }
 
-// The starts from one to another are all one place further up, or down, as the entries that they point at.
+// Every start from one to the last, the last too, moves one place up, or down: so did the rows that start there.
 fn move_starts(starts: &mut [u16; 513], from: usize, last: usize, up: bool)
     requires { ⌜ (from ≤ last) × (last < 513) × (length (now starts) ≡ 513) ⌝ }
     ensures { λ r. ⌜ now (starts .exit) ≡ movedStarts up (now (starts .entry)) from last ⌝ }
@@ -134,21 +134,21 @@ fn move_starts(starts: &mut [u16; 513], from: usize, last: usize, up: bool)
     }
 }
 
-// An edge from v to t, the newest of the row of v: what stands behind moves up by one place. Where it has no room nothing is done.
+// An edge from v to t, the newest of the row of v: what stands behind moves up by one place. Where it has no room, nothing is done.
 pub fn insert(targets: &mut [u16; 2048], starts: &mut [u16; 513], size: u16, v: u16, t: u16)
     requires { ⌜ (length (now targets) ≡ 2048) × (length (now starts) ≡ 513) ⌝ }
     ensures { λ r. ⌜ rowsOf (now (targets .exit)) (now (starts .exit)) ≡ inserted size v t (rowsOf (now (targets .entry)) (now (starts .entry))) ⌝ }
 {
-    let next = wide(v) + 1;
-    let at = wide(start_of(starts, next));
+    let i = wide(v);
+    let at = wide(start_of(starts, i + 1));
     let count = wide(edge_count(starts, size));
     if size <= STATES && v < size && at <= count && count < EDGES {
         shift_up(targets, at, count, t);
-        move_starts(starts, next, wide(size), true);
+        move_starts(starts, i + 1, wide(size), true);
     }
 }
 
-// Edge k of v is taken out: what stands behind moves down by one place. Where there is none nothing is done.
+// Edge k of v is taken out: what stands behind moves down by one place. Where there is none, nothing is done.
 pub fn remove(targets: &mut [u16; 2048], starts: &mut [u16; 513], size: u16, v: u16, k: u16)
     requires { ⌜ (length (now targets) ≡ 2048) × (length (now starts) ≡ 513) ⌝ }
     ensures { λ r. ⌜ rowsOf (now (targets .exit)) (now (starts .exit)) ≡ removed size v k (rowsOf (now (targets .entry)) (now (starts .entry))) ⌝ }

@@ -18,7 +18,7 @@ start c = c .before .before .before .before .before .before .before
 
 -- the place and the count that were read
 found : (c : tie.After-wide3) → (c .before .before .before .wide2 .result ≡ getD (now (start c .args .starts)) (suc (start c .args .v)) 0)
-    × (c .wide3 .result ≡ edgeCount (start c .args .size) (now (start c .args .starts)))
+    × (c .wide3 .result ≡ edgeCount (now (start c .args .starts)) (start c .args .size))
 found c =
     let s = c .before .before .before .before in (
       c .before .before .before .wide2 .ensures .0 ∙ s .start-of .ensures ∙ same-place (now (start c .args .starts)) (omega arith),
@@ -33,8 +33,8 @@ passed c = (omega (arith, c .before .before .before .if1 .taken), omega (arith, 
 wide-requires : tie.Need-wide-requires
 wide-requires c κs = search needs
 
-add-next : tie.Need-add-next
-add-next c = search needs
+add-start-of : tie.Need-add-start-of
+add-start-of c = search needs
 
 start-of-requires : tie.Need-start-of-requires
 start-of-requires c κs = search needs
@@ -50,6 +50,9 @@ wide-requires-3 c κs = search needs
 
 shift-up-requires : tie.Need-shift-up-requires
 shift-up-requires c κs = search needs
+
+add-move-starts : tie.Need-add-move-starts
+add-move-starts c = search needs
 
 wide-requires-4 : tie.Need-wide-requires-4
 wide-requires-4 c κs = search needs
@@ -81,12 +84,13 @@ insert-spec =
     tie.close
     (tie.spec
     wide-requires
-    add-next
+    add-start-of
     start-of-requires
     wide-requires-2
     edge-count-requires
     wide-requires-3
     shift-up-requires
+    add-move-starts
     wide-requires-4
     move-starts-requires
     returns

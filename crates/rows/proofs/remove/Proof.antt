@@ -22,7 +22,7 @@ at c = c .before .before .before .before .wide2 .result + c .before .before .bef
 
 -- the place and the count that were read
 found : (c : tie.After-wide4) → (at c ≡ getD (now (start c .args .starts)) (start c .args .v) 0 + start c .args .k)
-    × (c .wide4 .result ≡ edgeCount (start c .args .size) (now (start c .args .starts)))
+    × (c .wide4 .result ≡ edgeCount (now (start c .args .starts)) (start c .args .size))
 found c =
     let s = c .before .before .before .before .before in
     let from = s .start-of .ensures ∙ same-place (now (start c .args .starts)) (s .before .before .wide .ensures .0) in
