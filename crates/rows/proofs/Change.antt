@@ -2,13 +2,13 @@
 use Prim.Native.Nat.{ℕ, zero, suc, _+_, _-_, _≤_, _<_}
 use native.Mathlib.Decide.{ℕ-discrete, decLt}
 use native.Mathlib.Omega.{arith}
-use mathlib.Core.Path.{_≡_, refl, sym, ap, ap₂, subst, _∙_}
+use mathlib.Core.Path.{_≡_, refl, sym, ap, ap₂, _∙_}
 use mathlib.Core.Bool.{Bool, true, false}
 use mathlib.Core.List.{List, [], _∷_, _++_}
 use lib.ListN.{length, getD, take, drop}
 use Rattle.rows.specs.Rows.{entries, degreeAt, rowAt, edgeCount, Compressed, Changed, Inserted, Removed}
 use Rattle.rows.specs.Shift.{opened, shut, movedStarts}
-use Rattle.rows.specs.Change.{Rows, rowsOf, hasRoom, inserted, hasPlace, removed}
+use Rattle.rows.specs.Change.{Rows, hasRoom, inserted, hasPlace, removed}
 use Rattle.rows.proofs.Paste.{same-place}
 use Rattle.rows.proofs.Shifts.{opened-length, opened-before, opened-at, opened-behind, shut-length, shut-before, shut-behind, moved-length, moved-before, moved-within, moved-behind}
 use Rattle.rows.proofs.Entries.{entries-same, entries-add, entries-take, entries-drop, no-row, row-same}

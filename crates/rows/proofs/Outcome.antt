@@ -1,4 +1,4 @@
--- When an edge has room, or a place; what is made of the arrays then, and what not. Assumes nothing.
+-- When there is room for an edge, or a place of one, and what is made of the arrays then and else. Assumes nothing.
 use Prim.Native.Nat.{ℕ, suc, _+_, _≤_, _<_}
 use mathlib.Core.Path.{_≡_, refl, sym, ap, _∙_}
 use mathlib.Core.Bool.{Bool, true, false, cond, _&&_, true≢false}

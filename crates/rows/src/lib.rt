@@ -1,5 +1,5 @@
 // The edges as compressed rows: the targets of v's edges stand at starts[v] to starts[v + 1], oldest first.
-// The states are those below a size; behind starts[size], which is the count of edges, every start is 0.
+// The states are the numbers below a size: starts[size] is the count of edges, and every start behind it is 0, so that a change moves no more starts than the table has.
 // Every function is safe for any contents of the arrays.
 ghost use mathlib.Core.Path.{_≡_};
 ghost use Prim.Native.Nat.{_<_, _≤_};
@@ -8,16 +8,16 @@ ghost use Rattle.rows.specs.Rows.{degreeAt, rowAt, edgeCount, placeOf};
 ghost use Rattle.rows.specs.Shift.{opened, shut, movedOne, movedStarts};
 ghost use Rattle.rows.specs.Change.{rowsOf, inserted, removed};
 
-// The most states.
+// The most states of a table.
 const STATES: u16 = 512;
 
 // A start for each state, and one behind the last.
 const STARTS: usize = 513;
 
-// The most edges.
+// The most edges of a table.
 const EDGES: usize = 2048;
 
-// The largest number that a start can be.
+// The largest number that an array can hold.
 const LARGEST: u16 = 65535;
 
 fn wide(x: u16) -> usize
@@ -111,7 +111,7 @@ fn shift_down(targets: &mut [u16; 2048], at: usize, count: usize)
     }
 }
 
-// A start one place further up, or down. The largest number and 0 stay: no rows have such a start to move, other arrays may.
+// A start one place further up, or down. The largest number stays, and 0: rows have no such start to move, other arrays may.
 fn moved_one(x: u16, up: bool) -> u16
     ensures { λ r. ⌜ r ≡ movedOne up x ⌝ }
 {
@@ -121,7 +121,7 @@ fn moved_one(x: u16, up: bool) -> u16
     if 0 < x { x - 1 } else { x }
 }
 
-// Every start from one to the last, the last too, moves one place up, or down: so did the rows that start there.
+// The starts from one to the last, and the last itself, are one place further up, or down: so are the rows that start there.
 fn move_starts(starts: &mut [u16; 513], from: usize, last: usize, up: bool)
     requires { ⌜ (from ≤ last) × (last < 513) × (length (now starts) ≡ 513) ⌝ }
     ensures { λ r. ⌜ now (starts .exit) ≡ movedStarts up (now (starts .entry)) from last ⌝ }
