@@ -2,19 +2,21 @@
 use Prim.Native.Nat.{ℕ, zero, suc, _+_, _-_, _≤_, _<_}
 use native.Mathlib.Decide.{ℕ-discrete, decLt}
 use native.Mathlib.Omega.{arith}
-use mathlib.Core.Path.{_≡_, sym, ap, ap₂, _∙_}
-use mathlib.Core.Bool.{true, false}
+use mathlib.Core.Path.{_≡_, refl, sym, ap, ap₂, _∙_}
+use mathlib.Core.Bool.{Bool, true, false}
 use mathlib.Core.List.{List, [], _∷_, _++_}
 use lib.ListN.{length, getD, take, drop}
 use Rattle.rows.specs.Rows.{entries, degreeAt, rowAt, edgeCount, Compressed, Changed, Inserted, Removed}
-use Rattle.rows.specs.Shift.{opened, shut, turned}
+use Rattle.rows.specs.Shift.{opened, shut, movedStarts}
+use Rattle.rows.specs.Change.{Rows, hasRoom, inserted, hasPlace, removed}
 use Rattle.rows.proofs.Paste.{same-place}
-use Rattle.rows.proofs.Shifts.{opened-size, opened-before, opened-at, opened-behind, shut-size, shut-before, shut-behind, turned-size, turned-before, turned-behind}
+use Rattle.rows.proofs.Shifts.{opened-length, opened-before, opened-at, opened-behind, shut-length, shut-before, shut-behind, moved-length, moved-before, moved-within, moved-behind}
 use Rattle.rows.proofs.Entries.{entries-same, entries-add, entries-take, entries-drop, no-row, row-same}
+use Rattle.rows.proofs.Outcome.{room, room-is, place, place-is, inserted-room, inserted-none, removed-place, removed-none}
 
 -- The starts rise up to the last.
-module _ (xs ss : List ℕ) (good : Compressed xs ss) where
-  rises : (k i : ℕ) → i + k ≤ 512 → getD ss i 0 ≤ getD ss (i + k) 0
+module _ (size : ℕ) (xs ss : List ℕ) (good : Compressed size xs ss) where
+  rises : (k i : ℕ) → i + k ≤ size → getD ss i 0 ≤ getD ss (i + k) 0
   rises zero i h =
       let e : i ≡ i + 0 = omega arith in
       omega (arith, same-place ss e)
@@ -22,27 +24,28 @@ module _ (xs ss : List ℕ) (good : Compressed xs ss) where
       let e : suc (i + k) ≡ i + suc k = omega arith in
       omega (arith, rises k i (omega arith), good .rising (i + k) (omega arith), same-place ss e)
 
-  pub starts-rise : (i j : ℕ) → i ≤ j → j ≤ 512 → getD ss i 0 ≤ getD ss j 0
+  starts-rise : (i j : ℕ) → i ≤ j → j ≤ size → getD ss i 0 ≤ getD ss j 0
   starts-rise i j l h =
       let e : i + (j - i) ≡ j = omega arith in
       omega (arith, rises (j - i) i (omega arith), same-place ss e)
 
-  pub row-end : (v : ℕ) → v < 512 → getD ss (suc v) 0 ≤ edgeCount ss
-  row-end v h = starts-rise (suc v) 512 h (omega arith)
+  row-end : (v : ℕ) → v < size → getD ss (suc v) 0 ≤ edgeCount ss size
+  row-end v h = starts-rise (suc v) size h (omega arith)
 
 -- The starts behind v are more and less than before, the entries behind its row moved with them.
-record Shifted (xs ss : List ℕ) (v more less : ℕ) (xs′ ss′ : List ℕ) : Type 0 where
-  targets-size : length xs′ ≡ 2048
-  starts-size : length ss′ ≡ 513
+record Shifted (size : ℕ) (xs ss : List ℕ) (v more less : ℕ) (xs′ ss′ : List ℕ) : Type 0 where
+  targets-length : length xs′ ≡ 2048
+  starts-length : length ss′ ≡ 513
   before : (u : ℕ) → u ≤ v → getD ss′ u 0 ≡ getD ss u 0
-  behind : (u : ℕ) → v < u → u ≤ 512 → getD ss′ u 0 + less ≡ getD ss u 0 + more
+  behind : (u : ℕ) → v < u → u ≤ size → getD ss′ u 0 + less ≡ getD ss u 0 + more
+  last : (u : ℕ) → size < u → getD ss′ u 0 ≡ getD ss u 0
   room : getD ss v 0 + less ≤ getD ss (suc v) 0 + more
-  fits : edgeCount ss + more ≤ 2048 + less
+  fits : edgeCount ss size + more ≤ 2048 + less
   kept : (i : ℕ) → i < getD ss v 0 → getD xs′ i 0 ≡ getD xs i 0
-  moved : (i j : ℕ) → getD ss (suc v) 0 ≤ i → i < edgeCount ss → j + less ≡ i + more → getD xs′ j 0 ≡ getD xs i 0
+  moved : (i j : ℕ) → getD ss (suc v) 0 ≤ i → i < edgeCount ss size → j + less ≡ i + more → getD xs′ j 0 ≡ getD xs i 0
 
-module _ (xs ss : List ℕ) (v more less : ℕ) (xs′ ss′ : List ℕ) (good : Compressed xs ss) (small : v < 512) (s : Shifted xs ss v more less xs′ ss′) where
-  still-rising : (u : ℕ) → u < 512 → getD ss′ u 0 ≤ getD ss′ (suc u) 0
+module _ (size : ℕ) (xs ss : List ℕ) (v more less : ℕ) (xs′ ss′ : List ℕ) (good : Compressed size xs ss) (small : v < size) (s : Shifted size xs ss v more less xs′ ss′) where
+  still-rising : (u : ℕ) → u < size → getD ss′ u 0 ≤ getD ss′ (suc u) 0
   still-rising u h =
       elim (decLt u v) [
         | yes l ↦ omega (arith, s .before u (omega arith), s .before (suc u) (omega arith), good .rising u h)
@@ -52,14 +55,16 @@ module _ (xs ss : List ℕ) (v more less : ℕ) (xs′ ss′ : List ℕ) (good :
         ]
       ]
 
-  still-compressed : Compressed xs′ ss′
+  still-compressed : Compressed size xs′ ss′
   still-compressed =
       record {
-        targets-size = s .targets-size;
-        starts-size = s .starts-size;
+        targets-length = s .targets-length;
+        starts-length = s .starts-length;
+        states = good .states;
         first = s .before 0 (omega arith) ∙ good .first;
         rising = still-rising;
-        within = omega (arith, s .behind 512 (omega arith) (omega arith), s .fits);
+        within = omega (arith, s .behind size small (omega arith), s .fits);
+        behind = λ u h. s .last u h ∙ good .behind u h;
       }
 
   row-before : (u : ℕ) → u < v → rowAt xs′ ss′ u ≡ rowAt xs ss u
@@ -67,54 +72,57 @@ module _ (xs ss : List ℕ) (v more less : ℕ) (xs′ ss′ : List ℕ) (good :
       let from = s .before u (omega arith) in
       let to = s .before (suc u) (omega arith) in
       row-same xs ss xs′ ss′ u (omega arith)
-      (λ i h. same-place xs′ (ap (λ (m : ℕ). m + i) from) ∙ s .kept (getD ss u 0 + i) (omega (arith, starts-rise xs ss good (suc u) v l (omega arith))))
+      (λ i h. same-place xs′ (ap (λ (m : ℕ). m + i) from) ∙ s .kept (getD ss u 0 + i) (omega (arith, starts-rise size xs ss good (suc u) v l (omega arith))))
 
-  row-behind : (u : ℕ) → v < u → u < 512 → rowAt xs′ ss′ u ≡ rowAt xs ss u
+  row-behind : (u : ℕ) → v < u → u < size → rowAt xs′ ss′ u ≡ rowAt xs ss u
   row-behind u l h =
       let from = s .behind u l (omega arith) in
       let to = s .behind (suc u) (omega arith) (omega arith) in
-      let low = starts-rise xs ss good (suc v) u l (omega arith) in
-      let high = starts-rise xs ss good (suc u) 512 (omega arith) (omega arith) in
+      let low = starts-rise size xs ss good (suc v) u l (omega arith) in
+      let high = starts-rise size xs ss good (suc u) size (omega arith) (omega arith) in
       row-same xs ss xs′ ss′ u (omega arith) (λ i k. s .moved (getD ss u 0 + i) (getD ss′ u 0 + i) (omega arith) (omega arith) (omega arith))
 
   other-row : (u : ℕ) → (u ≡ v → ⊥) → rowAt xs′ ss′ u ≡ rowAt xs ss u
   other-row u n =
       elim (decLt u v) [
         | yes l ↦ row-before u l
-        | no k ↦ elim (decLt u 512) [
+        | no k ↦ elim (decLt u size) [
           | yes h ↦ row-behind u (omega arith) h
-          | no m ↦ no-row xs′ ss′ (s .starts-size) u (omega arith) ∙ sym (no-row xs ss (good .starts-size) u (omega arith))
+          | no m ↦ no-row xs′ ss′ size still-compressed u (omega arith) ∙ sym (no-row xs ss size good u (omega arith))
         ]
       ]
 
-  changed : (row : List ℕ) → rowAt xs′ ss′ v ≡ row → Changed xs ss v row xs′ ss′
+  changed : (row : List ℕ) → rowAt xs′ ss′ v ≡ row → Changed size xs ss v row xs′ ss′
   changed row e = record { compressed = still-compressed; here = e; others = other-row }
 
 -- An edge to t is put in behind the row of v.
-module _ (xs ss : List ℕ) (v t : ℕ) (good : Compressed xs ss) (small : v < 512) (free : edgeCount ss < 2048) (xs′ ss′ : List ℕ) (targets : xs′ ≡ opened xs (getD ss (suc v) 0) (edgeCount ss) t) (starts : ss′ ≡ turned true ss (suc v)) where
-  room : edgeCount ss < length xs
-  room = omega (arith, good .targets-size)
+module _ (size : ℕ) (xs ss : List ℕ) (v t : ℕ) (good : Compressed size xs ss) (small : v < size) (free : edgeCount ss size < 2048) (xs′ ss′ : List ℕ) (targets : xs′ ≡ opened xs (getD ss (suc v) 0) (edgeCount ss size) t) (starts : ss′ ≡ movedStarts true ss (suc v) size) where
+  space : edgeCount ss size < length xs
+  space = omega (arith, good .targets-length)
+
+  inside : size < length ss
+  inside = omega (arith, good .starts-length, good .states)
 
   open-before : (i : ℕ) → i < getD ss (suc v) 0 → getD xs′ i 0 ≡ getD xs i 0
-  open-before = opened-before xs (getD ss (suc v) 0) (edgeCount ss) t (row-end xs ss good v small) room xs′ targets
+  open-before = opened-before xs (getD ss (suc v) 0) (edgeCount ss size) t (row-end size xs ss good v small) space xs′ targets
 
-  one-more : (u : ℕ) → v < u → u ≤ 512 → getD ss′ u 0 ≡ getD ss u 0 + 1
+  one-more : (u : ℕ) → v < u → u ≤ size → getD ss′ u 0 ≡ getD ss u 0 + 1
   one-more u l h =
-      turned-behind true ss (suc v) (good .starts-size) (omega arith) ss′ starts u l h
-      ∙ omega (arith, starts-rise xs ss good u 512 h (omega arith))
+      moved-within true ss (suc v) size small inside ss′ starts u l h ∙ omega (arith, starts-rise size xs ss good u size h (omega arith))
 
-  pushed : Shifted xs ss v 1 0 xs′ ss′
+  pushed : Shifted size xs ss v 1 0 xs′ ss′
   pushed =
       record {
-        targets-size = opened-size xs (getD ss (suc v) 0) (edgeCount ss) t (row-end xs ss good v small) room xs′ targets ∙ good .targets-size;
-        starts-size = turned-size true ss (suc v) (good .starts-size) (omega arith) ss′ starts;
-        before = λ u h. turned-before true ss (suc v) (good .starts-size) (omega arith) ss′ starts u (omega arith);
+        targets-length = opened-length xs (getD ss (suc v) 0) (edgeCount ss size) t (row-end size xs ss good v small) space xs′ targets ∙ good .targets-length;
+        starts-length = moved-length true ss (suc v) size small inside ss′ starts ∙ good .starts-length;
+        before = λ u h. moved-before true ss (suc v) size small inside ss′ starts u (omega arith);
         behind = λ u l h. omega (arith, one-more u l h);
+        last = λ u h. moved-behind true ss (suc v) size small inside ss′ starts u h;
         room = omega (arith, good .rising v small);
         fits = omega arith;
         kept = λ i h. open-before i (omega (arith, good .rising v small));
         moved = λ i j l h e.
-            same-place xs′ (omega arith) ∙ opened-behind xs (getD ss (suc v) 0) (edgeCount ss) t (row-end xs ss good v small) room xs′ targets i l h;
+            same-place xs′ (omega arith) ∙ opened-behind xs (getD ss (suc v) 0) (edgeCount ss size) t (row-end size xs ss good v small) space xs′ targets i l h;
       }
 
   longer-row : rowAt xs′ ss′ v ≡ rowAt xs ss v ++ (t ∷ [])
@@ -129,36 +137,40 @@ module _ (xs ss : List ℕ) (v t : ℕ) (good : Compressed xs ss) (small : v < 5
       ∙ entries-add d 1 a xs′
       ∙ ap₂ {A = List ℕ} {B = List ℕ} (λ r s. r ++ s)
       (entries-same d a a xs′ xs (λ i h. open-before (a + i) (omega arith)))
-      (ap {B = List ℕ} (λ x. x ∷ []) (same-place xs′ end ∙ opened-at xs (getD ss (suc v) 0) (edgeCount ss) t (row-end xs ss good v small) room xs′ targets))
+      (ap {B = List ℕ} (λ x. x ∷ []) (same-place xs′ end ∙ opened-at xs (getD ss (suc v) 0) (edgeCount ss size) t (row-end size xs ss good v small) space xs′ targets))
 
-  pub inserted : Inserted xs ss v t xs′ ss′
-  inserted = record { rows = changed xs ss v 1 0 xs′ ss′ good small pushed (rowAt xs ss v ++ (t ∷ [])) longer-row; count = one-more 512 small (omega arith) }
+  opens-row : Inserted size xs ss v t xs′ ss′
+  opens-row = record { rows = changed size xs ss v 1 0 xs′ ss′ good small pushed (rowAt xs ss v ++ (t ∷ [])) longer-row; count = one-more size small (omega arith) }
 
 -- Edge k of v is taken out.
-module _ (xs ss : List ℕ) (v k : ℕ) (good : Compressed xs ss) (small : v < 512) (there : k < degreeAt ss v) (xs′ ss′ : List ℕ) (targets : xs′ ≡ shut xs (getD ss v 0 + k) (edgeCount ss)) (starts : ss′ ≡ turned false ss (suc v)) where
-  ahead : getD ss v 0 + k < edgeCount ss
-  ahead = omega (arith, row-end xs ss good v small)
+module _ (size : ℕ) (xs ss : List ℕ) (v k : ℕ) (good : Compressed size xs ss) (small : v < size) (there : k < degreeAt ss v) (xs′ ss′ : List ℕ) (targets : xs′ ≡ shut xs (getD ss v 0 + k) (edgeCount ss size)) (starts : ss′ ≡ movedStarts false ss (suc v) size) where
+  ahead : getD ss v 0 + k < edgeCount ss size
+  ahead = omega (arith, row-end size xs ss good v small)
 
-  space : edgeCount ss ≤ length xs
-  space = omega (arith, good .targets-size, good .within)
+  held : edgeCount ss size ≤ length xs
+  held = omega (arith, good .targets-length, good .within)
+
+  ends-inside : size < length ss
+  ends-inside = omega (arith, good .starts-length, good .states)
 
   closed-before : (i : ℕ) → i < getD ss v 0 + k → getD xs′ i 0 ≡ getD xs i 0
-  closed-before = shut-before xs (getD ss v 0 + k) (edgeCount ss) ahead space xs′ targets
+  closed-before = shut-before xs (getD ss v 0 + k) (edgeCount ss size) ahead held xs′ targets
 
-  closed-behind : (i : ℕ) → getD ss v 0 + k ≤ i → suc i < edgeCount ss → getD xs′ i 0 ≡ getD xs (suc i) 0
-  closed-behind = shut-behind xs (getD ss v 0 + k) (edgeCount ss) ahead space xs′ targets
+  closed-behind : (i : ℕ) → getD ss v 0 + k ≤ i → suc i < edgeCount ss size → getD xs′ i 0 ≡ getD xs (suc i) 0
+  closed-behind = shut-behind xs (getD ss v 0 + k) (edgeCount ss size) ahead held xs′ targets
 
-  one-less : (u : ℕ) → v < u → u ≤ 512 → getD ss′ u 0 + 1 ≡ getD ss u 0
+  one-less : (u : ℕ) → v < u → u ≤ size → getD ss′ u 0 + 1 ≡ getD ss u 0
   one-less u l h =
-      omega (arith, turned-behind false ss (suc v) (good .starts-size) (omega arith) ss′ starts u l h, starts-rise xs ss good (suc v) u l h)
+      omega (arith, moved-within false ss (suc v) size small ends-inside ss′ starts u l h, starts-rise size xs ss good (suc v) u l h)
 
-  pulled : Shifted xs ss v 0 1 xs′ ss′
+  pulled : Shifted size xs ss v 0 1 xs′ ss′
   pulled =
       record {
-        targets-size = shut-size xs (getD ss v 0 + k) (edgeCount ss) ahead space xs′ targets ∙ good .targets-size;
-        starts-size = turned-size false ss (suc v) (good .starts-size) (omega arith) ss′ starts;
-        before = λ u h. turned-before false ss (suc v) (good .starts-size) (omega arith) ss′ starts u (omega arith);
+        targets-length = shut-length xs (getD ss v 0 + k) (edgeCount ss size) ahead held xs′ targets ∙ good .targets-length;
+        starts-length = moved-length false ss (suc v) size small ends-inside ss′ starts ∙ good .starts-length;
+        before = λ u h. moved-before false ss (suc v) size small ends-inside ss′ starts u (omega arith);
         behind = λ u l h. omega (arith, one-less u l h);
+        last = λ u h. moved-behind false ss (suc v) size small ends-inside ss′ starts u h;
         room = omega arith;
         fits = omega (arith, good .within);
         kept = λ i h. closed-before i (omega arith);
@@ -180,8 +192,53 @@ module _ (xs ss : List ℕ) (v k : ℕ) (good : Compressed xs ss) (small : v < 5
       (entries-same (d - suc k) (a + k) (a + suc k) xs′ xs
       (λ i h.
       let p : suc (a + k + i) ≡ a + suc k + i = omega arith in
-      closed-behind (a + k + i) (omega arith) (omega (arith, row-end xs ss good v small)) ∙ same-place xs p)
+      closed-behind (a + k + i) (omega arith) (omega (arith, row-end size xs ss good v small)) ∙ same-place xs p)
       ∙ sym (entries-drop d (suc k) there a xs))
 
-  pub removed : Removed xs ss v k xs′ ss′
-  removed = record { rows = changed xs ss v 0 1 xs′ ss′ good small pulled (take k (rowAt xs ss v) ++ drop (suc k) (rowAt xs ss v)) shorter-row; count = one-less 512 small (omega arith) }
+  shuts-row : Removed size xs ss v k xs′ ss′
+  shuts-row = record { rows = changed size xs ss v 0 1 xs′ ss′ good small pulled (take k (rowAt xs ss v) ++ drop (suc k) (rowAt xs ss v)) shorter-row; count = one-less size small (omega arith) }
+
+-- What the contracts' definitions mean. The lengths stay, for any arrays.
+
+either : {A : Type 0} (b : Bool) → (b ≡ true → A) → (b ≡ false → A) → A
+either true f g = f refl
+either false f g = g refl
+
+module _ (size v t : ℕ) (r r′ : Rows) (new : r′ ≡ inserted size v t r) where
+  pub inserted-lengths : (length (r .targets) ≡ 2048) × (length (r .starts) ≡ 513) → (length (r′ .targets) ≡ 2048) × (length (r′ .starts) ≡ 513)
+  inserted-lengths l = either (hasRoom (r .starts) size v)
+      (λ e.
+      let w = new ∙ inserted-room size v t r e in
+      let f = room-is size v (r .starts) e in (
+        opened-length (r .targets) (getD (r .starts) (suc v) 0) (edgeCount (r .starts) size) t (f .2) (omega (arith, l .0)) (r′ .targets) (ap (λ (x : Rows). x .targets) w) ∙ l .0,
+        moved-length true (r .starts) (suc v) size (f .1) (omega (arith, l .1)) (r′ .starts) (ap (λ (x : Rows). x .starts) w) ∙ l .1,
+      ))
+      (λ e.
+      let w = new ∙ inserted-none size v t r e in
+      (ap (λ (x : Rows). length (x .targets)) w ∙ l .0, ap (λ (x : Rows). length (x .starts)) w ∙ l .1))
+
+  pub inserts-edge : Compressed size (r .targets) (r .starts) → v < size → edgeCount (r .starts) size < 2048
+      → Inserted size (r .targets) (r .starts) v t (r′ .targets) (r′ .starts)
+  inserts-edge good small free =
+      let w = new ∙ inserted-room size v t r (room size v (r .starts) (good .states) small (row-end size (r .targets) (r .starts) good v small) free) in
+      opens-row size (r .targets) (r .starts) v t good small free (r′ .targets) (r′ .starts) (ap (λ (x : Rows). x .targets) w) (ap (λ (x : Rows). x .starts) w)
+
+module _ (size v k : ℕ) (r r′ : Rows) (new : r′ ≡ removed size v k r) where
+  pub removed-lengths : (length (r .targets) ≡ 2048) × (length (r .starts) ≡ 513) → (length (r′ .targets) ≡ 2048) × (length (r′ .starts) ≡ 513)
+  removed-lengths l = either (hasPlace (r .starts) size v k)
+      (λ e.
+      let w = new ∙ removed-place size v k r e in
+      let f = place-is size v (r .starts) k e in (
+        shut-length (r .targets) (getD (r .starts) v 0 + k) (edgeCount (r .starts) size) (f .2) (omega (arith, l .0)) (r′ .targets) (ap (λ (x : Rows). x .targets) w) ∙ l .0,
+        moved-length false (r .starts) (suc v) size (f .1) (omega (arith, l .1)) (r′ .starts) (ap (λ (x : Rows). x .starts) w) ∙ l .1,
+      ))
+      (λ e.
+      let w = new ∙ removed-none size v k r e in
+      (ap (λ (x : Rows). length (x .targets)) w ∙ l .0, ap (λ (x : Rows). length (x .starts)) w ∙ l .1))
+
+  pub removes-edge : Compressed size (r .targets) (r .starts) → v < size → k < degreeAt (r .starts) v
+      → Removed size (r .targets) (r .starts) v k (r′ .targets) (r′ .starts)
+  removes-edge good small there =
+      let end = row-end size (r .targets) (r .starts) good v small in
+      let w = new ∙ removed-place size v k r (place size v (r .starts) k (good .states) small (omega arith) (good .within)) in
+      shuts-row size (r .targets) (r .starts) v k good small there (r′ .targets) (r′ .starts) (ap (λ (x : Rows). x .targets) w) (ap (λ (x : Rows). x .starts) w)

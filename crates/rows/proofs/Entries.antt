@@ -1,14 +1,13 @@
 -- Entries of a list from a place on; the row of a state; the place of an entry. Assumes nothing.
 use Prim.Native.Nat.{ℕ, zero, suc, _+_, _-_, _≤_, _<_}
 use native.Mathlib.Nat.{not-suc-le-zero, le-of-suc-le-suc}
-use native.Mathlib.Decide.{ℕ-discrete}
 use native.Mathlib.Omega.{arith}
 use mathlib.Core.Path.{_≡_, refl, sym, ap, _∙_}
 use mathlib.Core.List.{List, [], _∷_, _++_}
 use lib.ListN.{length, getD, take, drop, drop-of-length-le}
 use lib.Seq.{ext-getD, drop-cons, take-at, drop-at}
 use borrow.Author.Tests.{eq-eqb, ne-eqb}
-use Rattle.rows.specs.Rows.{entries, degreeAt, rowAt, placeOf}
+use Rattle.rows.specs.Rows.{entries, degreeAt, rowAt, placeOf, Compressed}
 use Rattle.rows.proofs.Paste.{past, same-place}
 
 pub entries-length : (n at : ℕ) (xs : List ℕ) → length (entries n at xs) ≡ n
@@ -74,8 +73,9 @@ module _ (targets starts : List ℕ) where
   unfolding rowAt entries
   row-none v e = ap (λ (n : ℕ). entries n (getD starts v 0) targets) e
 
-  pub no-row : length starts ≡ 513 → (v : ℕ) → 512 ≤ v → rowAt targets starts v ≡ []
-  no-row size v h = row-none v (omega (arith, past starts (suc v) (omega arith)))
+  -- no edge leaves a state of the size or above
+  pub no-row : (size : ℕ) → Compressed size targets starts → (v : ℕ) → size ≤ v → rowAt targets starts v ≡ []
+  no-row size good v h = row-none v (omega (arith, good .behind (suc v) (omega arith)))
 
 -- a row is another if it is as long and its entries are the same
 pub row-same : (xs ss xs′ ss′ : List ℕ) (u : ℕ) → degreeAt ss′ u ≡ degreeAt ss u → ((i : ℕ) → i < degreeAt ss u → getD xs′ (getD ss′ u 0 + i) 0 ≡ getD xs (getD ss u 0 + i) 0) → rowAt xs′ ss′ u ≡ rowAt xs ss u
@@ -108,26 +108,3 @@ module _ (t : ℕ) where
 
   pub place-end : (xs : List ℕ) (k : ℕ) → length xs ≤ k → placeOf t (drop k xs) ≡ 0
   place-end xs k h = ap (placeOf t) (drop-of-length-le xs {i = k} h) ∙ place-none
-
-  -- what the place says of the list
-
-  pub place-le : (xs : List ℕ) → placeOf t xs ≤ length xs
-  place-le [] = omega (arith, place-none)
-  place-le (x ∷ xs) = elim (ℕ-discrete x t) [ yes e ↦ omega (arith, place-here x xs e) | no n ↦ omega (arith, place-later x xs n, place-le xs) ]
-
-  pub place-in : (xs : List ℕ) → placeOf t xs < length xs → getD xs (placeOf t xs) 0 ≡ t
-  place-in [] h = absurd (not-suc-le-zero h)
-  place-in (x ∷ xs) h =
-      elim (ℕ-discrete x t) [
-        | yes e ↦ same-place (x ∷ xs) (place-here x xs e) ∙ e
-        | no n ↦ same-place (x ∷ xs) (place-later x xs n) ∙ place-in xs (omega (arith, place-later x xs n))
-      ]
-
-  pub place-out : (xs : List ℕ) → placeOf t xs ≡ length xs → (i : ℕ) → i < length xs → getD xs i 0 ≡ t → ⊥
-  place-out [] q i h e = not-suc-le-zero h
-  place-out (x ∷ xs) q zero h e = omega (arith, place-here x xs e)
-  place-out (x ∷ xs) q (suc i) h e =
-      elim (ℕ-discrete x t) [
-        | yes f ↦ omega (arith, place-here x xs f)
-        | no n ↦ place-out xs (omega (arith, place-later x xs n)) i (le-of-suc-le-suc h) e
-      ]

@@ -2,4 +2,5 @@ pub mod Paste
 pub mod Entries
 pub mod Empty
 pub mod Shifts
+pub mod Outcome
 pub mod Change

@@ -21,8 +21,8 @@ getD-map f (x ∷ xs) (suc i) h = getD-map f xs i (le-of-suc-le-suc h)
 
 -- ys is xs with the first n of s at a place
 module _ (xs : List ℕ) (at : ℕ) (s : List ℕ) (n : ℕ) (ys : List ℕ) (new : ys ≡ paste xs at s n) (fits : at + n ≤ length xs) (enough : n ≤ length s) where
-  pub paste-size : length ys ≡ length xs
-  paste-size = ap length new ∙ length-paste xs at s n fits enough
+  pub paste-length : length ys ≡ length xs
+  paste-length = ap length new ∙ length-paste xs at s n fits enough
 
   pub paste-before : (i : ℕ) → i < at → getD ys i 0 ≡ getD xs i 0
   paste-before i h =

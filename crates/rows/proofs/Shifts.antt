@@ -1,4 +1,4 @@
--- What stands where after a part of a list moved by one place, or its numbers changed by one. Assumes nothing.
+-- What stands where after a part of a list moved by one place, or starts did. Assumes nothing.
 use Prim.Native.Nat.{ℕ, suc, _+_, _-_, _≤_, _<_}
 use native.Mathlib.Omega.{arith}
 use mathlib.Core.Path.{_≡_, ap, _∙_}
@@ -6,8 +6,8 @@ use mathlib.Core.Bool.{Bool}
 use mathlib.Core.List.{List, _∷_, map}
 use lib.ListN.{length, getD, drop, length-drop, length-map}
 use lib.Seq.{getD-drop}
-use Rattle.rows.specs.Shift.{opened, shut, stepped, turned}
-use Rattle.rows.proofs.Paste.{same-place, getD-map, paste-size, paste-before, paste-within}
+use Rattle.rows.specs.Shift.{opened, shut, movedOne, movedStarts}
+use Rattle.rows.proofs.Paste.{same-place, getD-map, paste-length, paste-before, paste-within, paste-behind}
 
 -- t came in at a place
 module _ (xs : List ℕ) (at count t : ℕ) (ordered : at ≤ count) (room : count < length xs) (ys : List ℕ) (new : ys ≡ opened xs at count t) where
@@ -17,9 +17,9 @@ module _ (xs : List ℕ) (at count t : ℕ) (ordered : at ≤ count) (room : cou
   enough : suc count - at ≤ length coming
   enough = omega (arith, length-drop at xs)
 
-  pub opened-size : length ys ≡ length xs
+  pub opened-length : length ys ≡ length xs
   unfolding opened
-  opened-size = paste-size xs at coming (suc count - at) ys new (omega arith) enough
+  opened-length = paste-length xs at coming (suc count - at) ys new (omega arith) enough
 
   pub opened-before : (i : ℕ) → i < at → getD ys i 0 ≡ getD xs i 0
   unfolding opened
@@ -45,9 +45,9 @@ module _ (xs : List ℕ) (at count : ℕ) (ordered : at < count) (room : count �
   enough-left : count - suc at ≤ length (drop (suc at) xs)
   enough-left = omega (arith, length-drop (suc at) xs)
 
-  pub shut-size : length ys ≡ length xs
+  pub shut-length : length ys ≡ length xs
   unfolding shut
-  shut-size = paste-size xs at (drop (suc at) xs) (count - suc at) ys new (omega arith) enough-left
+  shut-length = paste-length xs at (drop (suc at) xs) (count - suc at) ys new (omega arith) enough-left
 
   pub shut-before : (i : ℕ) → i < at → getD ys i 0 ≡ getD xs i 0
   unfolding shut
@@ -61,26 +61,30 @@ module _ (xs : List ℕ) (at count : ℕ) (ordered : at < count) (room : count �
       ∙ getD-drop (suc at) xs (i - at) 0
       ∙ same-place xs e
 
--- the numbers from a place on are all one more, or all one less
-module _ (up : Bool) (ss : List ℕ) (from : ℕ) (size : length ss ≡ 513) (inside : from ≤ 513) (ys : List ℕ) (new : ys ≡ turned up ss from) where
+-- the starts from one to another are all one place further up, or down
+module _ (up : Bool) (ss : List ℕ) (from last : ℕ) (ordered : from ≤ last) (inside : last < length ss) (ys : List ℕ) (new : ys ≡ movedStarts up ss from last) where
   abbrev changing : List ℕ
-  changing = map (stepped up) (drop from ss)
+  changing = map (movedOne up) (drop from ss)
 
-  all : 513 - from ≤ length changing
-  all = omega (arith, length-map (drop from ss) (stepped up), length-drop from ss)
+  all : suc last - from ≤ length changing
+  all = omega (arith, length-map (drop from ss) (movedOne up), length-drop from ss)
 
-  pub turned-size : length ys ≡ 513
-  unfolding turned
-  turned-size = paste-size ss from changing (513 - from) ys new (omega arith) all ∙ size
+  pub moved-length : length ys ≡ length ss
+  unfolding movedStarts
+  moved-length = paste-length ss from changing (suc last - from) ys new (omega arith) all
 
-  pub turned-before : (u : ℕ) → u < from → getD ys u 0 ≡ getD ss u 0
-  unfolding turned
-  turned-before = paste-before ss from changing (513 - from) ys new (omega arith) all
+  pub moved-before : (u : ℕ) → u < from → getD ys u 0 ≡ getD ss u 0
+  unfolding movedStarts
+  moved-before = paste-before ss from changing (suc last - from) ys new (omega arith) all
 
-  pub turned-behind : (u : ℕ) → from ≤ u → u ≤ 512 → getD ys u 0 ≡ stepped up (getD ss u 0)
-  unfolding turned
-  turned-behind u l h =
+  pub moved-within : (u : ℕ) → from ≤ u → u ≤ last → getD ys u 0 ≡ movedOne up (getD ss u 0)
+  unfolding movedStarts
+  moved-within u l h =
       let e : from + (u - from) ≡ u = omega arith in
-      paste-within ss from changing (513 - from) ys new (omega arith) all u l (omega arith)
-      ∙ getD-map (stepped up) (drop from ss) (u - from) (omega (arith, length-drop from ss))
-      ∙ ap (stepped up) (getD-drop from ss (u - from) 0 ∙ same-place ss e)
+      paste-within ss from changing (suc last - from) ys new (omega arith) all u l (omega arith)
+      ∙ getD-map (movedOne up) (drop from ss) (u - from) (omega (arith, length-drop from ss))
+      ∙ ap (movedOne up) (getD-drop from ss (u - from) 0 ∙ same-place ss e)
+
+  pub moved-behind : (u : ℕ) → last < u → getD ys u 0 ≡ getD ss u 0
+  unfolding movedStarts
+  moved-behind u h = paste-behind ss from changing (suc last - from) ys new (omega arith) all u (omega arith)

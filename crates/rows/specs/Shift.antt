@@ -1,4 +1,4 @@
--- Parts of a list that move by one place, and numbers that all change by one. Assumes nothing.
+-- Parts of a list that move by one place, and starts that move with them. Assumes nothing.
 use Prim.Native.Nat.{ℕ, suc, _-_, min}
 use mathlib.Core.Bool.{Bool, true, false}
 use mathlib.Core.List.{List, _∷_, map}
@@ -13,11 +13,11 @@ opened xs at count t = paste xs at (t ∷ drop at xs) (suc count - at)
 unfoldable pub shut : List ℕ → ℕ → ℕ → List ℕ
 shut xs at count = paste xs at (drop (suc at) xs) (count - suc at)
 
--- one more or one less, within 16 bits
-abbrev pub stepped : Bool → ℕ → ℕ
-stepped true x = min (suc x) 65535
-stepped false x = x - 1
+-- a start one place further up (true) or down (false), within 16 bits
+abbrev pub movedOne : Bool → ℕ → ℕ
+movedOne true x = min (suc x) 65535
+movedOne false x = x - 1
 
--- the entries from a place to 513 are all one more, or all one less
-unfoldable pub turned : Bool → List ℕ → ℕ → List ℕ
-turned up xs from = paste xs from (map (stepped up) (drop from xs)) (513 - from)
+-- the starts from one to another, both with them, are all one place further up, or down
+unfoldable pub movedStarts : Bool → List ℕ → ℕ → ℕ → List ℕ
+movedStarts up xs from last = paste xs from (map (movedOne up) (drop from xs)) (suc last - from)

@@ -1,10 +1,24 @@
 // The edges as compressed rows: the targets of v's edges stand at starts[v] to starts[v + 1], oldest first.
+// The states are the numbers below a size: starts[size] is the count of edges, and every start behind it is 0, so that a change moves no more starts than the table has.
 // Every function is safe for any contents of the arrays.
 ghost use mathlib.Core.Path.{_≡_};
 ghost use Prim.Native.Nat.{_<_, _≤_};
 ghost use lib.ListN.{length, getD};
-ghost use Rattle.rows.specs.Rows.{degreeAt, rowAt, edgeCount, placeOf, Compressed, Inserted, Removed};
-ghost use Rattle.rows.specs.Shift.{opened, shut, stepped, turned};
+ghost use Rattle.rows.specs.Rows.{degreeAt, rowAt, edgeCount, placeOf};
+ghost use Rattle.rows.specs.Shift.{opened, shut, movedOne, movedStarts};
+ghost use Rattle.rows.specs.Change.{rowsOf, inserted, removed};
+
+// The most states of a table.
+const STATES: u16 = 512;
+
+// A start for each state, and one behind the last.
+const STARTS: usize = 513;
+
+// The most edges of a table.
+const EDGES: usize = 2048;
+
+// The largest number that an array can hold.
+const LARGEST: u16 = 65535;
 
 fn wide(x: u16) -> usize
     ensures { λ r. ⌜ (r ≡ x) × (r < 65536) ⌝ }
@@ -17,15 +31,15 @@ pub fn start_of(starts: &[u16; 513], v: usize) -> u16
     requires { ⌜ length (now starts) ≡ 513 ⌝ }
     ensures { λ r. ⌜ r ≡ getD (now (starts .entry)) v 0 ⌝ }
 {
-    if v < 513 { starts[v] } else { 0 }
+    if v < STARTS { starts[v] } else { 0 }
 }
 
-// The count of all edges.
-pub fn edge_count(starts: &[u16; 513]) -> u16
+// The count of all edges: where the rows of the states below size end.
+pub fn edge_count(starts: &[u16; 513], size: u16) -> u16
     requires { ⌜ length (now starts) ≡ 513 ⌝ }
-    ensures { λ r. ⌜ r ≡ edgeCount (now (starts .entry)) ⌝ }
+    ensures { λ r. ⌜ r ≡ edgeCount (now (starts .entry)) size ⌝ }
 {
-    start_of(starts, 512)
+    start_of(starts, wide(size))
 }
 
 // The count of edges that leave v.
@@ -46,7 +60,7 @@ fn target(targets: &[u16; 2048], starts: &[u16; 513], v: u16, k: u16) -> u16
 {
     if k < degree(starts, v) {
         let at = wide(start_of(starts, wide(v))) + wide(k);
-        if at < 2048 {
+        if at < EDGES {
             return targets[at];
         }
     }
@@ -97,55 +111,53 @@ fn shift_down(targets: &mut [u16; 2048], at: usize, count: usize)
     }
 }
 
-// One more or one less; the largest number and 0 stay.
-fn step(x: u16, up: bool) -> u16
-    ensures { λ r. ⌜ r ≡ stepped up x ⌝ }
+// A start one place further up, or down. The largest number stays, and 0: rows have no such start to move, other arrays may.
+fn moved_one(x: u16, up: bool) -> u16
+    ensures { λ r. ⌜ r ≡ movedOne up x ⌝ }
 {
     if up {
-        return if x < 65535 { x + 1 } else { x };
+        return if x < LARGEST { x + 1 } else { x };
     }
     if 0 < x { x - 1 } else { x }
 }
 
-// Every start from a place on is one more, or one less.
-fn turn(starts: &mut [u16; 513], from: usize, up: bool)
-    requires { ⌜ (from ≤ 513) × (length (now starts) ≡ 513) ⌝ }
-    ensures { λ r. ⌜ now (starts .exit) ≡ turned up (now (starts .entry)) from ⌝ }
+// The starts from one to the last, and the last itself, are one place further up, or down: so are the rows that start there.
+fn move_starts(starts: &mut [u16; 513], from: usize, last: usize, up: bool)
+    requires { ⌜ (from ≤ last) × (last < 513) × (length (now starts) ≡ 513) ⌝ }
+    ensures { λ r. ⌜ now (starts .exit) ≡ movedStarts up (now (starts .entry)) from last ⌝ }
 {
     let mut j = from;
-    while j < 513 {
-        let x = step(starts[j], up);
+    while j <= last {
+        let x = moved_one(starts[j], up);
         starts[j] = x;
         j += 1;
     }
 }
 
-// An edge from v to t, the newest of the row of v: what stands behind moves up by one place.
-pub fn insert(targets: &mut [u16; 2048], starts: &mut [u16; 513], v: u16, t: u16)
+// An edge from v to t, the newest of the row of v: what stands behind moves up by one place. Where it has no room, nothing is done.
+pub fn insert(targets: &mut [u16; 2048], starts: &mut [u16; 513], size: u16, v: u16, t: u16)
     requires { ⌜ (length (now targets) ≡ 2048) × (length (now starts) ≡ 513) ⌝ }
-    ensures { λ r. ⌜ (Compressed (now (targets .entry)) (now (starts .entry)) → v < 512 → edgeCount (now (starts .entry)) < 2048 → Inserted (now (targets .entry)) (now (starts .entry)) v t (now (targets .exit)) (now (starts .exit))) ⌝ }
-    ensures { λ r. ⌜ (length (now (targets .exit)) ≡ 2048) × (length (now (starts .exit)) ≡ 513) ⌝ }
+    ensures { λ r. ⌜ rowsOf (now (targets .exit)) (now (starts .exit)) ≡ inserted size v t (rowsOf (now (targets .entry)) (now (starts .entry))) ⌝ }
 {
     let i = wide(v);
     let at = wide(start_of(starts, i + 1));
-    let count = wide(start_of(starts, 512));
-    if i < 512 && at <= count && count < 2048 {
+    let count = wide(edge_count(starts, size));
+    if size <= STATES && v < size && at <= count && count < EDGES {
         shift_up(targets, at, count, t);
-        turn(starts, i + 1, true);
+        move_starts(starts, i + 1, wide(size), true);
     }
 }
 
-// Edge k of v is taken out: what stands behind moves down by one place.
-pub fn remove(targets: &mut [u16; 2048], starts: &mut [u16; 513], v: u16, k: u16)
+// Edge k of v is taken out: what stands behind moves down by one place. Where there is none, nothing is done.
+pub fn remove(targets: &mut [u16; 2048], starts: &mut [u16; 513], size: u16, v: u16, k: u16)
     requires { ⌜ (length (now targets) ≡ 2048) × (length (now starts) ≡ 513) ⌝ }
-    ensures { λ r. ⌜ (Compressed (now (targets .entry)) (now (starts .entry)) → v < 512 → k < degreeAt (now (starts .entry)) v → Removed (now (targets .entry)) (now (starts .entry)) v k (now (targets .exit)) (now (starts .exit))) ⌝ }
-    ensures { λ r. ⌜ (length (now (targets .exit)) ≡ 2048) × (length (now (starts .exit)) ≡ 513) ⌝ }
+    ensures { λ r. ⌜ rowsOf (now (targets .exit)) (now (starts .exit)) ≡ removed size v k (rowsOf (now (targets .entry)) (now (starts .entry))) ⌝ }
 {
     let i = wide(v);
     let at = wide(start_of(starts, i)) + wide(k);
-    let count = wide(start_of(starts, 512));
-    if i < 512 && at < count && count <= 2048 {
+    let count = wide(edge_count(starts, size));
+    if size <= STATES && v < size && at < count && count <= EDGES {
         shift_down(targets, at, count);
-        turn(starts, i + 1, false);
+        move_starts(starts, i + 1, wide(size), false);
     }
 }

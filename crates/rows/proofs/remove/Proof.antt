@@ -1,17 +1,14 @@
 -- `remove` meets its contract. Assumes nothing.
-use mathlib.Core.Path.{_≡_, ap, ap₂, _∙_}
+use mathlib.Core.Path.{_≡_, _∙_}
 use mathlib.Core.Logic.{⊎-elim}
-use mathlib.Core.Bool.{false}
-use Prim.Native.Nat.{_+_}
+use Prim.Native.Nat.{ℕ, _+_, _≤_, _<_}
 use native.Mathlib.Omega.{arith}
-use borrow.Author.Tests.{leb-true, ltb-true, ltb-false, leb-false}
+use borrow.Author.Tests.{ltb-true, leb-true, ltb-false, leb-false}
 use denote.Ref.{now}
 use lib.ListN.{getD}
 use Rattle.rows.specs.Rows.{edgeCount}
-use Rattle.rows.specs.Shift.{shut, turned}
 use Rattle.rows.proofs.Paste.{same-place}
-use Rattle.rows.proofs.Shifts.{shut-size, turned-size}
-use Rattle.rows.proofs.Change.{row-end, removed}
+use Rattle.rows.proofs.Outcome.{remove-done, remove-undone}
 use borrow.Author.Needs.{needs}
 use Rattle.rows.proofs.remove.Statement.{statement}
 use Rattle.rows.proofs.remove.Tie as tie
@@ -19,13 +16,22 @@ use Rattle.rows.proofs.remove.Tie as tie
 abbrev start : tie.After-wide4 → tie.Start
 start c = c .before .before .before .before .before .before .before .before
 
+-- the place of the edge
+abbrev at : tie.After-wide4 → ℕ
+at c = c .before .before .before .before .wide2 .result + c .before .before .before .wide3 .result
+
 -- the place and the count that were read
-found : (c : tie.After-wide4) → (c .before .before .before .before .wide2 .result + c .before .before .before .wide3 .result ≡ getD (now (start c .args .starts)) (start c .args .v) 0 + start c .args .k)
-    × (c .wide4 .result ≡ edgeCount (now (start c .args .starts)))
+found : (c : tie.After-wide4) → (at c ≡ getD (now (start c .args .starts)) (start c .args .v) 0 + start c .args .k)
+    × (c .wide4 .result ≡ edgeCount (now (start c .args .starts)) (start c .args .size))
 found c =
     let s = c .before .before .before .before .before in
     let from = s .start-of .ensures ∙ same-place (now (start c .args .starts)) (s .before .before .wide .ensures .0) in
-    (omega arith, c .wide4 .ensures .0 ∙ c .before .start-of2 .ensures)
+    (omega arith, c .wide4 .ensures .0 ∙ c .before .edge-count .ensures)
+
+-- the tests that were passed
+passed : (c : tie.Then4) → let w = c .before .before .before .before in
+    (start w .args .size ≤ 512) × (start w .args .v < start w .args .size) × (at w < w .wide4 .result) × (w .wide4 .result ≤ 2048)
+passed c = (omega (arith, c .before .before .before .if1 .taken), omega (arith, ltb-true), omega (arith, ltb-true), omega (arith, leb-true))
 
 wide-requires : tie.Need-wide-requires
 wide-requires c κs = search needs
@@ -42,8 +48,8 @@ wide-requires-3 c κs = search needs
 add-at : tie.Need-add-at
 add-at c = search needs
 
-start-of-requires-2 : tie.Need-start-of-requires-2
-start-of-requires-2 c κs = search needs
+edge-count-requires : tie.Need-edge-count-requires
+edge-count-requires c κs = search needs
 
 wide-requires-4 : tie.Need-wide-requires-4
 wide-requires-4 c κs = search needs
@@ -51,41 +57,33 @@ wide-requires-4 c κs = search needs
 shift-down-requires : tie.Need-shift-down-requires
 shift-down-requires c κs = search needs
 
-add-turn : tie.Need-add-turn
-add-turn c = search needs
+add-move-starts : tie.Need-add-move-starts
+add-move-starts c = search needs
 
-turn-requires : tie.Need-turn-requires
-turn-requires c κs = search needs
+wide-requires-5 : tie.Need-wide-requires-5
+wide-requires-5 c κs = search needs
+
+move-starts-requires : tie.Need-move-starts-requires
+move-starts-requires c κs =
+    let p = passed (c .before .before .before .before) in
+    (omega arith, omega arith, search needs)
 
 returns : tie.Need-returns
 returns c =
-    let w = c .before .before .before .before .before .before .before in
+    let f = c .before .before .before .before .before in
+    let p = passed f in
+    let w = f .before .before .before .before in
     let a = start w .args in
-    let xs = now (a .targets) in
-    let ss = now (a .starts) in
-    let sizes = start w .pre in (
-      λ good small there. removed xs ss (a .v) (a .k) good small there _ _
-          (c .before .before .shift-down .ensures ∙ ap₂ (shut xs) (found w .0) (found w .1)) (c .turn .ensures ∙ ap (turned false ss) (omega arith)),
-      (
-        shut-size xs (w .before .before .before .before .wide2 .result + w .before .before .before .wide3 .result) (w .wide4 .result) (omega (arith, ltb-true)) (omega (arith, leb-true, sizes .0)) _ (c .before .before .shift-down .ensures) ∙ sizes .0,
-        turned-size false ss _ (sizes .1) (omega arith) _ (c .turn .ensures),
-      ),
-    )
+    remove-done (a .size) (a .v) (a .k) (now (a .targets)) (now (a .starts)) _ _ (found w .0) (found w .1) (p .0) (p .1) (p .2) (p .3) _ _
+    (omega arith) (c .before .wide5 .ensures .0) _ _ (c .before .before .before .shift-down .ensures) (c .move-starts .ensures)
 
 returns-2 : tie.Need-returns-2
 returns-2 c =
     let w = c .before in
     let a = start w .args in
-    let e = found w in
-    let sizes = start w .pre in (
-      λ good small there.
-          let end = row-end (now (a .targets)) (now (a .starts)) good (a .v) small in
-          let no : ⊥ =
-          ⊎-elim (λ l. omega (arith, leb-false, good .within)) (⊎-elim (λ l. omega (arith, ltb-false)) (λ l. omega arith)) (c .if1 .came)
-          in
-          absurd no,
-      sizes,
-    )
+    remove-undone (a .size) (a .v) (a .k) (now (a .targets)) (now (a .starts)) _ _ (found w .0) (found w .1)
+    (λ few state there held.
+    ⊎-elim (λ l. omega (arith, leb-false)) (⊎-elim (λ l. omega (arith, ltb-false)) (⊎-elim (λ l. omega (arith, ltb-false)) (λ l. omega arith))) (c .if1 .came))
 
 pub remove-spec : {M : Type 1} → statement M
 remove-spec =
@@ -96,10 +94,11 @@ remove-spec =
     wide-requires-2
     wide-requires-3
     add-at
-    start-of-requires-2
+    edge-count-requires
     wide-requires-4
     shift-down-requires
-    add-turn
-    turn-requires
+    add-move-starts
+    wide-requires-5
+    move-starts-requires
     returns
     returns-2)

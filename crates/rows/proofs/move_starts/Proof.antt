@@ -1,34 +1,34 @@
--- `turn` meets its contract. The loop: the changed starts are pasted up to place j. Assumes nothing.
+-- `move_starts` meets its contract. The loop: the changed starts are pasted up to place j. Assumes nothing.
 use borrow.Author.Needs.{needs}
 use mathlib.Core.Path.{_≡_, sym, ap, _∙_}
-use Prim.Native.Nat.{ℕ, _+_, _-_, _≤_, _<_}
+use Prim.Native.Nat.{ℕ, suc, _+_, _-_, _≤_, _<_}
 use native.Mathlib.Omega.{arith}
 use mathlib.Core.List.{map}
 use denote.Ref.{now}
 use lib.ListN.{length, getD, drop, length-drop, length-map}
 use lib.Seq.{paste, getD-drop}
-use Rattle.rows.specs.Shift.{stepped, turned}
+use Rattle.rows.specs.Shift.{movedOne, movedStarts}
 use Rattle.rows.proofs.Paste.{copy-begins, copy-reads, copy-stores, same-place, getD-map}
-use Rattle.rows.proofs.turn.Statement.{statement}
-use Rattle.rows.proofs.turn.Tie as tie
+use Rattle.rows.proofs.move_starts.Statement.{statement}
+use Rattle.rows.proofs.move_starts.Tie as tie
 
 abbrev Inv-loop : tie.InvT-loop
-Inv-loop starts₀ from up j₀ starts j = (from ≤ j) × (j ≤ 513) × (starts ≡ paste starts₀ from (map (stepped up) (drop from starts₀)) (j - from))
+Inv-loop starts₀ from last up j₀ starts j = (from ≤ j) × (j ≤ suc last) × (starts ≡ paste starts₀ from (map (movedOne up) (drop from starts₀)) (j - from))
 
 abbrev μ-loop : tie.MeasureT-loop
-μ-loop starts₀ from up j₀ starts j = 513 - j
+μ-loop starts₀ from last up j₀ starts j = suc last - j
 
 loop-holds : tie.Need-loop-holds Inv-loop μ-loop
-loop-holds c = (search needs, omega arith, copy-begins (now (c .args .starts)) (c .args .from) (map (stepped (c .args .up)) (drop (c .args .from) (now (c .args .starts)))))
+loop-holds c = (search needs, omega arith, copy-begins (now (c .args .starts)) (c .args .from) (map (movedOne (c .args .up)) (drop (c .args .from) (now (c .args .starts)))))
 
-mul-step : tie.Need-mul-step Inv-loop μ-loop
-mul-step c = search needs
+mul-moved-one : tie.Need-mul-moved-one Inv-loop μ-loop
+mul-moved-one c = search needs
 
-element-copy-out-step : tie.Need-element-copy-out-step Inv-loop μ-loop
-element-copy-out-step c = search needs
+element-copy-out-moved-one : tie.Need-element-copy-out-moved-one Inv-loop μ-loop
+element-copy-out-moved-one c = search needs
 
-step-requires : tie.Need-step-requires Inv-loop μ-loop
-step-requires c κs = search needs
+moved-one-requires : tie.Need-moved-one-requires Inv-loop μ-loop
+moved-one-requires c κs = search needs
 
 mul-starts : tie.Need-mul-starts Inv-loop μ-loop
 mul-starts c = search needs
@@ -49,9 +49,9 @@ loop-again c =
     let xs = now (a .starts) in
     let j = s .loop .j in
     let old = drop (a .from) xs in
-    let src = map (stepped (a .up)) old in
+    let src = map (movedOne (a .up)) old in
     let lens : length old ≡ length xs - a .from = length-drop (a .from) xs in
-    let mapped : length src ≡ length old = length-map old (stepped (a .up)) in
+    let mapped : length src ≡ length old = length-map old (movedOne (a .up)) in
     let more : j - a .from < length src = omega arith in
     let place : a .from + (j - a .from) ≡ j = omega arith in
     let read : getD (s .loop .starts) j 0 ≡ getD old (j - a .from) 0 =
@@ -60,26 +60,26 @@ loop-again c =
     in (
       omega arith,
       omega arith,
-      copy-stores xs (a .from) src j (omega arith) (omega arith) more (s .loop .starts) (s .loop .inv .2) (c .step .result)
-          (c .step .ensures ∙ ap (stepped (a .up)) read ∙ sym (getD-map (stepped (a .up)) old (j - a .from) (omega arith))),
+      copy-stores xs (a .from) src j (omega arith) (omega arith) more (s .loop .starts) (s .loop .inv .2) (c .moved-one .result)
+          (c .moved-one .ensures ∙ ap (movedOne (a .up)) read ∙ sym (getD-map (movedOne (a .up)) old (j - a .from) (omega arith))),
     )
 
 returns : tie.Need-returns Inv-loop μ-loop
-unfolding turned
+unfolding movedStarts
 returns c =
     let a = c .before .before .args in
-    c .before .loop .inv .2 ∙ ap (λ (j : ℕ). paste (now (a .starts)) (a .from) (map (stepped (a .up)) (drop (a .from) (now (a .starts)))) (j - a .from)) (omega arith)
+    c .before .loop .inv .2 ∙ ap (λ (j : ℕ). paste (now (a .starts)) (a .from) (map (movedOne (a .up)) (drop (a .from) (now (a .starts)))) (j - a .from)) (omega arith)
 
-pub turn-spec : {M : Type 1} → statement M
-turn-spec =
+pub move-starts-spec : {M : Type 1} → statement M
+move-starts-spec =
     tie.close
     (tie.spec
     Inv-loop
     μ-loop
     loop-holds
-    mul-step
-    element-copy-out-step
-    step-requires
+    mul-moved-one
+    element-copy-out-moved-one
+    moved-one-requires
     mul-starts
     element-write-starts
     add-j
