@@ -1,14 +1,17 @@
 -- An accepted change: the session that it returns holds the changed table, and the answer and the walk are the plain table's. Assumes nothing.
-use mathlib.Core.Path.{_≡_, refl, sym, ap, subst, _∙_}
+use mathlib.Core.Path.{_≡_, refl, sym, ap, subst, subst⁻¹, _∙_}
 use mathlib.Core.Logic.{_≢_, ⊎-elim}
 use mathlib.Core.Bool.{true, false}
 use mathlib.Core.List.{List, [], _∷_}
 use Prim.Native.Nat.{ℕ, _+_, _-_, _≤_}
+use native.Mathlib.Nat.{add-zero}
 use native.Mathlib.Omega.{arith}
 use lib.ListN.{length, getD}
 use borrow.Author.Tests.{ltb-false}
 use Rattle.plain.specs.Lists.{elem, In}
-use Rattle.plain.specs.Search.{Graph, discoveredOf, meets, run, unfinished, verdict, count}
+use Rattle.plain.specs.Search.{Graph, discoveredOf, meets, run, Verdict as PlainVerdict, unfinished, verdict, count}
+use Rattle.rows.specs.Rows.{edgeCount, Compressed}
+use Rattle.rows.specs.Change.{Rows, rowsOf}
 use Rattle.plain.specs.Table.{Table, searched, final, firstMeeting}
 use Rattle.plain.specs.Refusals.{Trial, accepted, refused, addTrial, cutTrial, shortRoom}
 use Rattle.plain.specs.Machine.{Change, named, apply, kept, Answer as PlainAnswer, refusal, numbered, answer, changeTrial, trialOf, answerTo, tableAfter, changeAnswer, after, written, answerLine}
@@ -22,7 +25,7 @@ use Rattle.plain.proofs.Trials.{passed}
 use Rattle.plain.proofs.Rows.{agree}
 use Rattle.plain.proofs.Tables.{Valid, valid, valid-change}
 use Rattle.plain.proofs.Demands.{run-final, verdict-right, change-unmet, change-met}
-use Rattle.search.specs.Core.{Core, none, rewound, plus}
+use Rattle.search.specs.Core.{Core, none, plus}
 use Rattle.search.proofs.Represents.{plus-more}
 use Rattle.search.proofs.Scans.{ran-from}
 use Rattle.search.proofs.Rewind.{notesOf}
@@ -32,15 +35,16 @@ use Rattle.session.specs.declared.Answer.{Answer}
 use Rattle.session.specs.declared.Op.{Op}
 use Rattle.session.specs.declared.Op.the-variants.{Add, Cut}
 use Rattle.session.specs.declared.Session.{Session}
-use Rattle.session.specs.declared.Trial.the-variants.{Accepted, Refused}
+use Rattle.session.specs.declared.Settled.{Settled}
+use Rattle.session.specs.declared.Resumption.{Resumption}
 use Rattle.session.specs.declared.Verdict.{Verdict}
-use Rattle.session.specs.Model.{tried, addTrialIn, cutTrialIn, trialIn, sourceOf, FiledOne, Sought, verdictOf, sessionOf, refusing, answerIs, shownWalk}
+use Rattle.session.specs.Model.{addTrialIn, cutTrialIn, trialIn, sourceOf, filedIn, Records, recordsOf, recordsIn, resumptionAt, backAt, Sought, verdictOf, sessionOf, refusing, answerIs, shownWalk, Settles, ChangedIn}
 use Rattle.session.specs.Promises.{shown, changeOf, Tells, Holds, Changes}
 use Rattle.session.proofs.Pairs.{outside-from}
-use Rattle.session.proofs.Trying.{tried-accepted, tried-refused, stop}
-use Rattle.session.proofs.Held.{size-few, small, trial-same, source-below, refiled}
+use Rattle.session.proofs.Trying.{tried-refused, stop}
+use Rattle.session.proofs.Held.{size-few, small, trial-same, source-below, Refiled, refiled}
 use Rattle.session.proofs.Told.{tells-answer, tells-written, tells-fits, never-refused}
-use Rattle.session.proofs.Sought.{matches, Reached, reached}
+use Rattle.session.proofs.Sought.{matches, verdict-kept, Reached, reached, taken-nowhere, taken-at}
 
 named-one : (op : Op) → named (changeOf op) ≡ sourceOf op ∷ []
 unfolding named
@@ -70,11 +74,11 @@ room-enough (Add from to) t room e = ltb-false room (t .size) (passed _ _ _ (pas
 room-enough (Cut from to) t room e = ltb-false room (t .size) (passed _ _ _ (passed _ _ _ (passed _ _ _ (passed _ _ _ e .1) .1) .1) .0)
 
 -- what the new records are worth for the changed table
-record Settled (c : Change) (t : Table) (v : Verdict) (number parent index probes stamp walk : List ℕ) : Type 0 where
+record Worth (c : Change) (t : Table) (v : Verdict) (a : Records) : Type 0 where
   steps : ℕ
   ended : verdict (run (searched (apply c t)) steps) ≢ unfinished
-  archive : Archived (searched (apply c t)) steps number parent index probes stamp walk
-  tells : Tells (v .stem) (v .length) walk (verdict (final (apply c t)))
+  archive : Archived (searched (apply c t)) steps (a .number) (a .parent) (a .index) (a .probes) (a .stamp) (a .walk)
+  tells : Tells (v .stem) (v .length) (a .walk) (verdict (final (apply c t)))
   kept-is : v .kept ≡ kept c t
   adds-up : v .kept + v .spent ≡ count (final (apply c t))
   total-is : plus (v .kept) (v .spent) ≡ count (final (apply c t))
@@ -89,10 +93,15 @@ archive-moved g h n number parent index probes stamp walk a w e = record {
   unmarked = λ x b o. a .unmarked x b (rw e at o);
 }
 
-module _ (op : Op) (s : Session) (targets starts number parent index probes stamp walk : List ℕ) (v : Verdict)
-    (filed : FiledOne op (s .targets) (s .starts) targets starts)
-    (sought : Sought targets starts (s .words) (s .start) (sourceOf op) (record { stem = s .stem; length = s .length; spent = 0; kept = s .total })
-    (s .number) (s .parent) (s .index) (s .probes) (s .stamp) (s .walk) v number parent index probes stamp walk)
+-- what a session holds of its last search
+abbrev oldOf : Session → Verdict
+oldOf s = record { stem = s .stem; length = s .length; spent = 0; kept = s .total }
+
+abbrev recordsHeld : Session → Records
+recordsHeld s = recordsOf (s .number) (s .parent) (s .index) (s .probes) (s .stamp) (s .walk)
+
+module _ (op : Op) (s : Session) (rows : Rows) (a : Records) (v : Verdict) (new : rows ≡ filedIn op (s .size) (rowsOf (s .targets) (s .starts)))
+    (sought : Sought (rows .targets) (rows .starts) (s .words) (s .start) (resumptionAt (s .number) (sourceOf op)) (oldOf s) (recordsHeld s) v a)
     (t : Table) (h : Holds s t) (room : ℕ) (yes-it-is : changeTrial (changeOf op) t room ≡ accepted) where
   abbrev from : ℕ
   from = sourceOf op
@@ -112,65 +121,64 @@ module _ (op : Op) (s : Session) (targets starts number parent index probes stam
   r : Notes
   r = notesOf (s .number) (s .parent) (s .index) (s .probes) (s .stamp)
 
+  rows-new : Refiled rows t′
+  rows-new = refiled s t h rows op room yes-it-is (new ∙ ap (λ (n : ℕ). filedIn op n (rowsOf (s .targets) (s .starts))) (h .size-is))
+
   -- the named state was never met: nothing is to be done
-  settled-unmet : getD (s .number) from 0 ≡ none → elem from (discoveredOf (run (searched t) (h .steps))) ≡ false → Settled c t v number parent index probes stamp walk
+  worth-unmet : getD (s .number) from 0 ≡ none → elem from (discoveredOf (run (searched t) (h .steps))) ≡ false → Worth c t v a
   unfolding r kept
-  settled-unmet e f =
-      let q = sought .unmet e in
+  worth-unmet e f =
+      let q = subst (λ (x : Resumption). Sought (rows .targets) (rows .starts) (s .words) (s .start) x (oldOf s) (recordsHeld s) v a) (taken-nowhere (s .number) from e) sought in
       let m : meets (named c) (run (searched t) (h .steps)) ≡ false = subst (λ (l : List ℕ). meets l (run (searched t) (h .steps)) ≡ false) (sym (named-one op)) (unmet-one (searched t) from (run (searched t) (h .steps)) f) in
       let u = change-unmet c t ok ok′ (h .steps) (h .ended) r m (h .archived .holds) in
-      let k : v .kept ≡ kept c t = ap (λ (w : Verdict). w .kept) (q .0) ∙ h .total-is ∙ sym (ap count (u .all-kept)) in
-      let z : v .kept + v .spent ≡ count (final t′) = omega (arith, ap (λ (w : Verdict). w .kept) (q .0), ap (λ (w : Verdict). w .spent) (q .0), h .total-is, ap count (u .same-final)) in
-      record {
+      let z : s .total + 0 ≡ count (final t′) = omega (arith, h .total-is, ap count (u .same-final)) in
+      subst⁻¹ (λ (x : Verdict). Worth c t x a) (q .0) (subst⁻¹ (λ (x : Records). Worth c t (oldOf s) x) (q .1) (record {
         steps = h .steps;
         ended = u .still-ended;
-        archive = rw (q .1, q .2, q .3, q .4, q .5, q .6) (archive-moved (searched t) (searched t′) (h .steps) (s .number) (s .parent) (s .index) (s .probes) (s .stamp) (s .walk) (h .archived) (u .holds) (u .same-run));
-        tells = tells-same (ap (λ (w : Verdict). w .stem) (q .0)) (ap (λ (w : Verdict). w .length) (q .0)) (q .6) (ap verdict (u .same-final)) (h .told);
-        kept-is = k;
+        archive = archive-moved (searched t) (searched t′) (h .steps) (s .number) (s .parent) (s .index) (s .probes) (s .stamp) (s .walk) (h .archived) (u .holds) (u .same-run);
+        tells = subst⁻¹ (λ (w : PlainVerdict). Tells (s .stem) (s .length) (s .walk) w) (ap verdict (u .same-final)) (h .told);
+        kept-is = h .total-is ∙ sym (ap count (u .all-kept));
         adds-up = z;
-        total-is = plus-more (v .kept) (v .spent) (omega (arith, z, limits (searched t′) (small t′ ok′) (h .steps) .probes-few, ap count (run-final t′ ok′ (h .steps) (u .still-ended)))) ∙ z;
-      }
-    where
-      tells-same : v .stem ≡ s .stem → v .length ≡ s .length → walk ≡ s .walk → verdict (final t′) ≡ verdict (final t) → Tells (s .stem) (s .length) (s .walk) (verdict (final t))
-          → Tells (v .stem) (v .length) walk (verdict (final t′))
-      tells-same e₁ e₂ e₃ e₄ w = rw (e₁, e₂, e₃, e₄) w
+        total-is = plus-more (s .total) 0 (omega (arith, z, limits (searched t′) (small t′ ok′) (h .steps) .probes-few, ap count (run-final t′ ok′ (h .steps) (u .still-ended)))) ∙ z;
+      }))
 
   -- the named state was met: the search is resumed there
-  settled-met : (getD (s .number) from 0 ≡ none → ⊥) → In from (discoveredOf (run (searched t) (h .steps))) → Settled c t v number parent index probes stamp walk
-  unfolding r kept verdictOf
-  settled-met e i =
-      let q = sought .met e in
+  worth-met : (getD (s .number) from 0 ≡ none → ⊥) → In from (discoveredOf (run (searched t) (h .steps))) → Worth c t v a
+  unfolding r kept
+  worth-met e i =
+      let q = subst (λ (x : Resumption). Sought (rows .targets) (rows .starts) (s .words) (s .start) x (oldOf s) (recordsHeld s) v a) (taken-at (s .number) from e) sought in
       let m : meets (named c) (run (searched t) (h .steps)) ≡ true = subst (λ (l : List ℕ). meets l (run (searched t) (h .steps)) ≡ true) (sym (named-one op)) (meets-one (searched t) from (run (searched t) (h .steps)) i) in
       let u = change-met c t ok ok′ (h .steps) (h .ended) r m (h .archived .holds) in
       let w = u .meeting in
       let here : w .meeting .state ≡ from = in-one (w .meeting .state) from (subst (λ (l : List ℕ). In (w .meeting .state) l) (named-one op) (w .meeting .is-named)) in
       let fit = resume-fits (named c) (searched t) (searched t′) (agree c t) (small t′ ok′) (h .steps) (s .number) (s .parent) (s .index) (s .probes) (s .stamp) (s .walk) (h .archived) w in
-      let back = rewound (t′ .start) (w .meeting .state) 0 (s .number) (s .parent) (s .index) (s .probes) (s .stamp) (s .walk) in
-      let ran = ran-from targets starts (s .words) (same-start (h .start-is ∙ sym (changed-start op t)) (sym here)) (q .1) in
-      let g = reached t′ ok′ targets starts (s .words) (matches t′ targets starts (s .words) (refiled s t h targets starts op room yes-it-is filed) (h .words-are ∙ sym (changed-words op t)))
+      let back = backAt (t′ .start) (w .meeting .state) (recordsHeld s) in
+      let ran = ran-from (rows .targets) (rows .starts) (s .words) (same-start (h .start-is ∙ sym (changed-start op t)) (sym here)) (q .1) in
+      let g = reached t′ ok′ (rows .targets) (rows .starts) (s .words) (matches t′ rows (s .words) rows-new (h .words-are ∙ sym (changed-words op t)))
       (w .at) back (q .0) (rewound-spent (t′ .start) (w .meeting .state) 0 (s .number) (s .parent) (s .index) (s .probes) (s .stamp) (s .walk)) fit ran in
-      settle (q .0) (w .at) g (q .2) (q .3) (q .4) (q .5) (q .6) (q .7) (q .8) (ap count (u .kept-here))
+      subst⁻¹ (λ (x : Verdict). Worth c t x a) (q .2) (subst⁻¹ (λ (x : Records). Worth c t (verdictOf (q .0 .walker) (q .0 .spent)) x) (q .3) (settled-by (q .0) (w .at) g (ap count (u .kept-here))))
     where
-      same-start : {a b x y : ℕ} → a ≡ b → x ≡ y → rewound a x 0 (s .number) (s .parent) (s .index) (s .probes) (s .stamp) (s .walk) ≡ rewound b y 0 (s .number) (s .parent) (s .index) (s .probes) (s .stamp) (s .walk)
-      same-start p z = λ j. rewound (p j) (z j) 0 (s .number) (s .parent) (s .index) (s .probes) (s .stamp) (s .walk)
+      same-start : {x y z w : ℕ} → x ≡ y → z ≡ w → backAt x z (recordsHeld s) ≡ backAt y w (recordsHeld s)
+      same-start p z = λ j. backAt (p j) (z j) (recordsHeld s)
 
-      settle : (x : Core) (n : ℕ) → Reached t′ n x → v ≡ verdictOf (x .walker) (x .spent) → number ≡ x .number → parent ≡ x .parent → index ≡ x .index → probes ≡ x .probes → stamp ≡ x .stamp → walk ≡ x .walk
-          → count (firstMeeting (named c) t′) ≡ count (run (searched t′) n) → Settled c t v number parent index probes stamp walk
-      settle x n g e₀ e₁ e₂ e₃ e₄ e₅ e₆ z = rw (e₀, e₁, e₂, e₃, e₄, e₅, e₆) (record {
-        steps = g .steps;
-        ended = g .ended;
-        archive = g .kept-archive;
-        tells = g .tells;
-        kept-is = g .kept-is ∙ sym z;
-        adds-up = g .adds-up;
-        total-is = g .total-is;
-      })
+      settled-by : (x : Core) (n : ℕ) → Reached t′ n x → count (firstMeeting (named c) t′) ≡ count (run (searched t′) n) → Worth c t (verdictOf (x .walker) (x .spent)) (recordsIn x)
+      settled-by x n g z =
+          let k = verdict-kept (x .walker) (x .spent) in
+          record {
+            steps = g .steps;
+            ended = g .ended;
+            archive = g .kept-archive;
+            tells = g .tells;
+            kept-is = k .0 ∙ g .kept-is ∙ sym z;
+            adds-up = (λ j. k .0 j + k .1 j) ∙ g .adds-up;
+            total-is = (λ j. plus (k .0 j) (k .1 j)) ∙ g .total-is;
+          }
 
   -- the records are those of the changed table, either way
-  settled : Settled c t v number parent index probes stamp walk
-  settled = ⊎-elim
-      (λ i. settled-met (λ e. met-number i e) i)
-      (λ f. settled-unmet (h .archived .undiscovered from (source-below op t room ok yes-it-is) f) f)
+  worth : Worth c t v a
+  worth = ⊎-elim
+      (λ i. worth-met (λ e. met-number i e) i)
+      (λ f. worth-unmet (h .archived .undiscovered from (omega (arith, source-below op t room yes-it-is, size-few (t .size) (ok .size-ok))) f) f)
       (either (elem from (discoveredOf (run (searched t) (h .steps)))))
     where
       met-number : In from (discoveredOf (run (searched t) (h .steps))) → getD (s .number) from 0 ≡ none → ⊥
@@ -185,21 +193,22 @@ module _ (op : Op) (s : Session) (targets starts number parent index probes stam
 
   -- the session that is returned
   abbrev next : Session
-  next = sessionOf (s .size) (s .start) (s .words) targets starts number parent index probes stamp walk v (plus (v .kept) (v .spent))
+  next = sessionOf (s .size) (s .start) (s .words) rows a v (plus (v .kept) (v .spent))
 
   next-holds : Holds next t′
   unfolding trialOf
   next-holds =
-      let f = refiled s t h targets starts op room yes-it-is filed in
-      let w = settled in
+      let f = rows-new in
+      let w = worth in
+      let n : s .size ≡ t′ .size = h .size-is ∙ sym (changed-size op t) in
       record {
         arises = changed t (record { change = c; room = room }) (h .arises) yes-it-is;
-        size-is = h .size-is ∙ sym (changed-size op t);
+        size-is = n;
         start-is = h .start-is ∙ sym (changed-start op t);
         words-are = h .words-are ∙ sym (changed-words op t);
-        compressed = f .compressed;
+        compressed = subst⁻¹ (λ (k : ℕ). Compressed k (rows .targets) (rows .starts)) n (f .compressed);
         rows-are = f .rows-are;
-        count-is = f .count-is;
+        count-is = ap (edgeCount (rows .starts)) n ∙ f .count-is;
         steps = w .steps;
         ended = w .ended;
         archived = w .archive;
@@ -211,18 +220,18 @@ module _ (op : Op) (s : Session) (targets starts number parent index probes stam
   abbrev plain : PlainAnswer
   plain = answer (verdict (final t′)) (count (final t′) - kept c t) (kept c t)
 
-  next-written : (lent lent′ : List ℕ) → room ≤ length lent → (v .stem ≤ v .length → v .length ≤ 512 → v .length ≤ length lent → lent′ ≡ shownWalk (v .length) walk lent) → lent′ ≡ written plain lent
+  next-written : (lent lent′ : List ℕ) → room ≤ length lent → (v .stem ≤ v .length → v .length ≤ 512 → v .length ≤ length lent → lent′ ≡ shownWalk (v .length) (a .walk) lent) → lent′ ≡ written plain lent
   next-written lent lent′ e wrote =
-      let w = settled in
-      let f = tells-fits v (verdict (final t′)) walk (t′ .size) (w .tells) (verdict-right t′ ok′ .short) in
+      let w = worth in
+      let f = tells-fits v (verdict (final t′)) (a .walk) (t′ .size) (w .tells) (verdict-right t′ ok′ .short) in
       let size : t′ .size ≡ t .size = changed-size op t in
       wrote (f .0) (omega (arith, f .1, size-few (t′ .size) (ok′ .size-ok))) (omega (arith, f .1, size, room-enough op t room yes-it-is))
-      ∙ tells-written v (verdict (final t′)) walk lent (count (final t′) - kept c t) (kept c t) (w .tells)
+      ∙ tells-written v (verdict (final t′)) (a .walk) lent (count (final t′) - kept c t) (kept c t) (w .tells)
 
   next-answer : (lent lent′ : List ℕ) → lent′ ≡ written plain lent → answerLine plain ≡ shown (answerIs v) lent′ ∷ []
   next-answer lent lent′ e =
-      let w = settled in
-      tells-answer v (verdict (final t′)) walk lent (count (final t′) - kept c t) (kept c t) (w .tells) (omega (arith, w .kept-is, w .adds-up)) (w .kept-is)
+      let w = worth in
+      tells-answer v (verdict (final t′)) (a .walk) lent (count (final t′) - kept c t) (kept c t) (w .tells) (omega (arith, w .kept-is, w .adds-up)) (w .kept-is)
       ∙ ap (λ (x : List ℕ). shown (answerIs v) x ∷ []) (sym e)
 
 -- ---- the contract of a change
@@ -250,49 +259,78 @@ unfolding addTrialIn cutTrialIn
 empty-six (Add from to) s room z = tried-refused _ 6 (stop 6 _ _ (outside-from from to (s .size) (omega (arith, z))))
 empty-six (Cut from to) s room z = tried-refused _ 6 (stop 6 _ _ (outside-from from to (s .size) (omega (arith, z))))
 
-pub change-refused : (op : Op) (s : Session) (lent : List ℕ) (a : Answer) (n : ℕ) → a ≡ refusing n → Refused n ≡ tried (trialIn op (s .size) (s .targets) (s .starts) (length lent))
-    → Changes op s lent (record { answer = a; session = s }) lent
-unfolding shown written answerLine
-change-refused op s lent a n b e = record {
-  answers = λ t h. ap answerLine (answer-refused (changeOf op) (length lent) t n (is t h)) ∙ sym (ap (λ (x : Answer). shown x lent ∷ []) b);
-  writes = λ t h. sym (ap (λ (x : PlainAnswer). written x lent) (answer-refused (changeOf op) (length lent) t n (is t h)));
-  holds = λ t h. subst (λ (x : Table). Holds s x) (sym (table-refused (changeOf op) (length lent) t n (is t h))) h;
-  refused = λ m z. (refl, refl);
-  no-game = λ o. b ∙ ap refusing (refused-same (sym (tried-refused _ n e) ∙ empty-six op s (length lent) o));
+-- the session that a change makes of one, where nothing has changed
+same-session : (s : Session) → s .total ≤ 65535 → sessionOf (s .size) (s .start) (s .words) (rowsOf (s .targets) (s .starts)) (recordsHeld s) (oldOf s) (plus (s .total) 0) ≡ s
+same-session s h = λ i. record {
+  size = s .size;
+  start = s .start;
+  words = s .words;
+  targets = s .targets;
+  starts = s .starts;
+  number = s .number;
+  parent = s .parent;
+  index = s .index;
+  probes = s .probes;
+  stamp = s .stamp;
+  walk = s .walk;
+  stem = s .stem;
+  length = s .length;
+  total = (plus-more (s .total) 0 (omega arith) ∙ add-zero (s .total)) i;
 }
-  where
-    is : (t : Table) → Holds s t → changeTrial (changeOf op) t (length lent) ≡ refused n
-    is t h = sym (trial-same s t h op (length lent)) ∙ tried-refused (trialIn op (s .size) (s .targets) (s .starts) (length lent)) n e
 
-    refused-same : {x y : ℕ} → refused x ≡ refused y → x ≡ y
-    refused-same z = cc
+module _ (op : Op) (s : Session) (lent : List ℕ) where
+  change-refused : (n : ℕ) → trialIn op (s .size) (s .targets) (s .starts) (length lent) ≡ refused n → Changes op s lent (record { answer = refusing n; session = s }) lent
+  unfolding shown written answerLine
+  change-refused n e = record {
+    answers = λ t h. ap answerLine (answer-refused (changeOf op) (length lent) t n (is t h));
+    writes = λ t h. sym (ap (λ (x : PlainAnswer). written x lent) (answer-refused (changeOf op) (length lent) t n (is t h)));
+    holds = λ t h. subst⁻¹ (λ (x : Table). Holds s x) (table-refused (changeOf op) (length lent) t n (is t h)) h;
+    refused = λ m z. (refl, refl);
+    no-game = λ o. ap refusing (refused-same (sym e ∙ empty-six op s (length lent) o));
+  }
+    where
+      is : (t : Table) → Holds s t → changeTrial (changeOf op) t (length lent) ≡ refused n
+      is t h = sym (trial-same s t h op (length lent)) ∙ e
 
-pub change-accepted : (op : Op) (s : Session) (lent lent′ targets starts number parent index probes stamp walk : List ℕ) (v : Verdict)
-    → tried (trialIn op (s .size) (s .targets) (s .starts) (length lent)) ≡ Accepted
-    → FiledOne op (s .targets) (s .starts) targets starts
-    → Sought targets starts (s .words) (s .start) (sourceOf op) (record { stem = s .stem; length = s .length; spent = 0; kept = s .total })
-    (s .number) (s .parent) (s .index) (s .probes) (s .stamp) (s .walk) v number parent index probes stamp walk
-    → (v .stem ≤ v .length → v .length ≤ 512 → v .length ≤ length lent → lent′ ≡ shownWalk (v .length) walk lent)
-    → (a : Answer) (total : ℕ) → a ≡ answerIs v → total ≡ plus (v .kept) (v .spent)
-    → Changes op s lent (record {
-      answer = a;
-      session = sessionOf (s .size) (s .start) (s .words) targets starts number parent index probes stamp walk v total;
-    }) lent′
-change-accepted op s lent lent′ targets starts number parent index probes stamp walk v e filed sought wrote a total f g = rw (f, g) (record {
-  answers = λ t h. ap answerLine (answer-accepted (changeOf op) (length lent) t (is t h))
-      ∙ next-answer op s targets starts number parent index probes stamp walk v filed sought t h (length lent) (is t h) lent lent′ (list t h);
-  writes = λ t h. list t h ∙ sym (ap (λ (x : PlainAnswer). written x lent) (answer-accepted (changeOf op) (length lent) t (is t h)));
-  holds = λ t h. subst (λ (x : Table). Holds (next op s targets starts number parent index probes stamp walk v filed sought t h (length lent) (is t h)) x) (sym (table-accepted (changeOf op) (length lent) t (is t h)))
-      (next-holds op s targets starts number parent index probes stamp walk v filed sought t h (length lent) (is t h));
-  refused = λ m z. absurd (never-refused v m z);
-  no-game = λ o. absurd (refused-not (sym (empty-six op s (length lent) o) ∙ tried-accepted _ e));
-})
-  where
-    is : (t : Table) → Holds s t → changeTrial (changeOf op) t (length lent) ≡ accepted
-    is t h = sym (trial-same s t h op (length lent)) ∙ tried-accepted (trialIn op (s .size) (s .targets) (s .starts) (length lent)) e
+      refused-same : {x y : ℕ} → refused x ≡ refused y → x ≡ y
+      refused-same z = cc
 
-    list : (t : Table) (h : Holds s t) → lent′ ≡ written (plain op s targets starts number parent index probes stamp walk v filed sought t h (length lent) (is t h)) lent
-    list t h = next-written op s targets starts number parent index probes stamp walk v filed sought t h (length lent) (is t h) lent lent′ (omega arith) wrote
+  change-accepted : (lent′ : List ℕ) (rows : Rows) (a : Records) (r : Settled) → trialIn op (s .size) (s .targets) (s .starts) (length lent) ≡ accepted
+      → rows ≡ filedIn op (s .size) (rowsOf (s .targets) (s .starts))
+      → Settles (rows .targets) (rows .starts) (s .words) (s .start) (resumptionAt (s .number) (sourceOf op)) (oldOf s) (recordsHeld s) lent r a lent′
+      → Changes op s lent (record { answer = r .answer; session = sessionOf (s .size) (s .start) (s .words) rows a (r .verdict) (plus (r .verdict .kept) (r .verdict .spent)) }) lent′
+  change-accepted lent′ rows a r e new w = rw (w .answer-is) (record {
+    answers = λ t h. ap answerLine (answer-accepted (changeOf op) (length lent) t (is t h))
+        ∙ next-answer op s rows a (r .verdict) new (w .sought) t h (length lent) (is t h) lent lent′ (list t h);
+    writes = λ t h. list t h ∙ sym (ap (λ (x : PlainAnswer). written x lent) (answer-accepted (changeOf op) (length lent) t (is t h)));
+    holds = λ t h. subst⁻¹ (λ (x : Table). Holds (next op s rows a (r .verdict) new (w .sought) t h (length lent) (is t h)) x) (table-accepted (changeOf op) (length lent) t (is t h))
+        (next-holds op s rows a (r .verdict) new (w .sought) t h (length lent) (is t h));
+    refused = λ m z. absurd (never-refused (r .verdict) m z);
+    no-game = λ o. absurd (refused-not (sym (empty-six op s (length lent) o) ∙ e));
+  })
+    where
+      is : (t : Table) → Holds s t → changeTrial (changeOf op) t (length lent) ≡ accepted
+      is t h = sym (trial-same s t h op (length lent)) ∙ e
 
-    refused-not : refused 6 ≡ accepted → ⊥
-    refused-not z = let q : _≡_ {A = ℕ} 0 1 = cc in omega arith
+      list : (t : Table) (h : Holds s t) → lent′ ≡ written (plain op s rows a (r .verdict) new (w .sought) t h (length lent) (is t h)) lent
+      list t h = next-written op s rows a (r .verdict) new (w .sought) t h (length lent) (is t h) lent lent′ (omega arith) (w .wrote)
+
+      refused-not : refused 6 ≡ accepted → ⊥
+      refused-not z = let q : _≡_ {A = ℕ} 0 1 = cc in omega arith
+
+  -- the contract of a change, from what the change leaves in the arrays
+  pub change-right : (lent′ : List ℕ) (rows : Rows) (a : Records) (r : Settled) (total : ℕ) → s .total ≤ 65535 → total ≡ plus (r .verdict .kept) (r .verdict .spent)
+      → ChangedIn op (s .words) (s .size) (s .start) (oldOf s) (rowsOf (s .targets) (s .starts)) (recordsHeld s) lent r rows a lent′
+      → Changes op s lent (record { answer = r .answer; session = sessionOf (s .size) (s .start) (s .words) rows a (r .verdict) total }) lent′
+  change-right lent′ rows a r total small e w = by-trial (trialIn op (s .size) (s .targets) (s .starts) (length lent)) refl
+    where
+      Made : Settled → Rows → Records → ℕ → List ℕ → Type 0
+      Made x y z n list = Changes op s lent (record { answer = x .answer; session = sessionOf (s .size) (s .start) (s .words) y z (x .verdict) n }) list
+
+      by-trial : (x : Trial) → trialIn op (s .size) (s .targets) (s .starts) (length lent) ≡ x → Made r rows a total lent′
+      by-trial accepted f = let q = w .on-acceptance f in subst⁻¹ (λ (n : ℕ). Made r rows a n lent′) e (change-accepted lent′ rows a r f (q .0) (q .1))
+      by-trial (refused n) f =
+          let q = w .on-refusal n f in
+          let sum : total ≡ plus (s .total) 0 = e ∙ (λ i. plus (q .0 i .verdict .kept) (q .0 i .verdict .spent)) in
+          subst⁻¹ (λ (x : ℕ × (Settled × (Rows × (Records × List ℕ)))). Made (x .1) (x .2) (x .3) (x .0) (x .4)) (λ i. (sum i, q .0 i, q .1 i, q .2 i, q .3 i))
+          (subst⁻¹ (λ (x : Session). Changes op s lent (record { answer = refusing n; session = x }) lent) (same-session s small) (change-refused n f))

@@ -7,22 +7,24 @@ use Prim.Native.Nat.{ℕ, suc, _+_, _%_, _≤_, _<_}
 use native.Mathlib.Decide.{ℕ-discrete}
 use native.Mathlib.Omega.{arith}
 use lib.Dec.{eqb, ltb, leb, leb·suc-suc}
-use lib.ListN.{length, drop, replicate, length-append, getD-replicate}
-use borrow.Author.Tests.{lt-ltb, le-ltb, ltb-false, leb-true, leb-false, ne-eqb}
+use lib.ListN.{length, drop, replicate, length-append}
+use borrow.Author.Tests.{lt-ltb, ltb-false, leb-false, ne-eqb}
 use Rattle.plain.specs.Lists.{any, elem}
 use Rattle.plain.specs.Search.{Edge}
 use Rattle.plain.specs.Table.{row}
 use Rattle.plain.specs.Refusals.{badSize, badCount, outside, pairs, sameEdge, present, repeated}
-use Rattle.plain.proofs.Tests.{contra, not-true, or-first, or-second, or-true, or-false, or-neither, none-cons}
+use Rattle.plain.proofs.Tests.{contra, not-true, or-first, or-second, or-false, or-neither, none-cons}
 use Rattle.plain.proofs.Edges.{Has, has-head, has-tail, has-cases, has-nil, same-edge, same-self}
 use Rattle.plain.proofs.Rows.{row-nil, row-has, has-row, row-add, row-add-other}
-use Rattle.rows.specs.Rows.{rowAt, degreeAt, edgeCount, placeOf, Compressed, Inserted}
+use Rattle.rows.specs.Rows.{rowAt, degreeAt, edgeCount, placeOf, Compressed}
+use Rattle.rows.specs.Change.{rowsOf, inserted}
 use Rattle.rows.proofs.Entries.{row-length}
-use Rattle.rows.proofs.Empty.{empty-row, empty-compressed}
+use Rattle.rows.proofs.Empty.{empty-row, empty-count, empty-compressed}
+use Rattle.rows.proofs.Change.{inserts-edge}
 use Rattle.session.specs.declared.Trial.{Trial}
 use Rattle.session.specs.declared.Trial.the-variants.{Accepted, Refused}
-use Rattle.session.specs.Model.{tried, earlyTrial, Filed, FiledAll, Tried}
-use Rattle.session.proofs.Pairs.{moveAt, pairs-more, pairs-end, length-pairs, outside-from, outside-to}
+use Rattle.session.specs.Model.{tried, earlyTrial, there, Filed, FiledAll, Tried}
+use Rattle.session.proofs.Pairs.{moveAt, pairs-more, pairs-end, length-pairs}
 use Rattle.session.proofs.Trying.{stop, skip, none-held, room-short, room-enough, early-held, Early, early-free}
 
 -- ---- an edge is present exactly when its target has a place in its row
@@ -41,9 +43,8 @@ same-test true b f g = sym (f refl)
 same-test false true f g = g refl
 same-test false false f g = refl
 
-pub there : (targets starts : List ℕ) (es : List Edge) (v t : ℕ) → rowAt targets starts v ≡ row es v
-    → ltb (placeOf t (rowAt targets starts v)) (degreeAt starts v) ≡ present es (v, t)
-there targets starts es v t e =
+pub there-present : (targets starts : List ℕ) (es : List Edge) (v t : ℕ) → rowAt targets starts v ≡ row es v → there targets starts v t ≡ present es (v, t)
+there-present targets starts es v t e =
     ap (ltb (placeOf t (rowAt targets starts v))) (sym (row-length targets starts v))
     ∙ found t (rowAt targets starts v)
     ∙ ap (elem t) e
@@ -88,140 +89,120 @@ twice (x ∷ es) e rest h = ⊎-elim
 -- ---- what is filed of a list of numbers, up to place i
 
 -- the rows were empty and the list keeps the limits
-pub record Limits (numbers targets starts : List ℕ) : Type 0 where
+pub record Limits (size : ℕ) (numbers targets starts : List ℕ) : Type 0 where
   pub no-targets : targets ≡ replicate 2048 0
   pub no-starts : starts ≡ replicate 513 0
-  pub within : any (outside 512) (pairs numbers) ≡ false
+  pub states : size ≤ 512
+  pub within : any (outside size) (pairs numbers) ≡ false
   pub few : length (pairs numbers) ≤ 2048
 
-pub record FiledTo (numbers : List ℕ) (i : ℕ) (targets starts : List ℕ) : Type 0 where
-  pub edges : List Edge
-  pub compressed : Compressed targets starts
-  pub rows : (v : ℕ) → rowAt targets starts v ≡ row edges v
-  pub count : edgeCount starts ≡ length edges
-  pub once : repeated edges ≡ false
-  pub split : pairs numbers ≡ edges ++ pairs (drop i numbers)
+module _ (size : ℕ) where
+  pub record FiledTo (numbers : List ℕ) (i : ℕ) (targets starts : List ℕ) : Type 0 where
+    pub edges : List Edge
+    pub compressed : Compressed size targets starts
+    pub rows : (v : ℕ) → rowAt targets starts v ≡ row edges v
+    pub count : edgeCount starts size ≡ length edges
+    pub once : repeated edges ≡ false
+    pub split : pairs numbers ≡ edges ++ pairs (drop i numbers)
 
-none-filed : (numbers : List ℕ) → FiledTo numbers 0 (replicate 2048 0) (replicate 513 0)
-unfolding repeated
-none-filed numbers = record {
-  edges = [];
-  compressed = empty-compressed;
-  rows = λ v. empty-row v ∙ sym (row-nil v);
-  count = getD-replicate {A = ℕ} 513 512 0 0 (omega arith);
-  once = refl;
-  split = refl;
-}
-
-module _ (numbers targets starts : List ℕ) (l : Limits numbers targets starts) where
-  pub filed-none : FiledTo numbers 0 targets starts
-  filed-none =
-      subst (λ (ts : List ℕ). FiledTo numbers 0 ts starts) (sym (l .no-targets))
-      (subst (λ (ss : List ℕ). FiledTo numbers 0 (replicate 2048 0) ss) (sym (l .no-starts)) (none-filed numbers))
-
-module _ (numbers : List ℕ) (i : ℕ) (targets starts : List ℕ) (f : FiledTo numbers i targets starts) where
-  pub filed-all : length numbers ≤ i + 1 → Filed numbers targets starts
-  filed-all h =
-      let whole : f .edges ≡ pairs numbers =
-      sym (f .split ∙ ap (λ (es : List Edge). f .edges ++ es) (pairs-end numbers i h) ∙ append-nil (f .edges))
-      in
-      record {
-        compressed = f .compressed;
-        rows = λ v. f .rows v ∙ ap (λ (es : List Edge). row es v) whole;
-        count = f .count ∙ ap length whole;
-      }
-
-  pub filed-once : length numbers ≤ i + 1 → false ≡ repeated (pairs numbers)
-  filed-once h =
-      sym (f .once)
-      ∙ ap repeated (sym (f .split ∙ ap (λ (es : List Edge). f .edges ++ es) (pairs-end numbers i h) ∙ append-nil (f .edges)))
-
-  -- the next move, with its place p in its row and the degree d of its source
-  module _ (more : i + 1 < length numbers) (p d : ℕ)
-      (at : p ≡ placeOf (moveAt numbers i .1) (rowAt targets starts (moveAt numbers i .0)))
-      (deg : d ≡ degreeAt starts (moveAt numbers i .0)) where
-    abbrev move : Edge
-    move = moveAt numbers i
-
-    abbrev later : List Edge
-    later = pairs (drop (i + 2) numbers)
-
-    parts : pairs numbers ≡ f .edges ++ (move ∷ later)
-    parts = f .split ∙ ap (λ (es : List Edge). f .edges ++ es) (pairs-more numbers i more)
-
-    test : ltb p d ≡ present (f .edges) move
-    test = ap (λ (k : ℕ). ltb k d) at ∙ ap (ltb (placeOf (move .1) (rowAt targets starts (move .0)))) deg
-        ∙ there targets starts (f .edges) (move .0) (move .1) (f .rows (move .0))
-
-    pub filed-twice : p < d → true ≡ repeated (pairs numbers)
-    filed-twice h = sym (ap repeated parts ∙ twice (f .edges) move later (sym test ∙ lt-ltb p d h))
-
-    module _ (within : any (outside 512) (pairs numbers) ≡ false) (few : length (pairs numbers) ≤ 2048) where
-      source : move .0 < 512
-      unfolding outside
-      source =
-          let o : outside 512 move ≡ false = none-within (outside 512) (f .edges) move later (ap (any (outside 512)) (sym parts) ∙ within) in
-          leb-false 512 (move .0) (or-false (leb 512 (move .0)) (leb 512 (move .1)) o .0)
-
-      room : edgeCount starts < 2048
-      room = omega (arith, ap length parts, length-append (f .edges) (move ∷ later), f .count)
-
-      pub filed-more : d ≤ p → (targets′ starts′ : List ℕ)
-          → (Compressed targets starts → move .0 < 512 → edgeCount starts < 2048 → Inserted targets starts (move .0) (move .1) targets′ starts′)
-          → FiledTo numbers (i + 2) targets′ starts′
-      filed-more h targets′ starts′ inserted =
-          let s = inserted (f .compressed) source room in
-          record {
-            edges = f .edges ++ (move ∷ []);
-            compressed = s .rows .compressed;
-            rows = λ v. elim (ℕ-discrete v (move .0)) [
-              | yes e ↦ subst (λ (u : ℕ). rowAt targets′ starts′ u ≡ row (f .edges ++ (move ∷ [])) u) (sym e)
-                  (s .rows .here ∙ ap (λ (l : List ℕ). l ++ (move .1 ∷ [])) (f .rows (move .0)) ∙ sym (row-add (f .edges) move))
-              | no n ↦ s .rows .others v n ∙ f .rows v ∙ sym (row-add-other (f .edges) move v (ne-eqb (move .0) v (λ e. n (sym e))))
-            ];
-            count = s .count ∙ omega (arith, f .count, length-append (f .edges) (move ∷ []));
-            once = once-more (f .edges) move (f .once) (sym test ∙ le-ltb p d h);
-            split = parts ∙ sym (append-assoc (f .edges) (move ∷ []) later);
-          }
-
--- ---- what filing leaves: all is filed, or a move stands twice
-
-module _ (numbers : List ℕ) (i : ℕ) (targets₀ starts₀ targets starts : List ℕ) (f : Limits numbers targets₀ starts₀ → FiledTo numbers i targets starts) where
-  pub ended : length numbers ≤ i + 1 → FiledAll numbers targets₀ starts₀ false targets starts
-  ended h = record {
-    repeats = λ t s w l. filed-once numbers i targets starts (f (record { no-targets = t; no-starts = s; within = w; few = l })) h;
-    filed = λ t s w l e. filed-all numbers i targets starts (f (record { no-targets = t; no-starts = s; within = w; few = l })) h;
+  none-filed : (numbers : List ℕ) → size ≤ 512 → FiledTo numbers 0 (replicate 2048 0) (replicate 513 0)
+  unfolding repeated
+  none-filed numbers h = record {
+    edges = [];
+    compressed = empty-compressed size h;
+    rows = λ v. empty-row v ∙ sym (row-nil v);
+    count = empty-count size;
+    once = refl;
+    split = refl;
   }
 
-  module _ (more : i + 1 < length numbers) (p d : ℕ)
-      (at : p ≡ placeOf (moveAt numbers i .1) (rowAt targets starts (moveAt numbers i .0)))
-      (deg : d ≡ degreeAt starts (moveAt numbers i .0)) where
-    pub refused : p < d → FiledAll numbers targets₀ starts₀ true targets starts
-    refused h = record {
-      repeats = λ t s w l. filed-twice numbers i targets starts (f (record { no-targets = t; no-starts = s; within = w; few = l })) more p d at deg h;
-      filed = λ t s w l e. absurd (true≢false e);
+  module _ (numbers targets starts : List ℕ) (l : Limits size numbers targets starts) where
+    pub filed-none : FiledTo numbers 0 targets starts
+    filed-none =
+        subst (λ (ts : List ℕ). FiledTo numbers 0 ts starts) (sym (l .no-targets))
+        (subst (λ (ss : List ℕ). FiledTo numbers 0 (replicate 2048 0) ss) (sym (l .no-starts)) (none-filed numbers (l .states)))
+
+  module _ (numbers : List ℕ) (i : ℕ) (targets starts : List ℕ) (f : FiledTo numbers i targets starts) where
+    filed-all : length numbers ≤ i + 1 → Filed numbers size targets starts
+    filed-all h =
+        let whole : f .edges ≡ pairs numbers =
+        sym (f .split ∙ ap (λ (es : List Edge). f .edges ++ es) (pairs-end numbers i h) ∙ append-nil (f .edges))
+        in
+        record {
+          compressed = f .compressed;
+          rows = λ v. f .rows v ∙ ap (λ (es : List Edge). row es v) whole;
+          count = f .count ∙ ap length whole;
+        }
+
+    filed-once : length numbers ≤ i + 1 → false ≡ repeated (pairs numbers)
+    filed-once h =
+        sym (f .once)
+        ∙ ap repeated (sym (f .split ∙ ap (λ (es : List Edge). f .edges ++ es) (pairs-end numbers i h) ∙ append-nil (f .edges)))
+
+    -- the next move, and whether it is there
+    module _ (more : i + 1 < length numbers) (b : Bool) (asked : b ≡ there targets starts (moveAt numbers i .0) (moveAt numbers i .1)) where
+      abbrev move : Edge
+      move = moveAt numbers i
+
+      abbrev later : List Edge
+      later = pairs (drop (i + 2) numbers)
+
+      parts : pairs numbers ≡ f .edges ++ (move ∷ later)
+      parts = f .split ∙ ap (λ (es : List Edge). f .edges ++ es) (pairs-more numbers i more)
+
+      test : b ≡ present (f .edges) move
+      test = asked ∙ there-present targets starts (f .edges) (move .0) (move .1) (f .rows (move .0))
+
+      filed-twice : b ≡ true → true ≡ repeated (pairs numbers)
+      filed-twice h = sym (ap repeated parts ∙ twice (f .edges) move later (sym test ∙ h))
+
+      module _ (within : any (outside size) (pairs numbers) ≡ false) (few : length (pairs numbers) ≤ 2048) where
+        source : move .0 < size
+        unfolding outside
+        source =
+            let o : outside size move ≡ false = none-within (outside size) (f .edges) move later (ap (any (outside size)) (sym parts) ∙ within) in
+            leb-false size (move .0) (or-false (leb size (move .0)) (leb size (move .1)) o .0)
+
+        room : edgeCount starts size < 2048
+        room = omega (arith, ap length parts, length-append (f .edges) (move ∷ later), f .count)
+
+        filed-more : b ≡ false → (targets′ starts′ : List ℕ) → rowsOf targets′ starts′ ≡ inserted size (move .0) (move .1) (rowsOf targets starts) → FiledTo numbers (i + 2) targets′ starts′
+        filed-more h targets′ starts′ new =
+            let s = inserts-edge size (move .0) (move .1) (rowsOf targets starts) (rowsOf targets′ starts′) new (f .compressed) source room in
+            record {
+              edges = f .edges ++ (move ∷ []);
+              compressed = s .rows .compressed;
+              rows = λ v. elim (ℕ-discrete v (move .0)) [
+                | yes e ↦ subst (λ (u : ℕ). rowAt targets′ starts′ u ≡ row (f .edges ++ (move ∷ [])) u) (sym e)
+                    (s .rows .here ∙ ap (λ (l : List ℕ). l ++ (move .1 ∷ [])) (f .rows (move .0)) ∙ sym (row-add (f .edges) move))
+                | no n ↦ s .rows .others v n ∙ f .rows v ∙ sym (row-add-other (f .edges) move v (ne-eqb (move .0) v (λ e. n (sym e))))
+              ];
+              count = s .count ∙ omega (arith, f .count, length-append (f .edges) (move ∷ []));
+              once = once-more (f .edges) move (f .once) (sym test ∙ h);
+              split = parts ∙ sym (append-assoc (f .edges) (move ∷ []) later);
+            }
+
+  -- ---- what filing leaves: all is filed, or a move stands twice
+
+  module _ (numbers : List ℕ) (i : ℕ) (targets₀ starts₀ targets starts : List ℕ) (f : Limits size numbers targets₀ starts₀ → FiledTo numbers i targets starts) where
+    pub ended : length numbers ≤ i + 1 → FiledAll size numbers targets₀ starts₀ false targets starts
+    ended h = record {
+      repeats = λ t s n w l. filed-once numbers i targets starts (f (record { no-targets = t; no-starts = s; states = n; within = w; few = l })) h;
+      filed = λ t s n w l e. filed-all numbers i targets starts (f (record { no-targets = t; no-starts = s; states = n; within = w; few = l })) h;
     }
 
-    pub went-on : d ≤ p → (targets′ starts′ : List ℕ)
-        → (Compressed targets starts → moveAt numbers i .0 < 512 → edgeCount starts < 2048 → Inserted targets starts (moveAt numbers i .0) (moveAt numbers i .1) targets′ starts′)
-        → Limits numbers targets₀ starts₀ → FiledTo numbers (i + 2) targets′ starts′
-    went-on h targets′ starts′ inserted l = filed-more numbers i targets starts (f l) more p d at deg (l .within) (l .few) h targets′ starts′ inserted
+    module _ (more : i + 1 < length numbers) (b : Bool) (asked : b ≡ there targets starts (moveAt numbers i .0) (moveAt numbers i .1)) where
+      pub refused : b ≡ true → FiledAll size numbers targets₀ starts₀ true targets starts
+      refused h = record {
+        repeats = λ t s n w l. filed-twice numbers i targets starts (f (record { no-targets = t; no-starts = s; states = n; within = w; few = l })) more b asked h;
+        filed = λ t s n w l e. absurd (true≢false e);
+      }
+
+      pub went-on : b ≡ false → (targets′ starts′ : List ℕ) → rowsOf targets′ starts′ ≡ inserted size (moveAt numbers i .0) (moveAt numbers i .1) (rowsOf targets starts)
+          → Limits size numbers targets₀ starts₀ → FiledTo numbers (i + 2) targets′ starts′
+      went-on h targets′ starts′ new l = filed-more numbers i targets starts (f l) more b asked (l .within) (l .few) h targets′ starts′ new
 
 -- ---- the trial of a load
-
-none-weaker : (p q : Edge → Bool) → ((e : Edge) → q e ≡ true → p e ≡ true) → (es : List Edge) → any p es ≡ false → any q es ≡ false
-unfolding any
-none-weaker p q w [] h = refl
-none-weaker p q w (e ∷ es) h =
-    let n = none-cons p e es h in
-    or-neither (q e) (any q es) (not-true (q e) (λ t. contra (w e t) (n .0))) (none-weaker p q w es (n .1))
-
-outside-all : (n : ℕ) → n ≤ 512 → (e : Edge) → outside 512 e ≡ true → outside n e ≡ true
-unfolding outside
-outside-all n h e o = ⊎-elim
-    (λ t. let far : n ≤ e .0 = omega (arith, leb-true 512 (e .0) t) in outside-from (e .0) (e .1) n far)
-    (λ t. let far : n ≤ e .1 = omega (arith, leb-true 512 (e .1) t) in outside-to (e .0) (e .1) n far)
-    (or-true (leb 512 (e .0)) (leb 512 (e .1)) o)
 
 pub not-accepted : {n : ℕ} → Refused n ≡ Accepted → ⊥
 not-accepted e = let z : _≡_ {A = ℕ} 0 1 = cc in omega arith
@@ -234,15 +215,13 @@ module _ (size start : ℕ) (words numbers : List ℕ) (room : ℕ) (targets₀ 
     filed = λ t s z. absurd (n z);
   }
 
-  module _ (z : early ≡ Accepted) (b : Bool) (f : FiledAll numbers targets₀ starts₀ b targets starts) where
+  module _ (z : early ≡ Accepted) (b : Bool) (f : FiledAll size numbers targets₀ starts₀ b targets starts) where
     passed : Early size start words numbers room
     passed = early-free size start words numbers room (sym e ∙ z)
 
-    within : any (outside 512) (pairs numbers) ≡ false
+    states : size ≤ 512
     unfolding badSize
-    within =
-        let large = ltb-false 512 size (or-false (eqb size 0) (ltb 512 size) (passed .size-ok) .1) in
-        none-weaker (outside size) (outside 512) (outside-all size large) (pairs numbers) (passed .inside-ok)
+    states = ltb-false 512 size (or-false (eqb size 0) (ltb 512 size) (passed .size-ok) .1)
 
     few : length (pairs numbers) ≤ 2048
     unfolding badCount
@@ -250,19 +229,19 @@ module _ (size start : ℕ) (words numbers : List ℕ) (room : ℕ) (targets₀ 
 
     pub tried-twice : b ≡ true → Tried size start words numbers room targets₀ starts₀ (Refused 8) targets starts
     tried-twice t = record {
-      trial-is = λ x y. passed .rest (Refused 8) (stop 8 _ _ (sym (f .repeats x y within few) ∙ t));
+      trial-is = λ x y. passed .rest (Refused 8) (stop 8 _ _ (sym (f .repeats x y states (passed .inside-ok) few) ∙ t));
       filed = λ x y n. absurd (not-accepted n);
     }
 
     module _ (t : b ≡ false) where
       pub tried-short : room < size → Tried size start words numbers room targets₀ starts₀ (Refused 11) targets starts
       tried-short h = record {
-        trial-is = λ x y. passed .rest (Refused 11) (skip (Refused 11) 8 _ _ (sym (f .repeats x y within few) ∙ t) (stop 11 _ _ (room-short size room h)));
+        trial-is = λ x y. passed .rest (Refused 11) (skip (Refused 11) 8 _ _ (sym (f .repeats x y states (passed .inside-ok) few) ∙ t) (stop 11 _ _ (room-short size room h)));
         filed = λ x y n. absurd (not-accepted n);
       }
 
       pub tried-filed : size ≤ room → Tried size start words numbers room targets₀ starts₀ Accepted targets starts
       tried-filed h = record {
-        trial-is = λ x y. passed .rest Accepted (skip Accepted 8 _ _ (sym (f .repeats x y within few) ∙ t) (skip Accepted 11 _ _ (room-enough size room h) none-held));
-        filed = λ x y n. f .filed x y within few t;
+        trial-is = λ x y. passed .rest Accepted (skip Accepted 8 _ _ (sym (f .repeats x y states (passed .inside-ok) few) ∙ t) (skip Accepted 11 _ _ (room-enough size room h) none-held));
+        filed = λ x y n. f .filed x y states (passed .inside-ok) few t;
       }

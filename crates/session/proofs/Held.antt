@@ -19,13 +19,16 @@ use Rattle.plain.proofs.Trials.{passed}
 use Rattle.plain.proofs.Tables.{Valid, valid}
 use Rattle.plain.proofs.Demands.{upto, in-upto, once-upto, length-upto, total-le, start-in, target-in}
 use Rattle.rows.specs.Rows.{rowAt, degreeAt, edgeCount, placeOf, Compressed}
+use Rattle.rows.specs.Change.{Rows, rowsOf}
 use Rattle.rows.proofs.Entries.{row-length}
+use Rattle.rows.proofs.Change.{inserts-edge, removes-edge}
 use Rattle.search.proofs.Resumed.{Small}
 use Rattle.session.specs.declared.Op.{Op}
 use Rattle.session.specs.declared.Op.the-variants.{Add, Cut}
 use Rattle.session.specs.declared.Session.{Session}
-use Rattle.session.specs.Model.{addTrialIn, cutTrialIn, trialIn, sourceOf, FiledOne}
+use Rattle.session.specs.Model.{there, addTrialIn, cutTrialIn, trialIn, sourceOf, filedIn}
 use Rattle.session.specs.Promises.{changeOf, Holds}
+use Rattle.session.proofs.Filing.{there-present}
 
 -- ---- limits
 
@@ -50,7 +53,7 @@ small t v = record {
   edges-few = omega (arith, total-le (t .edges) (upto (t .size)) (once-upto (t .size)), v .count-ok);
 }
 
--- ---- an edge is present exactly when its target has a place in its row
+-- ---- the place of an entry of a list
 
 place-hit : (y x : ℕ) (xs : List ℕ) → eqb y x ≡ true → placeOf y (x ∷ xs) ≡ 0
 unfolding placeOf
@@ -60,31 +63,11 @@ place-miss : (y x : ℕ) (xs : List ℕ) → eqb y x ≡ false → placeOf y (x 
 unfolding placeOf
 place-miss y x xs e = rw (e, placeOf)
 
-in-place : (y : ℕ) (xs : List ℕ) → In y xs → placeOf y xs < length xs
-in-place y [] i = absurd (in-nil y i)
-in-place y (x ∷ xs) i = ⊎-elim
-    (λ e. omega (arith, place-hit y x xs e))
-    (λ e. omega (arith, place-miss y x xs e, in-place y xs (⊎-elim (λ z. absurd (eqb-false y x e z)) (λ j. j) (in-cases y x xs i)))) (either (eqb y x))
-
-place-in-list : (y : ℕ) (xs : List ℕ) → placeOf y xs < length xs → In y xs
-place-in-list y [] h = absurd (omega arith)
-place-in-list y (x ∷ xs) h = ⊎-elim
-    (λ e. let z : y ≡ x = eqb-true y x e in rw z (in-head x xs))
-    (λ e. in-tail y x xs (place-in-list y xs (omega (arith, place-miss y x xs e)))) (either (eqb y x))
-
-pub present-place : (es : List Edge) (v y : ℕ) → present es (v, y) ≡ ltb (placeOf y (row es v)) (length (row es v))
-present-place es v y = ⊎-elim
-    (λ p. p ∙ sym (lt-ltb (placeOf y (row es v)) (length (row es v)) (in-place y (row es v) (has-row es v y p))))
-    (λ n. n ∙ sym (not-true (ltb (placeOf y (row es v)) (length (row es v))) (λ l. contra (row-has es v y (place-in-list y (row es v) (ltb-true (placeOf y (row es v)) (length (row es v)) l))) n)))
-    (either (present es (v, y)))
-
 -- ---- the refusals read off the rows are the table's
 
 module _ (s : Session) (t : Table) (h : Holds s t) where
-  present-here : (v y : ℕ) → ltb (placeOf y (rowAt (s .targets) (s .starts) v)) (degreeAt (s .starts) v) ≡ present (t .edges) (v, y)
-  present-here v y =
-      ap (λ (n : ℕ). ltb (placeOf y (rowAt (s .targets) (s .starts) v)) n) (sym (row-length (s .targets) (s .starts) v))
-      ∙ ap (λ (r : List ℕ). ltb (placeOf y r) (length r)) (h .rows-are v) ∙ sym (present-place (t .edges) v y)
+  present-here : (v y : ℕ) → there (s .targets) (s .starts) v y ≡ present (t .edges) (v, y)
+  present-here v y = there-present (s .targets) (s .starts) (t .edges) v y (h .rows-are v)
 
   pub trial-same : (op : Op) (room : ℕ) → trialIn op (s .size) (s .targets) (s .starts) room ≡ changeTrial (changeOf op) t room
   unfolding addTrialIn cutTrialIn changeTrial addTrial cutTrial full
@@ -105,10 +88,10 @@ module _ (s : Session) (t : Table) (h : Holds s t) where
 -- ---- the rows after a change are the changed table's
 
 -- the state that an accepted change names
-pub source-below : (op : Op) (t : Table) (room : ℕ) → Valid t → changeTrial (changeOf op) t room ≡ accepted → sourceOf op < 512
+pub source-below : (op : Op) (t : Table) (room : ℕ) → changeTrial (changeOf op) t room ≡ accepted → sourceOf op < t .size
 unfolding changeTrial addTrial cutTrial outside
-source-below (Add from to) t room v e = omega (arith, leb-false (t .size) from (or-false (leb (t .size) from) (leb (t .size) to) (passed _ _ _ e .0) .0), size-few (t .size) (v .size-ok))
-source-below (Cut from to) t room v e = omega (arith, leb-false (t .size) from (or-false (leb (t .size) from) (leb (t .size) to) (passed _ _ _ e .0) .0), size-few (t .size) (v .size-ok))
+source-below (Add from to) t room e = leb-false (t .size) from (or-false (leb (t .size) from) (leb (t .size) to) (passed _ _ _ e .0) .0)
+source-below (Cut from to) t room e = leb-false (t .size) from (or-false (leb (t .size) from) (leb (t .size) to) (passed _ _ _ e .0) .0)
 
 but-none : (y : ℕ) (xs : List ℕ) → elem y xs ≡ false → but y xs ≡ xs
 unfolding elem filter
@@ -126,44 +109,53 @@ remove-place y (x ∷ xs) o h = ⊎-elim
     (λ e. ap (λ (k : ℕ). take k (x ∷ xs) ++ drop (suc k) (x ∷ xs)) (place-miss y x xs e)
     ∙ ap (λ (l : List ℕ). x ∷ l) (remove-place y xs (o .1) (omega (arith, place-miss y x xs e))) ∙ sym (but-no y x xs e)) (either (eqb y x))
 
--- the rows of the changed table
-pub record Refiled (targets starts : List ℕ) (t : Table) : Type 0 where
-  pub compressed : Compressed targets starts
-  pub rows-are : (v : ℕ) → rowAt targets starts v ≡ row (t .edges) v
-  pub count-is : edgeCount starts ≡ length (t .edges)
+-- rows that hold the table's moves
+pub record Refiled (rows : Rows) (t : Table) : Type 0 where
+  pub compressed : Compressed (t .size) (rows .targets) (rows .starts)
+  pub rows-are : (v : ℕ) → rowAt (rows .targets) (rows .starts) v ≡ row (t .edges) v
+  pub count-is : edgeCount (rows .starts) (t .size) ≡ length (t .edges)
 
-module _ (s : Session) (t : Table) (h : Holds s t) (targets starts : List ℕ) where
+module _ (s : Session) (t : Table) (h : Holds s t) (rows : Rows) where
+  abbrev before : Rows
+  before = rowsOf (s .targets) (s .starts)
+
   -- either way another state's row is as it was
-  other-rows : (e : Edge) (es : List Edge) → ((u : ℕ) → (u ≡ e .0 → ⊥) → rowAt targets starts u ≡ rowAt (s .targets) (s .starts) u) → rowAt targets starts (e .0) ≡ row es (e .0)
-      → ((u : ℕ) → eqb (e .0) u ≡ false → row es u ≡ row (t .edges) u) → (v : ℕ) → rowAt targets starts v ≡ row es v
+  other-rows : (e : Edge) (es : List Edge) → ((u : ℕ) → (u ≡ e .0 → ⊥) → rowAt (rows .targets) (rows .starts) u ≡ rowAt (s .targets) (s .starts) u)
+      → rowAt (rows .targets) (rows .starts) (e .0) ≡ row es (e .0) → ((u : ℕ) → eqb (e .0) u ≡ false → row es u ≡ row (t .edges) u)
+      → (v : ℕ) → rowAt (rows .targets) (rows .starts) v ≡ row es v
   other-rows e es o here same v = ⊎-elim
       (λ z. let y : e .0 ≡ v = eqb-true (e .0) v z in rw (← y) here)
       (λ z. o v (λ y. eqb-false (e .0) v z (sym y)) ∙ h .rows-are v ∙ sym (same v z)) (either (eqb (e .0) v))
 
-  pub refiled : (op : Op) (room : ℕ) → changeTrial (changeOf op) t room ≡ accepted → FiledOne op (s .targets) (s .starts) targets starts
-      → Refiled targets starts (apply (changeOf op) t)
+  -- the rows of the session, by the size of the table
+  compressed-here : Compressed (t .size) (s .targets) (s .starts)
+  compressed-here = subst (λ (n : ℕ). Compressed n (s .targets) (s .starts)) (h .size-is) (h .compressed)
+
+  counted-here : edgeCount (s .starts) (t .size) ≡ length (t .edges)
+  counted-here = ap (edgeCount (s .starts)) (sym (h .size-is)) ∙ h .count-is
+
+  pub refiled : (op : Op) (room : ℕ) → changeTrial (changeOf op) t room ≡ accepted → rows ≡ filedIn op (t .size) before → Refiled rows (apply (changeOf op) t)
   unfolding changeTrial addTrial cutTrial apply full
-  refiled (Add from to) room e f =
-      let v = valid t (h .arises) in
+  refiled (Add from to) room e new =
       let p = passed _ _ _ (passed _ _ _ (passed _ _ _ (passed _ _ _ e .1) .1) .1) in
-      let i = f (h .compressed) (source-below (Add from to) t room v e) (omega (arith, leb-false 2048 (length (t .edges)) (p .0), h .count-is)) in
+      let i = inserts-edge (t .size) from to before rows new compressed-here (source-below (Add from to) t room e) (omega (arith, leb-false 2048 (length (t .edges)) (p .0), counted-here)) in
       record {
         compressed = i .rows .compressed;
         rows-are = other-rows (from, to) (t .edges ++ ((from, to) ∷ [])) (i .rows .others)
             (i .rows .here ∙ ap (λ (l : List ℕ). l ++ (to ∷ [])) (h .rows-are from) ∙ sym (row-add (t .edges) (from, to))) (λ u z. row-add-other (t .edges) (from, to) u z);
-        count-is = i .count ∙ omega (arith, h .count-is, length-append (t .edges) ((from, to) ∷ []));
+        count-is = i .count ∙ omega (arith, counted-here, length-append (t .edges) ((from, to) ∷ []));
       }
-  refiled (Cut from to) room e f =
+  refiled (Cut from to) room e new =
       let v = valid t (h .arises) in
       let p = passed _ _ _ (passed _ _ _ (passed _ _ _ e .1) .1) in
-      let there : present (t .edges) (from, to) ≡ true = not-false (present (t .edges) (from, to)) (p .0) in
-      let place : placeOf to (rowAt (s .targets) (s .starts) from) < degreeAt (s .starts) from = ltb-true _ _ (present-here s t h from to ∙ there) in
-      let i = f (h .compressed) (source-below (Cut from to) t room v e) place in
+      let is : present (t .edges) (from, to) ≡ true = not-false (present (t .edges) (from, to)) (p .0) in
+      let place : placeOf to (rowAt (s .targets) (s .starts) from) < degreeAt (s .starts) from = ltb-true _ _ (present-here s t h from to ∙ is) in
+      let i = removes-edge (t .size) from _ before rows new compressed-here (source-below (Cut from to) t room e) place in
       let size : length (rowAt (s .targets) (s .starts) from) ≡ degreeAt (s .starts) from = row-length (s .targets) (s .starts) from in
       let once : Once (rowAt (s .targets) (s .starts) from) = subst (λ (l : List ℕ). Once l) (sym (h .rows-are from)) (row-once (t .edges) from (v .once)) in
       record {
         compressed = i .rows .compressed;
         rows-are = other-rows (from, to) (without (from, to) (t .edges)) (i .rows .others)
             (i .rows .here ∙ remove-place to (rowAt (s .targets) (s .starts) from) once (omega arith) ∙ ap (but to) (h .rows-are from) ∙ sym (row-cut (t .edges) (from, to))) (λ u z. row-cut-other (t .edges) (from, to) u z);
-        count-is = omega (arith, i .count, h .count-is, without-length (t .edges) (from, to) (v .once) there);
+        count-is = omega (arith, i .count, counted-here, without-length (t .edges) (from, to) (v .once) is);
       }

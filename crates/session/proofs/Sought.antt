@@ -1,17 +1,23 @@
 -- A search of the arrays, begun or resumed to its end: what it has come to is what the plain search on the table comes to. Assumes nothing.
-use mathlib.Core.Path.{_≡_, refl, sym, ap, subst, _∙_}
-use mathlib.Core.Logic.{_≢_, _⊎_, inl, inr}
+use mathlib.Core.Path.{_≡_, refl, sym, ap, subst, subst⁻¹, _∙_}
+use mathlib.Core.Logic.{_≢_}
+use mathlib.Core.Bool.{Bool}
 use mathlib.Core.List.{List}
 use Prim.Native.Nat.{ℕ, _+_, _≤_, _<_}
 use native.Mathlib.Omega.{arith}
 use lib.ListN.{length, getD, List·getD-eq-default}
+use borrow.Author.Tests.{eq-eqb, ne-eqb}
 use Rattle.plain.specs.Search.{Graph, Config, run, Verdict as PlainVerdict, none, lasso, unfinished, verdict, count}
 use Rattle.session.specs.declared.Verdict.{Verdict}
+use Rattle.session.specs.declared.Resumption.{Resumption}
+use Rattle.session.specs.declared.Resumption.the-variants.{Nowhere, At}
+use Rattle.rows.specs.Change.{Rows}
 use Rattle.plain.specs.Table.{Table, searched, final, accepts}
 use Rattle.plain.specs.Notes.{notes}
 use Rattle.plain.proofs.Tables.{Valid}
 use Rattle.plain.proofs.Demands.{ended-within, run-final, verdict-right}
 use Rattle.search.specs.declared.Phase.{Phase}
+use Rattle.search.specs.declared.Phase.the-variants.{Outer, Nested, Exhausted, Found}
 use Rattle.search.specs.declared.Walker.{Walker}
 use Rattle.search.specs.Core.{Core, none as noNumber, runFor, Ran, rewound, plus, Result, resultOf, result, Kept}
 use Rattle.search.proofs.Represents.{Matches, plus-more}
@@ -19,25 +25,33 @@ use Rattle.search.proofs.Ways.{run-sized, rewound-sized}
 use Rattle.search.proofs.OneStep.{Fits}
 use Rattle.search.proofs.Resumed.{limits, at-run, Archived, archived}
 use Rattle.search.proofs.Ended.{Spoken, spoken, run-kept}
-use Rattle.session.specs.Model.{stemIn, verdictOf, bound, Sought}
+use Rattle.session.specs.Model.{Records, recordsOf, whenFound, verdictOf, bound, pickResumption, resumptionAt, backAt, Sought}
 use Rattle.session.specs.Promises.{Tells}
 use Rattle.session.proofs.Held.{small, budget-bound, Refiled}
 
 -- the rows and words are those of the table's graph
-pub matches : (t : Table) (targets starts words : List ℕ) → Refiled targets starts t → words ≡ t .words → Matches (searched t) targets starts words
-matches t targets starts words r e = record { rows = λ v. sym (r .rows-are v); acceptance = λ v. ap (λ (w : List ℕ). accepts w v) (sym e) }
+pub matches : (t : Table) (rows : Rows) (words : List ℕ) → Refiled rows t → words ≡ t .words → Matches (searched t) (rows .targets) (rows .starts) words
+matches t rows words r e = record { rows = λ v. sym (r .rows-are v); acceptance = λ v. ap (λ (w : List ℕ). accepts w v) (sym e) }
 
 spoken-tells : (g : Graph) (c : Core) (w : PlainVerdict) → Spoken g c w → ((stem cycle : List ℕ) → w ≡ lasso stem cycle → 0 < length cycle)
     → Tells (verdictOf (c .walker) (c .spent) .stem) (verdictOf (c .walker) (c .spent) .length) (c .walk) w
 unfolding verdictOf
-spoken-tells g c none s p = (ap (λ (f : Phase). stemIn f (c .walker .height)) s, ap (λ (f : Phase). stemIn f (c .walker .top)) s)
-spoken-tells g c (lasso stem cycle) s p = (
-  ap (λ (f : Phase). stemIn f (c .walker .height)) (s .phase-is) ∙ s .stem-is,
-  ap (λ (f : Phase). stemIn f (c .walker .top)) (s .phase-is) ∙ s .top-is,
-  s .walk-is,
-  p stem cycle refl,
-)
+spoken-tells g c none s p = rw s (refl, refl)
+spoken-tells g c (lasso stem cycle) s p = rw (s .phase-is) (s .stem-is, s .top-is, s .walk-is, p stem cycle refl)
 spoken-tells g c unfinished s p = absurd s
+
+-- the verdict of a search that is over tells its looks
+pub verdict-kept : (w : Walker) (spent : ℕ) → (verdictOf w spent .kept ≡ w .kept) × (verdictOf w spent .spent ≡ spent)
+unfolding verdictOf
+verdict-kept w spent = by-phase (w .phase)
+  where
+    by-phase : (f : Phase) → let a = record { stem = w .height; length = w .top; spent = spent; kept = w .kept } in
+        let b = record { stem = 0; length = 0; spent = spent; kept = w .kept } in
+        (whenFound f a b .kept ≡ w .kept) × (whenFound f a b .spent ≡ spent)
+    by-phase Outer = (refl, refl)
+    by-phase Nested = (refl, refl)
+    by-phase Exhausted = (refl, refl)
+    by-phase Found = (refl, refl)
 
 -- what a search that stood at a step and took `bound` steps more, or still more, has come to
 pub record Reached (t : Table) (start-at : ℕ) (c : Core) : Type 0 where
@@ -76,54 +90,42 @@ module _ (t : Table) (v : Valid t) (targets starts words : List ℕ) (m : Matche
   pub reached : (n : ℕ) (s c : Core) → s .spent ≡ 0 → Fits (searched t) s (notes (searched t) n) (run (searched t) n) → Ran targets starts words bound s c → Reached t n c
   reached n s c unspent a r = subst (Reached t n) (sym (r .reached)) (reached-by (r .steps) (r .enough) n s unspent a)
 
+-- ---- where the search is taken up
+
+pub taken-nowhere : (number : List ℕ) (s : ℕ) → getD number s 0 ≡ noNumber → resumptionAt number s ≡ Nowhere
+unfolding resumptionAt
+taken-nowhere number s e = ap (λ (b : Bool). pickResumption b Nowhere (At s)) (eq-eqb (getD number s 0) noNumber e)
+
+pub taken-at : (number : List ℕ) (s : ℕ) → (getD number s 0 ≡ noNumber → ⊥) → resumptionAt number s ≡ At s
+unfolding resumptionAt
+taken-at number s n = ap (λ (b : Bool). pickResumption b Nowhere (At s)) (ne-eqb (getD number s 0) noNumber n)
+
+-- a place past the end holds no such number
+pub past-end : (number : List ℕ) (s : ℕ) → length number ≤ s → getD number s 0 ≡ noNumber → ⊥
+past-end number s h e = let z : getD number s 0 ≡ 0 = List·getD-eq-default number 0 h in omega arith
+
 -- ---- what `seek` leaves
 
-pub sought-unmet : (targets starts words : List ℕ) (start s : ℕ) (old : Verdict) (number parent index probes stamp walk : List ℕ) → getD number s 0 ≡ noNumber
-    → Sought targets starts words start s old number parent index probes stamp walk (record { stem = old .stem; length = old .length; spent = 0; kept = old .kept }) number parent index probes stamp walk
-sought-unmet targets starts words start s old number parent index probes stamp walk e = record {
-  unmet = λ z. (refl, refl, refl, refl, refl, refl, refl);
-  met = λ n. absurd (n e);
-}
+pub sought-at : (targets starts words : List ℕ) (start s : ℕ) (from : Resumption) (old : Verdict) (a : Records) (w : Walker) (spent : ℕ) (number parent index probes stamp walk : List ℕ) (v : Verdict)
+    → from ≡ At s → v ≡ verdictOf w spent
+    → (c : Core) × Ran targets starts words bound (backAt start s a) c × (resultOf w spent number parent index probes stamp walk ≡ result c)
+    → Sought targets starts words start from old a v (recordsOf number parent index probes stamp walk)
+sought-at targets starts words start s from old a w spent number parent index probes stamp walk v f e (c, r, q) =
+    subst⁻¹ (λ (x : Resumption). Sought targets starts words start x old a v (recordsOf number parent index probes stamp walk)) f (
+      c,
+      r,
+      e ∙ (λ i. verdictOf (q i .walker) (q i .spent)),
+      ap {B = Records} (λ (x : Result). recordsOf (x .number) (x .parent) (x .index) (x .probes) (x .stamp) (x .walk)) q,
+    )
 
-pub sought-met : (targets starts words : List ℕ) (start s : ℕ) (old : Verdict) (number parent index probes stamp walk : List ℕ) (w : Walker) (spent : ℕ)
-    (number′ parent′ index′ probes′ stamp′ walk′ : List ℕ) (v : Verdict) → (getD number s 0 ≡ noNumber → ⊥) → v ≡ verdictOf w spent
-    → (c : Core) × Ran targets starts words bound (rewound start s 0 number parent index probes stamp walk) c × (resultOf w spent number′ parent′ index′ probes′ stamp′ walk′ ≡ result c)
-    → Sought targets starts words start s old number parent index probes stamp walk v number′ parent′ index′ probes′ stamp′ walk′
-sought-met targets starts words start s old number parent index probes stamp walk w spent number′ parent′ index′ probes′ stamp′ walk′ v n e (c, r, q) = record {
-  unmet = λ z. absurd (n z);
-  met = λ z. (
-    c,
-    r,
-    e ∙ (λ i. verdictOf (q i .walker) (q i .spent)),
-    ap (λ (x : Result). x .number) q,
-    ap (λ (x : Result). x .parent) q,
-    ap (λ (x : Result). x .index) q,
-    ap (λ (x : Result). x .probes) q,
-    ap (λ (x : Result). x .stamp) q,
-    ap (λ (x : Result). x .walk) q,
-  );
-}
+pub sought-nowhere : (targets starts words : List ℕ) (start : ℕ) (from : Resumption) (old : Verdict) (a : Records) → from ≡ Nowhere → Sought targets starts words start from old a old a
+sought-nowhere targets starts words start from old a f = subst⁻¹ (λ (x : Resumption). Sought targets starts words start x old a old a) f (refl, refl)
 
 -- the walk's array keeps its size
-pub walk-sized : (targets starts words : List ℕ) (start s : ℕ) (number parent index probes stamp walk : List ℕ) (w : Walker) (spent : ℕ) (number′ parent′ index′ probes′ stamp′ walk′ : List ℕ)
-    → Kept number parent index probes stamp walk
-    → (c : Core) × Ran targets starts words bound (rewound start s 0 number parent index probes stamp walk) c × (resultOf w spent number′ parent′ index′ probes′ stamp′ walk′ ≡ result c)
-    → length walk′ ≡ 512
-walk-sized targets starts words start s number parent index probes stamp walk w spent number′ parent′ index′ probes′ stamp′ walk′ k (c, r, q) =
+pub walk-sized : (targets starts words : List ℕ) (start s : ℕ) (a : Records) (w : Walker) (spent : ℕ) (number parent index probes stamp walk : List ℕ)
+    → Kept (a .number) (a .parent) (a .index) (a .probes) (a .stamp) (a .walk)
+    → (c : Core) × Ran targets starts words bound (backAt start s a) c × (resultOf w spent number parent index probes stamp walk ≡ result c)
+    → length walk ≡ 512
+walk-sized targets starts words start s a w spent number parent index probes stamp walk k (c, r, q) =
     ap (λ (x : Result). length (x .walk)) q ∙ ap (λ (x : Core). length (x .walk)) (r .reached)
-    ∙ run-sized targets starts words (r .steps) (rewound start s 0 number parent index probes stamp walk) (rewound-sized start s 0 number parent index probes stamp walk k) .walk-size
-
--- a place that is past the end, or holds another number, is not without a number
-pub numbered : (number : List ℕ) (s i : ℕ) → i ≡ s → length number ≡ 512 → (getD number i 0 ≡ noNumber → ⊥) ⊎ (512 ≤ i) → getD number s 0 ≡ noNumber → ⊥
-numbered number s i e size (inl n) z = n (ap (λ (j : ℕ). getD number j 0) e ∙ z)
-numbered number s i e size (inr l) z = omega (arith, past number s (omega arith))
-  where
-    past : (xs : List ℕ) (j : ℕ) → length xs ≤ j → getD xs j 0 ≡ 0
-    past xs j h = List·getD-eq-default xs 0 h
-
--- from the discovery of the same state
-pub sought-as : {targets starts words : List ℕ} {start s s₂ : ℕ} {old : Verdict} {number parent index probes stamp walk : List ℕ} {r : Verdict} {number′ parent′ index′ probes′ stamp′ walk′ : List ℕ} → s ≡ s₂
-    → Sought targets starts words start s old number parent index probes stamp walk r number′ parent′ index′ probes′ stamp′ walk′
-    → Sought targets starts words start s₂ old number parent index probes stamp walk r number′ parent′ index′ probes′ stamp′ walk′
-sought-as {targets = targets} {starts = starts} {words = words} {start = start} {old = old} {number = number} {parent = parent} {index = index} {probes = probes} {stamp = stamp} {walk = walk} {r = r} {number′ = number′} {parent′ = parent′} {index′ = index′} {probes′ = probes′} {stamp′ = stamp′} {walk′ = walk′} e h =
-    subst (λ (x : ℕ). Sought targets starts words start x old number parent index probes stamp walk r number′ parent′ index′ probes′ stamp′ walk′) e h
+    ∙ run-sized targets starts words (r .steps) (backAt start s a) (rewound-sized start s 0 (a .number) (a .parent) (a .index) (a .probes) (a .stamp) (a .walk) k) .walk-size

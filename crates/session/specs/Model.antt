@@ -8,14 +8,18 @@ use lib.ListN.{length, getD, take, drop, replicate}
 use Rattle.plain.specs.Lists.{any}
 use Rattle.plain.specs.Refusals.{Trial as PlainTrial, accepted, refused, firstHeld, badSize, badStart, badMarks, badCount, outside, selfLoop, shortRoom, pairs, repeated, loadTrial}
 use Rattle.plain.specs.Table.{row}
-use Rattle.rows.specs.Rows.{rowAt, degreeAt, edgeCount, placeOf, Compressed, Inserted, Removed}
+use Rattle.rows.specs.Rows.{rowAt, degreeAt, edgeCount, placeOf, Compressed}
+use Rattle.rows.specs.Change.{Rows, inserted, removed}
 use Rattle.search.specs.declared.Phase.{Phase}
 use Rattle.search.specs.declared.Phase.the-variants.{Outer, Nested, Exhausted, Found}
 use Rattle.search.specs.declared.Walker.{Walker}
 use Rattle.search.specs.Core.{Core, none, Ran, rewound}
 use Rattle.session.specs.declared.Op.{Op}
 use Rattle.session.specs.declared.Op.the-variants.{Add, Cut}
+use Rattle.session.specs.declared.Resumption.{Resumption}
+use Rattle.session.specs.declared.Resumption.the-variants.{Nowhere, At}
 use Rattle.session.specs.declared.Verdict.{Verdict}
+use Rattle.session.specs.declared.Settled.{Settled}
 use Rattle.session.specs.declared.Session.{Session}
 use Rattle.session.specs.declared.Answer.{Answer}
 use Rattle.session.specs.declared.Answer.the-variants.{Refused as Answer·Refused, Clear, Round}
@@ -49,7 +53,7 @@ addTrialIn size targets starts from to room = firstHeld (
     (6, outside size (from, to))
     ∷ (7, selfLoop (from, to))
     ∷ (8, there targets starts from to)
-    ∷ (9, leb 2048 (edgeCount starts))
+    ∷ (9, leb 2048 (edgeCount starts size))
     ∷ (11, shortRoom size room)
     ∷ [])
 
@@ -70,67 +74,61 @@ abbrev pub sourceOf : Op → ℕ
 sourceOf (Add from to) = from
 sourceOf (Cut from to) = from
 
+-- the rows after a change was filed; a cut takes out the edge at the place of its target
+abbrev pub filedIn : Op → ℕ → Rows → Rows
+filedIn (Add from to) size r = inserted size from to r
+filedIn (Cut from to) size r = removed size from (placeOf to (rowAt (r .targets) (r .starts) from)) r
+
+-- a change that was tried: the rows are changed where it is accepted, else as they were
+pub record Attempted (op : Op) (size room : ℕ) (rows : Rows) (r : Trial) (rows′ : Rows) : Type 0 where
+  pub trial-is : r ≡ tried (trialIn op size (rows .targets) (rows .starts) room)
+  pub filed : r ≡ Accepted → rows′ ≡ filedIn op size rows
+  pub unfiled : (n : ℕ) → r ≡ Refused n → rows′ ≡ rows
+
 -- the rows after the list of numbers was filed into empty ones, where no edge stands twice
-pub record Filed (numbers targets starts : List ℕ) : Type 0 where
-  pub compressed : Compressed targets starts
+pub record Filed (numbers : List ℕ) (size : ℕ) (targets starts : List ℕ) : Type 0 where
+  pub compressed : Compressed size targets starts
   pub rows : (v : ℕ) → rowAt targets starts v ≡ row (pairs numbers) v
-  pub count : edgeCount starts ≡ length (pairs numbers)
+  pub count : edgeCount starts size ≡ length (pairs numbers)
 
 -- what filing a list leaves, where the rows were empty and the list keeps the limits
-pub record FiledAll (numbers targets starts : List ℕ) (r : Bool) (targets′ starts′ : List ℕ) : Type 0 where
-  pub repeats : targets ≡ replicate 2048 0 → starts ≡ replicate 513 0 → any (outside 512) (pairs numbers) ≡ false → length (pairs numbers) ≤ 2048
+pub record FiledAll (size : ℕ) (numbers targets starts : List ℕ) (r : Bool) (targets′ starts′ : List ℕ) : Type 0 where
+  pub repeats : targets ≡ replicate 2048 0 → starts ≡ replicate 513 0 → size ≤ 512 → any (outside size) (pairs numbers) ≡ false → length (pairs numbers) ≤ 2048
       → r ≡ repeated (pairs numbers)
-  pub filed : targets ≡ replicate 2048 0 → starts ≡ replicate 513 0 → any (outside 512) (pairs numbers) ≡ false → length (pairs numbers) ≤ 2048
-      → r ≡ false → Filed numbers targets′ starts′
+  pub filed : targets ≡ replicate 2048 0 → starts ≡ replicate 513 0 → size ≤ 512 → any (outside size) (pairs numbers) ≡ false → length (pairs numbers) ≤ 2048
+      → r ≡ false → Filed numbers size targets′ starts′
 
 -- the trial of a load, where the rows were empty
 pub record Tried (size start : ℕ) (words numbers : List ℕ) (room : ℕ) (targets starts : List ℕ) (r : Trial) (targets′ starts′ : List ℕ) : Type 0 where
   pub trial-is : targets ≡ replicate 2048 0 → starts ≡ replicate 513 0 → r ≡ tried (loadTrial (record { size = size; start = start; words = words; numbers = numbers }) room)
-  pub filed : targets ≡ replicate 2048 0 → starts ≡ replicate 513 0 → r ≡ Accepted → Filed numbers targets′ starts′
+  pub filed : targets ≡ replicate 2048 0 → starts ≡ replicate 513 0 → r ≡ Accepted → Filed numbers size targets′ starts′
 
--- what filing one change leaves
-abbrev pub FiledOne : Op → List ℕ → List ℕ → List ℕ → List ℕ → Type 0
-FiledOne (Add from to) targets starts targets′ starts′ = Compressed targets starts → from < 512 → edgeCount starts < 2048 → Inserted targets starts from to targets′ starts′
-FiledOne (Cut from to) targets starts targets′ starts′ = Compressed targets starts → from < 512 → placeOf to (rowAt targets starts from) < degreeAt starts from
-    → Removed targets starts from (placeOf to (rowAt targets starts from)) targets′ starts′
+-- what the arrays that outlive a search hold
+pub record Records : Type 0 where
+  pub number : List ℕ
+  pub parent : List ℕ
+  pub index : List ℕ
+  pub probes : List ℕ
+  pub stamp : List ℕ
+  pub walk : List ℕ
 
--- what a search that is over has come to: the lengths of stem and walk, 0 where there is none
-abbrev pub stemIn : Phase → ℕ → ℕ
-stemIn Outer n = 0
-stemIn Nested n = 0
-stemIn Exhausted n = 0
-stemIn Found n = n
-
-unfoldable pub verdictOf : Walker → ℕ → Verdict
-verdictOf w spent = record { stem = stemIn (w .phase) (w .height); length = stemIn (w .phase) (w .top); spent = spent; kept = w .kept }
-
--- the largest table's bound on the steps of a search
-abbrev pub bound : ℕ
-bound = 5634
-
--- What a search from the discovery of s leaves: where s was never discovered, all is as it was, and all probes are kept.
-pub record Sought (targets starts words : List ℕ) (start s : ℕ) (old : Verdict) (number parent index probes stamp walk : List ℕ)
-    (r : Verdict) (number′ parent′ index′ probes′ stamp′ walk′ : List ℕ) : Type 0 where
-  pub unmet : getD number s 0 ≡ none → (r ≡ record { stem = old .stem; length = old .length; spent = 0; kept = old .kept })
-      × (number′ ≡ number) × (parent′ ≡ parent) × (index′ ≡ index) × (probes′ ≡ probes) × (stamp′ ≡ stamp) × (walk′ ≡ walk)
-  pub met : (getD number s 0 ≡ none → ⊥) → (c : Core) × Ran targets starts words bound (rewound start s 0 number parent index probes stamp walk) c
-      × (r ≡ verdictOf (c .walker) (c .spent))
-      × (number′ ≡ c .number) × (parent′ ≡ c .parent) × (index′ ≡ c .index) × (probes′ ≡ c .probes) × (stamp′ ≡ c .stamp) × (walk′ ≡ c .walk)
+abbrev pub recordsOf : List ℕ → List ℕ → List ℕ → List ℕ → List ℕ → List ℕ → Records
+recordsOf number parent index probes stamp walk = record { number = number; parent = parent; index = index; probes = probes; stamp = stamp; walk = walk }
 
 -- the session that is made of the table, the records of a search, and what it has come to
-abbrev pub sessionOf : ℕ → ℕ → List ℕ → List ℕ → List ℕ → List ℕ → List ℕ → List ℕ → List ℕ → List ℕ → List ℕ → Verdict → ℕ → Session
-sessionOf size start words targets starts number parent index probes stamp walk v total = record {
+abbrev pub sessionOf : ℕ → ℕ → List ℕ → Rows → Records → Verdict → ℕ → Session
+sessionOf size start words rows a v total = record {
   size = size;
   start = start;
   words = words;
-  targets = targets;
-  starts = starts;
-  number = number;
-  parent = parent;
-  index = index;
-  probes = probes;
-  stamp = stamp;
-  walk = walk;
+  targets = rows .targets;
+  starts = rows .starts;
+  number = a .number;
+  parent = a .parent;
+  index = a .index;
+  probes = a .probes;
+  stamp = a .stamp;
+  walk = a .walk;
   stem = v .stem;
   length = v .length;
   total = total;
@@ -170,3 +168,58 @@ answerIs v = pickAnswer (eqb (v .length) 0) (Clear (v .spent) (v .kept)) (Round 
 -- what is written of a walk: its first entries
 unfoldable pub shownWalk : ℕ → List ℕ → List ℕ → List ℕ
 shownWalk n walk lent = take n walk ++ drop n lent
+
+-- where a search is taken up for a state that a change names: nowhere if it was never discovered
+abbrev pub pickResumption : Bool → Resumption → Resumption → Resumption
+pickResumption true a b = a
+pickResumption false a b = b
+
+unfoldable pub resumptionAt : List ℕ → ℕ → Resumption
+resumptionAt number s = pickResumption (eqb (getD number s 0) none) Nowhere (At s)
+
+-- what a search that is over has come to: the lengths of stem and walk, 0 where there is none
+abbrev pub whenFound : Phase → Verdict → Verdict → Verdict
+whenFound Outer a b = b
+whenFound Nested a b = b
+whenFound Exhausted a b = b
+whenFound Found a b = a
+
+unfoldable pub verdictOf : Walker → ℕ → Verdict
+verdictOf w spent = whenFound (w .phase)
+    (record { stem = w .height; length = w .top; spent = spent; kept = w .kept })
+    (record { stem = 0; length = 0; spent = spent; kept = w .kept })
+
+-- before the first search
+abbrev pub noVerdict : Verdict
+noVerdict = record { stem = 0; length = 0; spent = 0; kept = 0 }
+
+-- the largest table's bound on the steps of a search
+abbrev pub bound : ℕ
+bound = 5634
+
+abbrev pub recordsIn : Core → Records
+recordsIn c = recordsOf (c .number) (c .parent) (c .index) (c .probes) (c .stamp) (c .walk)
+
+-- the search as it stood when s was discovered, with no probe spent
+abbrev pub backAt : ℕ → ℕ → Records → Core
+backAt start s a = rewound start s 0 (a .number) (a .parent) (a .index) (a .probes) (a .stamp) (a .walk)
+
+-- What a search leaves that is taken up: nowhere, and all is as it was; or where s was discovered, and it is run for `bound` phases.
+abbrev pub Sought : (targets starts words : List ℕ) → ℕ → Resumption → Verdict → Records → Verdict → Records → Type 0
+Sought targets starts words start Nowhere old a r a′ = (r ≡ old) × (a′ ≡ a)
+Sought targets starts words start (At s) old a r a′ =
+    (c : Core) × Ran targets starts words bound (backAt start s a) c × (r ≡ verdictOf (c .walker) (c .spent)) × (a′ ≡ recordsIn c)
+
+-- What searching and answering leaves: the search, its answer, and the walk at the head of the lent list.
+pub record Settles (targets starts words : List ℕ) (start : ℕ) (from : Resumption) (old : Verdict) (a : Records) (lent : List ℕ) (r : Settled) (a′ : Records) (lent′ : List ℕ) : Type 0 where
+  pub sought : Sought targets starts words start from old a (r .verdict) a′
+  pub answer-is : r .answer ≡ answerIs (r .verdict)
+  pub wrote : r .verdict .stem ≤ r .verdict .length → r .verdict .length ≤ 512 → r .verdict .length ≤ length lent → lent′ ≡ shownWalk (r .verdict .length) (a′ .walk) lent
+
+-- What a change leaves: a refusal, and all is as it was; or the rows changed, and what searching and answering leaves.
+pub record ChangedIn (op : Op) (words : List ℕ) (size start : ℕ) (old : Verdict) (rows : Rows) (a : Records) (lent : List ℕ) (r : Settled) (rows′ : Rows) (a′ : Records) (lent′ : List ℕ) : Type 0 where
+  pub on-refusal : (n : ℕ) → trialIn op size (rows .targets) (rows .starts) (length lent) ≡ refused n
+      → (r ≡ record { answer = refusing n; verdict = old }) × (rows′ ≡ rows) × (a′ ≡ a) × (lent′ ≡ lent)
+  pub on-acceptance : trialIn op size (rows .targets) (rows .starts) (length lent) ≡ accepted
+      → (rows′ ≡ filedIn op size rows) × Settles (rows′ .targets) (rows′ .starts) words start (resumptionAt (a .number) (sourceOf op)) old a lent r a′ lent′
+

@@ -54,9 +54,9 @@ pub record Holds (s : Session) (t : Table) : Type 0 where
   pub size-is : s .size ≡ t .size
   pub start-is : s .start ≡ t .start
   pub words-are : s .words ≡ t .words
-  pub compressed : Compressed (s .targets) (s .starts)
+  pub compressed : Compressed (s .size) (s .targets) (s .starts)
   pub rows-are : (v : ℕ) → rowAt (s .targets) (s .starts) v ≡ row (t .edges) v
-  pub count-is : edgeCount (s .starts) ≡ length (t .edges)
+  pub count-is : edgeCount (s .starts) (s .size) ≡ length (t .edges)
   pub steps : ℕ
   pub ended : verdict (run (searched t) steps) ≢ unfinished
   pub archived : Archived (searched t) steps (s .number) (s .parent) (s .index) (s .probes) (s .stamp) (s .walk)

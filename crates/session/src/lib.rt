@@ -1,14 +1,14 @@
 // One session: the game's table and the records of its search. It is made by a load and by nothing else.
 use search::wide;
 ghost use mathlib.Core.Path.{_≡_};
-ghost use mathlib.Core.Bool.{false};
 ghost use mathlib.Core.List.{_++_};
-ghost use Prim.Native.Nat.{_+_, _≤_, _<_};
+ghost use Prim.Native.Nat.{_+_, _≤_};
 ghost use lib.ListN.{length, take, drop};
 ghost use Rattle.plain.specs.Lists.{any};
 ghost use Rattle.plain.specs.Refusals.{badMarks, outside, selfLoop, pairs};
+ghost use Rattle.rows.specs.Change.{rowsOf};
 ghost use Rattle.search.specs.Core.{Tabled, Kept, plus};
-ghost use Rattle.session.specs.Model.{tried, earlyTrial, there, addTrialIn, cutTrialIn, trialIn, sourceOf, FiledAll, FiledOne, Tried, verdictOf, Sought, answerIs, refusing, noGame, shownWalk};
+ghost use Rattle.session.specs.Model.{tried, earlyTrial, there, addTrialIn, cutTrialIn, trialIn, sourceOf, filedIn, Attempted, FiledAll, Tried, resumptionAt, verdictOf, noVerdict, recordsOf, Sought, answerIs, refusing, noGame, shownWalk, Settles, ChangedIn};
 ghost use Rattle.session.specs.Promises.{Loads, Changes};
 
 // A refusal: its number in document 01's list.
@@ -43,12 +43,24 @@ enum Trial {
     Refused(u16),
 }
 
-// What a search has come to: the lengths of stem and walk (0: no walk), and the probes.
+// What a search has come to: the lengths of stem and walk (0: no walk), the height of the open path, and the probes.
 struct Verdict {
     stem: u16,
     length: u16,
     spent: u16,
     kept: u16,
+}
+
+// The answer to a call, and what its search has come to.
+struct Settled {
+    answer: Answer,
+    verdict: Verdict,
+}
+
+// Where a search is taken up: nowhere, since the state that a change names was never discovered, or where a state was discovered.
+enum Resumption {
+    Nowhere,
+    At(u16),
 }
 
 // The numbers stand between the arrays: so the compiler takes the struct apart, which saves a copy of it and 5,000 bytes of stack.
@@ -59,7 +71,7 @@ pub struct Session {
     targets: [u16; 2048],
     start: u16,
     starts: [u16; 513],
-    // the lengths of the last walk's stem and of the walk (0: none), and the probes of the whole search
+    // the lengths of the last walk's stem and of the walk (0: none), the height of the open path at the search's end, and its probes
     stem: u16,
     length: u16,
     // by state: discovery number, parent, index of the edge in the parent's row, probes by then
@@ -70,7 +82,7 @@ pub struct Session {
     probes: [u16; 512],
     // by state: how many states were discovered when it was marked
     stamp: [u16; 512],
-    // the last walk
+    // the open path at the search's end, and behind it the rest of the walk
     walk: [u16; 512],
 }
 
@@ -79,11 +91,18 @@ pub struct Outcome {
     pub session: Session,
 }
 
-// What stands in an array for "no number".
-const NONE: u16 = 65535;
+// The most states and moves of a game, and the numbers of so many moves.
+const STATES: u16 = 512;
 
-// 2 × 2,048 + 3 × 512 + 2: no search takes more steps.
-const BOUND: u16 = 5634;
+const MOVES: u16 = 2048;
+
+const NUMBERS: usize = 4096;
+
+// What stands in an array for "no number".
+const NO_NUMBER: u16 = 65535;
+
+// 2 × 2,048 + 3 × 512 + 2: no search takes more steps, and a phase of it is one step or more.
+const PHASES: u16 = 5634;
 
 // Is a paying mark set for a number not below the count of states?
 fn marks_outside(words: &[u64; 8], size: u16) -> bool
@@ -139,7 +158,7 @@ fn early_trial(size: u16, start: u16, words: &[u64; 8], numbers: &[u16]) -> Tria
     if size == 0 {
         return Trial::Refused(2);
     }
-    if 512 < size {
+    if STATES < size {
         return Trial::Refused(2);
     }
     if size <= start {
@@ -151,7 +170,7 @@ fn early_trial(size: u16, start: u16, words: &[u64; 8], numbers: &[u16]) -> Tria
     if numbers.len() % 2 == 1 {
         return Trial::Refused(5);
     }
-    if 4096 < numbers.len() {
+    if NUMBERS < numbers.len() {
         return Trial::Refused(5);
     }
     if any_outside(numbers, size) {
@@ -163,20 +182,33 @@ fn early_trial(size: u16, start: u16, words: &[u64; 8], numbers: &[u16]) -> Tria
     Trial::Accepted
 }
 
-// Files the moves of the list, in their order, until one stands twice: was there one?
-fn file_all(numbers: &[u16], targets: &mut [u16; 2048], starts: &mut [u16; 513]) -> bool
+// Is the move there?
+fn is_there(targets: &[u16; 2048], starts: &[u16; 513], from: u16, to: u16) -> bool
     requires { ⌜ Tabled (now targets) (now starts) ⌝ }
-    ensures { λ r. ⌜ FiledAll (now (numbers .entry)) (now (targets .entry)) (now (starts .entry)) r (now (targets .exit)) (now (starts .exit)) ⌝ }
+    ensures { λ r. ⌜ r ≡ there (now (targets .entry)) (now (starts .entry)) from to ⌝ }
+{
+    rows::place(targets, starts, from, to) < rows::degree(starts, from)
+}
+
+// Files the moves of the list, in their order, until one stands twice: was there one?
+fn file_all(
+    numbers: &[u16],
+    size: u16,
+    targets: &mut [u16; 2048],
+    starts: &mut [u16; 513],
+) -> bool
+    requires { ⌜ Tabled (now targets) (now starts) ⌝ }
+    ensures { λ r. ⌜ FiledAll size (now (numbers .entry)) (now (targets .entry)) (now (starts .entry)) r (now (targets .exit)) (now (starts .exit)) ⌝ }
     ensures { λ r. ⌜ Tabled (now (targets .exit)) (now (starts .exit)) ⌝ }
 {
     let mut i: usize = 0;
     while i + 1 < numbers.len() {
         let from = numbers[i];
         let to = numbers[i + 1];
-        if rows::place(targets, starts, from, to) < rows::degree(starts, from) {
+        if is_there(targets, starts, from, to) {
             return true;
         }
-        rows::insert(targets, starts, from, to);
+        rows::insert(targets, starts, size, from, to);
         i += 2;
     }
     false
@@ -200,7 +232,7 @@ fn load_trial(
     if let Trial::Refused(n) = early {
         return Trial::Refused(n);
     }
-    if file_all(numbers, targets, starts) {
+    if file_all(numbers, size, targets, starts) {
         return Trial::Refused(8);
     }
     if room < wide(size) {
@@ -217,14 +249,6 @@ fn is_outside(size: u16, from: u16, to: u16) -> bool
         return true;
     }
     size <= to
-}
-
-// Is the move there?
-fn is_there(targets: &[u16; 2048], starts: &[u16; 513], from: u16, to: u16) -> bool
-    requires { ⌜ Tabled (now targets) (now starts) ⌝ }
-    ensures { λ r. ⌜ r ≡ there (now (targets .entry)) (now (starts .entry)) from to ⌝ }
-{
-    rows::place(targets, starts, from, to) < rows::degree(starts, from)
 }
 
 // Tries an add: 6 to 9 and 11.
@@ -248,7 +272,7 @@ fn add_trial(
     if is_there(targets, starts, from, to) {
         return Trial::Refused(8);
     }
-    if 2048 <= rows::edge_count(starts) {
+    if MOVES <= rows::edge_count(starts, size) {
         return Trial::Refused(9);
     }
     if room < wide(size) {
@@ -296,20 +320,38 @@ fn change_trial(op: Op, size: u16, targets: &[u16; 2048], starts: &[u16; 513], r
 }
 
 // The change is made in the rows.
-fn file_one(op: Op, targets: &mut [u16; 2048], starts: &mut [u16; 513])
+fn file_one(op: Op, size: u16, targets: &mut [u16; 2048], starts: &mut [u16; 513])
     requires { ⌜ Tabled (now targets) (now starts) ⌝ }
-    ensures { λ r. ⌜ FiledOne op (now (targets .entry)) (now (starts .entry)) (now (targets .exit)) (now (starts .exit)) ⌝ }
-    ensures { λ r. ⌜ Tabled (now (targets .exit)) (now (starts .exit)) ⌝ }
+    ensures { λ r. ⌜ rowsOf (now (targets .exit)) (now (starts .exit)) ≡ filedIn op size (rowsOf (now (targets .entry)) (now (starts .entry))) ⌝ }
 {
     match op {
         Op::Add { from, to } => {
-            rows::insert(targets, starts, from, to);
+            rows::insert(targets, starts, size, from, to);
         }
         Op::Cut { from, to } => {
             let k = rows::place(targets, starts, from, to);
-            rows::remove(targets, starts, from, k);
+            rows::remove(targets, starts, size, from, k);
         }
     }
+}
+
+// Tries a change, and makes it in the rows where it is accepted.
+fn attempt(
+    op: Op,
+    size: u16,
+    targets: &mut [u16; 2048],
+    starts: &mut [u16; 513],
+    room: usize,
+) -> Trial
+    requires { ⌜ Tabled (now targets) (now starts) ⌝ }
+    ensures { λ r. ⌜ Attempted op size room (rowsOf (now (targets .entry)) (now (starts .entry))) r (rowsOf (now (targets .exit)) (now (starts .exit))) ⌝ }
+{
+    let trial = change_trial(op, size, targets, starts, room);
+    if let Trial::Refused(n) = trial {
+        return Trial::Refused(n);
+    }
+    file_one(op, size, targets, starts);
+    Trial::Accepted
 }
 
 // The state that a change names: the one that its move leaves.
@@ -322,40 +364,42 @@ fn named_by(op: Op) -> u16
     }
 }
 
-// What the search has come to.
+// Where the search is taken up for a state that a change names.
+fn resumption(number: &[u16; 512], s: u16) -> Resumption
+    requires { ⌜ length (now number) ≡ 512 ⌝ }
+    ensures { λ r. ⌜ r ≡ resumptionAt (now (number .entry)) s ⌝ }
+{
+    let i = wide(s);
+    if i < wide(STATES) {
+        if number[i] == NO_NUMBER {
+            return Resumption::Nowhere;
+        }
+    }
+    Resumption::At(s)
+}
+
+// What a search has come to that is over, with so many probes spent.
 fn verdict_of(w: search::Walker, spent: u16) -> Verdict
     ensures { λ r. ⌜ r ≡ verdictOf w spent ⌝ }
 {
     let phase = w.phase;
-    match phase {
-        search::Phase::Found => Verdict {
+    if let search::Phase::Found = phase {
+        return Verdict {
             stem: w.height,
             length: w.top,
             spent: spent,
             kept: w.kept,
-        },
-        search::Phase::Outer => Verdict {
-            stem: 0,
-            length: 0,
-            spent: spent,
-            kept: w.kept,
-        },
-        search::Phase::Nested => Verdict {
-            stem: 0,
-            length: 0,
-            spent: spent,
-            kept: w.kept,
-        },
-        search::Phase::Exhausted => Verdict {
-            stem: 0,
-            length: 0,
-            spent: spent,
-            kept: w.kept,
-        },
+        };
+    }
+    Verdict {
+        stem: 0,
+        length: 0,
+        spent: spent,
+        kept: w.kept,
     }
 }
 
-// The search from the discovery of s on. The count of probes spent is 0 here, and only the search raises it. A state that was never discovered needs none.
+// The search, taken up. The count of probes spent is 0 here, and only the search raises it. Where it is taken up nowhere, all is as it was, and kept.
 fn seek(
     targets: &[u16; 2048],
     starts: &[u16; 513],
@@ -366,42 +410,37 @@ fn seek(
     probes: &mut [u16; 512],
     stamp: &mut [u16; 512],
     walk: &mut [u16; 512],
+    size: u16,
     start: u16,
-    s: u16,
+    from: Resumption,
     old: Verdict,
 ) -> Verdict
     requires { ⌜ Tabled (now targets) (now starts) × Kept (now number) (now parent) (now index) (now probes) (now stamp) (now walk) ⌝ }
-    ensures { λ r. ⌜ Sought (now (targets .entry)) (now (starts .entry)) (now (words .entry)) start s old (now (number .entry)) (now (parent .entry)) (now (index .entry)) (now (probes .entry)) (now (stamp .entry)) (now (walk .entry)) r (now (number .exit)) (now (parent .exit)) (now (index .exit)) (now (probes .exit)) (now (stamp .exit)) (now (walk .exit)) ⌝ }
+    ensures { λ r. ⌜ Sought (now (targets .entry)) (now (starts .entry)) (now (words .entry)) size start from old (recordsOf (now (number .entry)) (now (parent .entry)) (now (index .entry)) (now (probes .entry)) (now (stamp .entry)) (now (walk .entry))) r (recordsOf (now (number .exit)) (now (parent .exit)) (now (index .exit)) (now (probes .exit)) (now (stamp .exit)) (now (walk .exit))) ⌝ }
     ensures { λ r. ⌜ length (now (walk .exit)) ≡ 512 ⌝ }
 {
-    let i = wide(s);
-    if i < 512 {
-        if number[i] == NONE {
-            return Verdict {
-                stem: old.stem,
-                length: old.length,
-                spent: 0,
-                kept: old.kept,
-            };
+    match from {
+        Resumption::Nowhere => old,
+        Resumption::At(s) => {
+            let mut spent: u16 = 0;
+            let w = search::resume(
+                targets,
+                starts,
+                words,
+                number,
+                parent,
+                index,
+                probes,
+                stamp,
+                walk,
+                &mut spent,
+                start,
+                s,
+                PHASES,
+            );
+            verdict_of(w, spent)
         }
     }
-    let mut spent: u16 = 0;
-    let w = search::resume(
-        targets,
-        starts,
-        words,
-        number,
-        parent,
-        index,
-        probes,
-        stamp,
-        walk,
-        &mut spent,
-        start,
-        s,
-        BOUND,
-    );
-    verdict_of(w, spent)
 }
 
 // The answer that a verdict makes.
@@ -488,11 +527,65 @@ fn no_game() -> Session
     }
 }
 
+// Before the first search nothing is found, and no probe was made.
+fn no_verdict() -> Verdict
+    ensures { λ r. ⌜ r ≡ noVerdict ⌝ }
+{
+    Verdict {
+        stem: 0,
+        length: 0,
+        spent: 0,
+        kept: 0,
+    }
+}
+
 // The probes of the whole search.
 fn total_of(v: Verdict) -> u16
     ensures { λ r. ⌜ r ≡ plus (v .kept) (v .spent) ⌝ }
 {
     search::plus(v.kept, v.spent)
+}
+
+// Searches and answers: the search is taken up, and the walk is written into the lent list.
+fn settle(
+    targets: &[u16; 2048],
+    starts: &[u16; 513],
+    words: &[u64; 8],
+    number: &mut [u16; 512],
+    parent: &mut [u16; 512],
+    index: &mut [u16; 512],
+    probes: &mut [u16; 512],
+    stamp: &mut [u16; 512],
+    walk: &mut [u16; 512],
+    size: u16,
+    start: u16,
+    from: Resumption,
+    old: Verdict,
+    lent: &mut [u16],
+) -> Settled
+    requires { ⌜ Tabled (now targets) (now starts) × Kept (now number) (now parent) (now index) (now probes) (now stamp) (now walk) ⌝ }
+    ensures { λ r. ⌜ Settles (now (targets .entry)) (now (starts .entry)) (now (words .entry)) size start from old (recordsOf (now (number .entry)) (now (parent .entry)) (now (index .entry)) (now (probes .entry)) (now (stamp .entry)) (now (walk .entry))) (now (lent .entry)) r (recordsOf (now (number .exit)) (now (parent .exit)) (now (index .exit)) (now (probes .exit)) (now (stamp .exit)) (now (walk .exit))) (now (lent .exit)) ⌝ }
+{
+    let v = seek(
+        targets,
+        starts,
+        words,
+        number,
+        parent,
+        index,
+        probes,
+        stamp,
+        walk,
+        size,
+        start,
+        from,
+        old,
+    );
+    write_walk(v, walk, lent);
+    Settled {
+        answer: answer_of(v),
+        verdict: v,
+    }
 }
 
 // Loads a game: the count of states, the start state, the paying words, the moves as a list of numbers, and the list lent for the walk.
@@ -516,7 +609,7 @@ pub fn load(size: u16, start: u16, words: [u64; 8], numbers: &[u16], lent: &mut 
             session: no_game(),
         };
     }
-    let mut number: [u16; 512] = [NONE; 512];
+    let mut number: [u16; 512] = [NO_NUMBER; 512];
     let at = wide(start);
     if at < 512 {
         number[at] = 0;
@@ -524,15 +617,9 @@ pub fn load(size: u16, start: u16, words: [u64; 8], numbers: &[u16], lent: &mut 
     let mut parent: [u16; 512] = [start; 512];
     let mut index: [u16; 512] = [0; 512];
     let mut probes: [u16; 512] = [0; 512];
-    let mut stamp: [u16; 512] = [NONE; 512];
+    let mut stamp: [u16; 512] = [NO_NUMBER; 512];
     let mut walk: [u16; 512] = [0; 512];
-    let old = Verdict {
-        stem: 0,
-        length: 0,
-        spent: 0,
-        kept: 0,
-    };
-    let v = seek(
+    let r = settle(
         &targets,
         &starts,
         &words,
@@ -542,13 +629,16 @@ pub fn load(size: u16, start: u16, words: [u64; 8], numbers: &[u16], lent: &mut 
         &mut probes,
         &mut stamp,
         &mut walk,
+        size,
         start,
-        start,
-        old,
+        Resumption::At(start),
+        no_verdict(),
+        lent,
     );
-    write_walk(v, &walk, lent);
+    let answer = r.answer;
+    let v = r.verdict;
     Outcome {
-        answer: answer_of(v),
+        answer,
         session: Session {
             size,
             start,
@@ -568,21 +658,59 @@ pub fn load(size: u16, start: u16, words: [u64; 8], numbers: &[u16], lent: &mut 
     }
 }
 
-// A change of the game. The list lent for the walk comes last.
+// A change on the arrays of a session: tried and made in the rows, then searched and answered.
+fn change_in(
+    op: Op,
+    targets: &mut [u16; 2048],
+    starts: &mut [u16; 513],
+    words: &[u64; 8],
+    number: &mut [u16; 512],
+    parent: &mut [u16; 512],
+    index: &mut [u16; 512],
+    probes: &mut [u16; 512],
+    stamp: &mut [u16; 512],
+    walk: &mut [u16; 512],
+    size: u16,
+    start: u16,
+    old: Verdict,
+    lent: &mut [u16],
+) -> Settled
+    requires { ⌜ Tabled (now targets) (now starts) × Kept (now number) (now parent) (now index) (now probes) (now stamp) (now walk) ⌝ }
+    ensures { λ r. ⌜ ChangedIn op (now (words .entry)) size start old (rowsOf (now (targets .entry)) (now (starts .entry))) (recordsOf (now (number .entry)) (now (parent .entry)) (now (index .entry)) (now (probes .entry)) (now (stamp .entry)) (now (walk .entry))) (now (lent .entry)) r (rowsOf (now (targets .exit)) (now (starts .exit))) (recordsOf (now (number .exit)) (now (parent .exit)) (now (index .exit)) (now (probes .exit)) (now (stamp .exit)) (now (walk .exit))) (now (lent .exit)) ⌝ }
+{
+    let trial = attempt(op, size, targets, starts, lent.len());
+    if let Trial::Refused(n) = trial {
+        return Settled {
+            answer: refused(n),
+            verdict: old,
+        };
+    }
+    let from = resumption(number, named_by(op));
+    settle(
+        targets,
+        starts,
+        words,
+        number,
+        parent,
+        index,
+        probes,
+        stamp,
+        walk,
+        size,
+        start,
+        from,
+        old,
+        lent,
+    )
+}
+
+// A change of the game. The list lent for the walk comes last. It has one exit, so that the session is copied out and in once.
 pub fn change(s: Session, op: Op, lent: &mut [u16]) -> Outcome
     ensures { λ r. ⌜ Changes op s (now (lent .entry)) r (now (lent .exit)) ⌝ }
 {
+    let words = s.words;
     let mut targets = s.targets;
     let mut starts = s.starts;
-    let trial = change_trial(op, s.size, &targets, &starts, lent.len());
-    if let Trial::Refused(n) = trial {
-        return Outcome {
-            answer: refused(n),
-            session: s,
-        };
-    }
-    file_one(op, &mut targets, &mut starts);
-    let words = s.words;
     let mut number = s.number;
     let mut parent = s.parent;
     let mut index = s.index;
@@ -595,9 +723,10 @@ pub fn change(s: Session, op: Op, lent: &mut [u16]) -> Outcome
         spent: 0,
         kept: s.total,
     };
-    let v = seek(
-        &targets,
-        &starts,
+    let r = change_in(
+        op,
+        &mut targets,
+        &mut starts,
         &words,
         &mut number,
         &mut parent,
@@ -605,13 +734,15 @@ pub fn change(s: Session, op: Op, lent: &mut [u16]) -> Outcome
         &mut probes,
         &mut stamp,
         &mut walk,
+        s.size,
         s.start,
-        named_by(op),
         old,
+        lent,
     );
-    write_walk(v, &walk, lent);
+    let answer = r.answer;
+    let v = r.verdict;
     Outcome {
-        answer: answer_of(v),
+        answer,
         session: Session {
             size: s.size,
             start: s.start,

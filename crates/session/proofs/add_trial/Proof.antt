@@ -34,7 +34,7 @@ is-there-requires c κs = search needs
 
 -- the conditions behind 6 and 7 decide
 behind : (c : tie.Else2) (k : Trial) → let a = c .before .before .before .args in
-    k ≡ tried (firstHeld ((8, there (now (a .targets)) (now (a .starts)) (a .from) (a .to)) ∷ (9, leb 2048 (edgeCount (now (a .starts)))) ∷ (11, shortRoom (a .size) (a .room)) ∷ []))
+    k ≡ tried (firstHeld ((8, there (now (a .targets)) (now (a .starts)) (a .from) (a .to)) ∷ (9, leb 2048 (edgeCount (now (a .starts)) (a .size))) ∷ (11, shortRoom (a .size) (a .room)) ∷ []))
     → k ≡ tried (addTrialIn (a .size) (now (a .targets)) (now (a .starts)) (a .from) (a .to) (a .room))
 unfolding addTrialIn
 behind c k h = skip k 6 _ _ (sym (c .before .before .is-outside .ensures) ∙ c .before .if1 .left) (skip k 7 _ _ (no-loop _ _ (c .if2 .left)) h)
@@ -51,7 +51,7 @@ not-there c = sym (c .before .is-there .ensures) ∙ c .if3 .left
 returns-4 : tie.Need-returns-4
 returns-4 c =
     let e = c .before .before in
-    let full : 2048 ≤ edgeCount (now (e .before .before .before .before .before .args .starts)) = omega (arith, c .before .edge-count .ensures, c .if4 .taken) in
+    let full : 2048 ≤ edgeCount (now (e .before .before .before .before .before .args .starts)) (e .before .before .before .before .before .args .size) = omega (arith, c .before .edge-count .ensures, c .if4 .taken) in
     behind (e .before .before) (Refused 9) (skip (Refused 9) 8 _ _ (not-there e) (stop 9 _ _ (le-leb _ _ full)))
 
 wide-requires : tie.Need-wide-requires
@@ -62,7 +62,7 @@ last : (c : tie.Else4) (k : Trial) → let a = c .before .before .before .before
     k ≡ tried (firstHeld ((11, shortRoom (a .size) (a .room)) ∷ [])) → k ≡ tried (addTrialIn (a .size) (now (a .targets)) (now (a .starts)) (a .from) (a .to) (a .room))
 last c k h =
     let e = c .before .before in
-    let free : edgeCount (now (e .before .before .before .before .before .args .starts)) < 2048 = omega (arith, c .before .edge-count .ensures, c .if4 .left) in
+    let free : edgeCount (now (e .before .before .before .before .before .args .starts)) (e .before .before .before .before .before .args .size) < 2048 = omega (arith, c .before .edge-count .ensures, c .if4 .left) in
     behind (e .before .before) k (skip k 8 _ _ (not-there e) (skip k 9 _ _ (lt-leb _ _ free) h))
 
 returns-5 : tie.Need-returns-5

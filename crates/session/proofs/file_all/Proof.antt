@@ -4,21 +4,23 @@ use native.Mathlib.Omega.{arith}
 use denote.Ref.{now}
 use lib.ListN.{length}
 use borrow.Author.Needs.{needs}
+use Rattle.rows.specs.Change.{rowsOf}
+use Rattle.rows.proofs.Change.{inserted-lengths}
 use Rattle.search.specs.Core.{Tabled}
 use Rattle.session.proofs.Filing.{Limits, FiledTo, filed-none, ended, refused, went-on}
 use Rattle.session.proofs.file_all.Statement.{statement}
 use Rattle.session.proofs.file_all.Tie as tie
 
 abbrev Inv-loop : tie.InvT-loop
-Inv-loop numbers targets₀ starts₀ i₀ targets starts i = (i ≤ length numbers) × Tabled targets starts × (Limits numbers targets₀ starts₀ → FiledTo numbers i targets starts)
+Inv-loop numbers size targets₀ starts₀ i₀ targets starts i = (i ≤ length numbers) × Tabled targets starts × (Limits size numbers targets₀ starts₀ → FiledTo size numbers i targets starts)
 
 abbrev μ-loop : tie.MeasureT-loop
-μ-loop numbers targets₀ starts₀ i₀ targets starts i = length numbers - i
+μ-loop numbers size targets₀ starts₀ i₀ targets starts i = length numbers - i
 
 loop-holds : tie.Need-loop-holds Inv-loop μ-loop
 loop-holds c =
     let a = c .before .args in
-    (omega arith, c .before .pre, filed-none (now (a .numbers)) (now (a .targets)) (now (a .starts)))
+    (omega arith, c .before .pre, filed-none (a .size) (now (a .numbers)) (now (a .targets)) (now (a .starts)))
 
 add-loop : tie.Need-add-loop Inv-loop μ-loop
 add-loop c = omega arith
@@ -38,21 +40,17 @@ mul-to c = omega arith
 shared-slice-read-to : tie.Need-shared-slice-read-to Inv-loop μ-loop
 shared-slice-read-to c = omega arith
 
-place-requires : tie.Need-place-requires Inv-loop μ-loop
-place-requires c κs = search needs
-
-degree-requires : tie.Need-degree-requires Inv-loop μ-loop
-degree-requires c κs = search needs
+is-there-requires : tie.Need-is-there-requires Inv-loop μ-loop
+is-there-requires c κs = search needs
 
 returns : tie.Need-returns Inv-loop μ-loop
 returns c =
-    let d = c .before in
-    let p = d .before .before in
+    let p = c .before in
     let turn = p .before .before .before .before .before in
     let s = turn .before in
     let a = s .before .before .args in (
-      refused (now (a .numbers)) (s .loop .i) (now (a .targets)) (now (a .starts)) (s .loop .targets) (s .loop .starts) (s .loop .inv .2)
-          (turn .loop-test .taken) (p .place .result) (d .degree .result) (p .place .ensures) (d .degree .ensures) (c .if1 .taken),
+      refused (a .size) (now (a .numbers)) (s .loop .i) (now (a .targets)) (now (a .starts)) (s .loop .targets) (s .loop .starts) (s .loop .inv .2)
+          (turn .loop-test .taken) (p .is-there .result) (p .is-there .ensures) (c .if1 .taken),
       s .loop .inv .1,
     )
 
@@ -69,23 +67,23 @@ loop-again : tie.Need-loop-again Inv-loop μ-loop
 loop-again c =
     let n = c in
     let e = n .before .before .before in
-    let d = e .before in
-    let p = d .before .before in
+    let p = e .before in
     let turn = p .before .before .before .before .before in
     let s = turn .before in
-    let a = s .before .before .args in (
+    let a = s .before .before .args in
+    let lengths = inserted-lengths (a .size) _ _ (rowsOf (s .loop .targets) (s .loop .starts)) (rowsOf (n .insert .last .0) (n .insert .last .1 .0)) (n .insert .ensures) (s .loop .inv .1 .targets-size, s .loop .inv .1 .starts-size) in (
       omega (arith, turn .loop-test .taken),
-      record { targets-size = n .insert .ensures .1 .0; starts-size = n .insert .ensures .1 .1 },
-      went-on (now (a .numbers)) (s .loop .i) (now (a .targets)) (now (a .starts)) (s .loop .targets) (s .loop .starts) (s .loop .inv .2)
-          (turn .loop-test .taken) (p .place .result) (d .degree .result) (p .place .ensures) (d .degree .ensures) (e .if1 .left)
-          (n .insert .last .0) (n .insert .last .1 .0) (n .insert .ensures .0),
+      record { targets-size = lengths .0; starts-size = lengths .1 },
+      went-on (a .size) (now (a .numbers)) (s .loop .i) (now (a .targets)) (now (a .starts)) (s .loop .targets) (s .loop .starts) (s .loop .inv .2)
+          (turn .loop-test .taken) (p .is-there .result) (p .is-there .ensures) (e .if1 .left)
+          (n .insert .last .0) (n .insert .last .1 .0) (n .insert .ensures),
     )
 
 returns-2 : tie.Need-returns-2 Inv-loop μ-loop
 returns-2 c =
     let s = c .before in
     let a = s .before .before .args in
-    (ended (now (a .numbers)) (s .loop .i) (now (a .targets)) (now (a .starts)) (s .loop .targets) (s .loop .starts) (s .loop .inv .2) (c .loop-test .left), s .loop .inv .1)
+    (ended (a .size) (now (a .numbers)) (s .loop .i) (now (a .targets)) (now (a .starts)) (s .loop .targets) (s .loop .starts) (s .loop .inv .2) (c .loop-test .left), s .loop .inv .1)
 
 pub file-all-spec : {M : Type 1} → statement M
 file-all-spec =
@@ -100,8 +98,7 @@ file-all-spec =
     add-to
     mul-to
     shared-slice-read-to
-    place-requires
-    degree-requires
+    is-there-requires
     returns
     insert-requires
     add-i
