@@ -18,6 +18,6 @@ abbrev pub movedOne : Bool → ℕ → ℕ
 movedOne true x = min (suc x) 65535
 movedOne false x = x - 1
 
--- the starts from one to another, both with them, are all one place further up, or down
+-- the starts at the places from one to another, both included, are all one place further up, or down
 unfoldable pub movedStarts : Bool → List ℕ → ℕ → ℕ → List ℕ
 movedStarts up xs from last = paste xs from (map (movedOne up) (drop from xs)) (suc last - from)

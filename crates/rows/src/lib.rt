@@ -20,6 +20,7 @@ const EDGES: usize = 2048;
 // The largest number that an array can hold.
 const LARGEST: u16 = 65535;
 
+// A number as an index.
 fn wide(x: u16) -> usize
     ensures { λ r. ⌜ (r ≡ x) × (r < 65536) ⌝ }
 {
@@ -121,7 +122,7 @@ fn moved_one(x: u16, up: bool) -> u16
     if 0 < x { x - 1 } else { x }
 }
 
-// The starts from one to the last, and the last itself, are one place further up, or down: so are the rows that start there.
+// The starts from one to the last, both included, are one place further up, or down: so are the rows that start there.
 fn move_starts(starts: &mut [u16; 513], from: usize, last: usize, up: bool)
     requires { ⌜ (from ≤ last) × (last < 513) × (length (now starts) ≡ 513) ⌝ }
     ensures { λ r. ⌜ now (starts .exit) ≡ movedStarts up (now (starts .entry)) from last ⌝ }
