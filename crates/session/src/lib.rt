@@ -365,7 +365,7 @@ fn named_by(op: Op) -> u16
 }
 
 // Where the search is taken up for a state that a change names.
-fn resumption(number: &[u16; 512], s: u16) -> Resumption
+fn where_to_resume(number: &[u16; 512], s: u16) -> Resumption
     requires { ⌜ length (now number) ≡ 512 ⌝ }
     ensures { λ r. ⌜ r ≡ resumptionAt (now (number .entry)) s ⌝ }
 {
@@ -685,7 +685,7 @@ fn change_in(
             verdict: old,
         };
     }
-    let from = resumption(number, named_by(op));
+    let from = where_to_resume(number, named_by(op));
     settle(
         targets,
         starts,
