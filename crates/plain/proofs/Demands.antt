@@ -6,7 +6,7 @@ use mathlib.Core.List.{List, [], _∷_, _++_, reverse, reverse-append}
 use Prim.Native.Nat.{ℕ, zero, suc, _+_, _*_, _-_, _≤_, _<_}
 use native.Mathlib.Omega.{arith}
 use lib.Dec.{eqb, leb}
-use lib.ListN.{length, take, drop, length-append, length-reverse}
+use lib.ListN.{length, take, length-append, length-reverse}
 use lib.Seq.{take-at, drop-at}
 use borrow.Author.Tests.{leb-false, eqb-false}
 use Rattle.plain.specs.Lists.{any, elem, In, Once}
@@ -84,8 +84,8 @@ has-inside n (x ∷ es) e f h =
 -- ---- the graph that is searched, and the game. Today they are one: these facts, and `agree` of Rows.antt, are all that is made of it.
 
 -- a walk of the graph is one of the game
-lasso-there : (t : Table) (stem cycle : List ℕ) → Lasso (searched t) stem cycle → Lasso (graphOf t) stem cycle
-lasso-there t stem cycle w = w
+lasso-game : (t : Table) (stem cycle : List ℕ) → Lasso (searched t) stem cycle → Lasso (graphOf t) stem cycle
+lasso-game t stem cycle w = w
 
 -- a free round of the game is one of the graph
 free-searched : (t : Table) → FreeRound (graphOf t) → FreeRound (searched t)
@@ -152,7 +152,7 @@ module _ (t : Table) (v : Valid t) where
     where
       by-verdict : (w : Verdict) → verdict (final t) ≡ w → w ≡ none
       by-verdict none e = refl
-      by-verdict (lasso stem cycle) e = absurd (n (lasso-free (graphOf t) stem cycle (lasso-there t stem cycle (walk-right stem cycle e))))
+      by-verdict (lasso stem cycle) e = absurd (n (lasso-free (graphOf t) stem cycle (lasso-game t stem cycle (walk-right stem cycle e))))
       by-verdict unfinished e = absurd (ends e)
 
   pub verdict-right : VerdictRight t
@@ -161,7 +161,7 @@ module _ (t : Table) (v : Valid t) where
     ends = ends;
     none-only = λ e f. none-right (searched t) (budget t) e (free-searched t f);
     none-if = none-when;
-    walk = λ stem cycle e. lasso-there t stem cycle (walk-right stem cycle e);
+    walk = λ stem cycle e. lasso-game t stem cycle (walk-right stem cycle e);
     short = walk-short;
     looks = looks-twice;
     each = each-twice;

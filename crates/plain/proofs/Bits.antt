@@ -8,11 +8,11 @@ use native.Mathlib.Omega.{arith}
 use lib.Bits.{bitAnd, bitOr, and-high, or-add-and, or-shr, or-mod}
 use lib.Dec.{eqb, eqb·zero-suc, eqb·suc-zero, eqb·suc-suc}
 use lib.Pow.{high-ones, shr-shr}
 use Rattle.plain.specs.Table.{bit, one, withBit}
 
 -- what holds of 0 and of 1 holds of the remainder by 2
-pub either : (P : ℕ → Type 0) → P 0 → P 1 → (n : ℕ) → P (n % 2)
-either P p q n = go (n % 2) (mod-lt n (zero-lt-suc 1))
+pub by-digit : (P : ℕ → Type 0) → P 0 → P 1 → (n : ℕ) → P (n % 2)
+by-digit P p q n = go (n % 2) (mod-lt n (zero-lt-suc 1))
   where
     go : (d : ℕ) → d < 2 → P d
     go zero h = p
@@ -22,7 +22,7 @@ either P p q n = go (n % 2) (mod-lt n (zero-lt-suc 1))
 -- the digit at b is 1 where bit b is set, else 0
 pub digit : (b w : ℕ) → w / 2 ^ b % 2 ≡ one (bit b w)
 unfolding bit
-digit b w = either (λ (d : ℕ). d ≡ one (eqb d 1)) refl refl (w / 2 ^ b)
+digit b w = by-digit (λ (d : ℕ). d ≡ one (eqb d 1)) refl refl (w / 2 ^ b)
 
 -- 0 has no bit
 pub bit-of-zero : (b : ℕ) → bit b 0 ≡ false
@@ -63,8 +63,8 @@ pub bit-of-or : (a x y : ℕ) → bit a (bitOr x y) ≡ (bit a x || bit a y)
 unfolding bit
 bit-of-or a x y =
     ap (λ (d : ℕ). eqb d 1) (ap (λ (q : ℕ). q % 2) (or-shr x y a) ∙ or-mod (x / 2 ^ a) (y / 2 ^ a) 1)
-    ∙ either (λ (d : ℕ). eqb (bitOr d (y / 2 ^ a % 2)) 1 ≡ (eqb d 1 || eqb (y / 2 ^ a % 2) 1)) refl
-    (either (λ (e : ℕ). eqb (bitOr 1 e) 1 ≡ (eqb 1 1 || eqb e 1)) refl refl (y / 2 ^ a)) (x / 2 ^ a)
+    ∙ by-digit (λ (d : ℕ). eqb (bitOr d (y / 2 ^ a % 2)) 1 ≡ (eqb d 1 || eqb (y / 2 ^ a % 2) 1)) refl
+    (by-digit (λ (e : ℕ). eqb (bitOr 1 e) 1 ≡ (eqb 1 1 || eqb e 1)) refl refl (y / 2 ^ a)) (x / 2 ^ a)
 
 -- the bits of a word after one is set
 pub bit-of-withBit : (a b w : ℕ) → bit a (withBit b w) ≡ (eqb a b || bit a w)
