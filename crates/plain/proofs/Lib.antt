@@ -1,4 +1,4 @@
-pub mod Games
+pub mod AllGames
 pub mod Tests
 pub mod Bits
 pub mod Words
