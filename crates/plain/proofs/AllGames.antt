@@ -10,17 +10,17 @@ use Rattle.plain.specs.Refusals.{firstHeld, pairs, sameEdge, present, ba
 use Rattle.plain.specs.Machine.{named, tableOf, without, apply, changeTrial, kept, loadAnswer, changeAnswer, trialOf, answerTo, tableAfter, answers, answerLine, answerLines, gameLine, noneLine, transcript}
 use Rattle.plain.specs.Games.{Known, wordOf, known, lent, games}
 
--- the lines printed for these games are those told
-abbrev Told : List Known → Type 0
-Told ks = map (λ (k : Known). transcript (k .load) 512 (map lent (k .changes))) ks ≡ map (λ (k : Known). k .lines) ks
+-- the lines printed for these games are those known
+abbrev AsKnown : List Known → Type 0
+AsKnown ks = map (λ (k : Known). transcript (k .load) 512 (map lent (k .changes))) ks ≡ map (λ (k : Known). k .lines) ks
 
 -- Two paying states, one behind the other. The second inner search passes over what the first has marked: twice as many looks as moves, and no more.
 two-payers : Known
 two-payers = known 4 (0 ∷ 1 ∷ []) (0 ∷ 1 ∷ 1 ∷ 2 ∷ []) [] (gameLine 4 2 2 ∷ noneLine 4 0 ∷ [])
 
-told : Told (two-payers ∷ games)
+as-known : AsKnown (two-payers ∷ games)
 unfolding any filter anyBelow elem before from onPath step steps until statesOf stemOf cycleOf verdict bit accepts countBelow acceptingCount row budget final firstMeeting firstHeld pairs sameEdge present badSize badStart badMarks badCount outside selfLoop repeated full shortRoom loadTrial addTrial cutTrial named tableOf without apply changeTrial kept loadAnswer changeAnswer trialOf answerTo tableAfter answers answerLine answerLines transcript wordOf known lent games two-payers
-told = refl
+as-known = refl
 
 pub all-games : map (λ (k : Known). transcript (k .load) 512 (map lent (k .changes))) games ≡ map (λ (k : Known). k .lines) games
-all-games = ap (drop 1) told
+all-games = ap (drop 1) as-known
