@@ -1,5 +1,6 @@
 -- A bit of a word, against and, or and the powers of 2. Assumes nothing.
 use mathlib.Core.Path.{_≡_, refl, sym, ap, _∙_}
+use mathlib.Core.Logic.{⊎-elim}
 use mathlib.Core.Bool.{Bool, true, false, _||_, or-comm}
 use Prim.Native.Nat.{ℕ, zero, suc, _+_, _*_, _/_, _%_, _^_, _<_}
 use native.Mathlib.Nat.{zero-lt-suc, le-of-suc-le-suc, not-suc-le-zero, one-mul, zero-div, div-one, mod-lt, mul-mod-left, mul-div-cancel, pow-suc}
@@ -9,6 +10,7 @@ use lib.Bits.{bitAnd, bitOr, and-high, or-add-and, or-shr, or-mod}
 use lib.Dec.{eqb, eqb·zero-suc, eqb·suc-zero, eqb·suc-suc}
 use lib.Pow.{high-ones, shr-shr}
 use Rattle.plain.specs.Table.{bit, one, withBit}
+use Rattle.plain.proofs.Tests.{either}
 
 -- what holds of 0 and of 1 holds of the remainder by 2
 pub by-digit : (P : ℕ → Type 0) → P 0 → P 1 → (n : ℕ) → P (n % 2)
@@ -49,14 +51,20 @@ bit-of-power (suc a) (suc b) =
 pub and-power : (b w : ℕ) → bitAnd w (2 ^ b) ≡ one (bit b w) * 2 ^ b
 and-power b w = ap (bitAnd w) (sym (high-ones 1 b ∙ one-mul (2 ^ b))) ∙ and-high w 1 b ∙ ap (λ (d : ℕ). d * 2 ^ b) (digit b w)
 
+-- a bit that is set stays as it is, another is added
+bit-stays : (b w : ℕ) → bit b w ≡ true → withBit b w ≡ w
+unfolding withBit
+bit-stays b w e = rw (e, withBit)
+
+bit-added : (b w : ℕ) → bit b w ≡ false → withBit b w ≡ w + 2 ^ b
+unfolding withBit
+bit-added b w e = rw (e, withBit)
+
 -- or with a power of 2 sets the bit
 pub or-sets : (b w : ℕ) → bitOr w (2 ^ b) ≡ withBit b w
-unfolding withBit
-or-sets b w = go (bitOr w (2 ^ b)) (bit b w) (ap (λ (x : ℕ). bitOr w (2 ^ b) + x) (sym (and-power b w)) ∙ or-add-and w (2 ^ b))
-  where
-    go : (r : ℕ) (t : Bool) → r + one t * 2 ^ b ≡ w + 2 ^ b → r ≡ elim t [ true ↦ w | false ↦ w + 2 ^ b ]
-    go r true h = omega arith
-    go r false h = omega arith
+or-sets b w =
+    let h : bitOr w (2 ^ b) + one (bit b w) * 2 ^ b ≡ w + 2 ^ b = ap (λ (x : ℕ). bitOr w (2 ^ b) + x) (sym (and-power b w)) ∙ or-add-and w (2 ^ b) in
+    ⊎-elim (λ e. omega (arith, rw e at h, bit-stays b w e)) (λ e. omega (arith, rw e at h, bit-added b w e)) (either (bit b w))
 
 -- a bit of an or is set in one or the other
 pub bit-of-or : (a x y : ℕ) → bit a (bitOr x y) ≡ (bit a x || bit a y)
