@@ -6,12 +6,12 @@ use Prim.Native.Nat.{ℕ, zero, suc, _+_, _*_, _/_, _%_, _^_, _≤_, _<_, zero-l
 use native.Mathlib.Nat.{le-refl, le-trans, le-suc, add-zero, zero-add, add-suc, add-assoc, add-comm, suc-mul, mod-one, mod-lt, mod-eq-of-lt}
 use native.Mathlib.Numerals.{one-add}
 use native.Mathlib.Omega.{arith}
-use lib.Arith.{digits-div, digits-mod}
 use lib.Count.{ones, onesIn, ones-cat}
 use lib.ListN.{getD}
 use lib.Pow.{pow-pos, mod-pow-add}
 use Rattle.plain.specs.Table.{accepts, acceptingCount, bit, countBelow, one}
-use Rattle.marks.proofs.Bits.{either, digit}
+use Rattle.plain.proofs.Bits.{by-digit, digit}
+use Rattle.plain.proofs.Words.{accepts-in-word}
 
 -- a count below n is at most n
 pub count-le : (n : ℕ) (p : ℕ → Bool) → countBelow n p ≤ n
@@ -45,7 +45,7 @@ ones-low zero w = ap ones (mod-one w)
 ones-low (suc k) w =
     ap (λ (j : ℕ). ones (w % 2 ^ j)) (sym (one-add k)) ∙ ap ones (mod-pow-add w 1 k)
     ∙ ones-cat k (w / 2 ^ k % 2) (w % 2 ^ k) (mod-lt w (pow-pos k))
-    ∙ ap₂ (λ (x y : ℕ). x + y) (either (λ (d : ℕ). ones d ≡ d) refl refl (w / 2 ^ k) ∙ digit k w) (ones-low k w)
+    ∙ ap₂ (λ (x y : ℕ). x + y) (by-digit (λ (d : ℕ). ones d ≡ d) refl refl (w / 2 ^ k) ∙ digit k w) (ones-low k w)
 
 -- the ones of a word below 2 ^ k are its set bits below k
 pub ones-of-word : (k w : ℕ) → w < 2 ^ k → ones w ≡ countBelow k (λ b. bit b w)
@@ -55,11 +55,6 @@ ones-of-word k w h = ap ones (sym (mod-eq-of-lt h)) ∙ ones-low k w
 unfoldable pub total : List ℕ → ℕ → ℕ
 total words zero = 0
 total words (suc n) = total words n + ones (getD words n 0)
-
--- state b of word n
-accepts-in-word : (words : List ℕ) (n b : ℕ) → b < 64 → accepts words (n * 64 + b) ≡ bit b (getD words n 0)
-unfolding accepts
-accepts-in-word words n b h = ap₂ (λ (c k : ℕ). bit c (getD words k 0)) (digits-mod n h) (digits-div n h)
 
 -- words of 64 bits
 module _ (words : List ℕ) (fit : (i : ℕ) → getD words i 0 < 2 ^ 64) where

@@ -1,4 +1,2 @@
-pub mod Bits
 pub mod Counts
 pub mod Masks
-pub mod Words

@@ -84,13 +84,6 @@ pub fn accepts_in(words: &[u64], s: usize) -> bool
     }
 }
 
-// Does state s pay? No for 512 and above.
-pub fn pays(words: [u64; 8], s: usize) -> bool
-    ensures { λ r. ⌜ r ≡ accepts words s ⌝ }
-{
-    accepts_in(&words, s)
-}
-
 // The words with the mark of s set; for 512 and above as they are.
 pub fn with_mark(words: [u64; 8], s: usize) -> [u64; 8]
     ensures { λ r. ⌜ r ≡ withMark words s ⌝ }

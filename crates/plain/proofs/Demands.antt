@@ -6,7 +6,7 @@ use mathlib.Core.List.{List, [], _∷_, _++_, reverse, reverse-append}
 use Prim.Native.Nat.{ℕ, zero, suc, _+_, _*_, _-_, _≤_, _<_}
 use native.Mathlib.Omega.{arith}
 use lib.Dec.{eqb, leb}
-use lib.ListN.{length, take, drop, length-append, length-reverse}
+use lib.ListN.{length, take, length-append, length-reverse}
 use lib.Seq.{take-at, drop-at}
 use borrow.Author.Tests.{leb-false, eqb-false}
 use Rattle.plain.specs.Lists.{any, elem, In, Once}
@@ -20,7 +20,7 @@ use Rattle.plain.specs.Claims.{Arises, changed, times, VerdictRight, cle
 use Rattle.plain.proofs.Tests.{either, not-in, in-nil, in-head, in-tail, in-cases, or-first, or-false, one-le, none-cons, any-in}
 use Rattle.plain.proofs.Runs.{lasso-free, lasso-inside}
 use Rattle.plain.proofs.Lassos.{sound, none-right}
-use Rattle.plain.proofs.Bounds.{left, left-add, left-const, left-alone, once-short, times-reverse, times-row, probes-twice, probes-each, ended-by}
+use Rattle.plain.proofs.Bounds.{left, left-add, left-const, left-alone, once-short, times-reverse, probes-twice, each-twice, ended-by}
 use Rattle.plain.proofs.Prefix.{FirstMeeting, first-meeting}
 use Rattle.plain.proofs.Resume.{one-end, one-until, met-at-end, until-end, until-at, probes-grow, Holds, holds-notes, unchanged, resumed}
 use Rattle.plain.proofs.Edges.{Has, has-cases, has-nil}
@@ -84,26 +84,36 @@ has-inside n (x ∷ es) e f h =
 -- ---- the graph that is searched, and the game. Today they are one: these facts, and `agree` of Rows.antt, are all that is made of it.
 
 -- a walk of the graph is one of the game
-lasso-there : (t : Table) (stem cycle : List ℕ) → Lasso (searched t) stem cycle → Lasso (graphOf t) stem cycle
-lasso-there t stem cycle w = w
+lasso-game : (t : Table) (stem cycle : List ℕ) → Lasso (searched t) stem cycle → Lasso (graphOf t) stem cycle
+lasso-game t stem cycle w = w
 
 -- a free round of the game is one of the graph
 free-searched : (t : Table) → FreeRound (graphOf t) → FreeRound (searched t)
 free-searched t f = f
 
+-- the states of the graph
+abbrev states : Table → List ℕ
+states t = upto (t .size)
+
+states-once : (t : Table) → Once (states t)
+states-once t = once-upto (t .size)
+
+states-count : (t : Table) → length (states t) ≡ t .size
+states-count t = length-upto (t .size)
+
 module _ (t : Table) (v : Valid t) where
-  pub start-in : In (searched t .start) (upto (t .size))
+  pub start-in : In (searched t .start) (states t)
   unfolding badStart
   start-in = upto-in (t .start) (t .size) (leb-false (t .size) (t .start) (v .start-ok))
 
-  pub target-in : (x y : ℕ) → In x (upto (t .size)) → In y (searched t .successors x) → In y (upto (t .size))
+  pub target-in : (x y : ℕ) → In x (states t) → In y (searched t .successors x) → In y (states t)
   unfolding outside
   target-in x y i j =
       let f = has-inside (t .size) (t .edges) (x, y) (v .inside) (row-has (t .edges) x y j) in
       upto-in y (t .size) (leb-false (t .size) y (or-false (leb (t .size) x) (leb (t .size) y) f .1))
 
-  edges-few : left (λ x. length (searched t .successors x)) [] (upto (t .size)) ≤ length (t .edges)
-  edges-few = total-le (t .edges) (upto (t .size)) (once-upto (t .size))
+  edges-few : left (λ x. length (searched t .successors x)) [] (states t) ≤ length (t .edges)
+  edges-few = total-le (t .edges) (states t) (states-once t)
 
   rows-once : (x : ℕ) → Once (searched t .successors x)
   rows-once x = row-once (t .edges) x (v .once)
@@ -114,23 +124,22 @@ module _ (t : Table) (v : Valid t) where
   -- The search ends within its budget.
   pub ended-within : (n : ℕ) → budget t ≤ n → verdict (run (searched t) n) ≢ unfinished
   unfolding budget
-  ended-within n h = ended-by (searched t) (upto (t .size)) (start-in t v) (target-in t v) n (omega (arith, edges-few t v, length-upto (t .size)))
+  ended-within n h = ended-by (searched t) (states t) (start-in t v) (target-in t v) n (omega (arith, edges-few t v, states-count t))
 
   pub ends : verdict (final t) ≢ unfinished
   unfolding final
   ends = ended-within (budget t) (omega arith)
 
-  looks-twice : count (final t) ≤ 2 * length (t .edges)
+  looks-few : count (final t) ≤ 2 * length (t .edges)
   unfolding final
-  looks-twice = omega (arith, probes-twice (searched t) (upto (t .size)) (start-in t v) (target-in t v) (budget t), edges-few t v)
+  looks-few = omega (arith, probes-twice (searched t) (states t) (start-in t v) (target-in t v) (budget t), edges-few t v)
 
-  each-twice : (e : Edge) → times e (taken (final t)) ≤ 2
+  each-few : (e : Edge) → times e (taken (final t)) ≤ 2
   unfolding final taken
-  each-twice e = omega (
+  each-few e = omega (
     arith,
     times-reverse e (probesOf (final t)),
-    probes-each (searched t) (upto (t .size)) (start-in t v) (target-in t v) (once-upto (t .size)) (budget t) e,
-    times-row e (searched t .successors (e .0)) (rows-once t v (e .0)),
+    each-twice (searched t) (states t) (start-in t v) (target-in t v) (states-once t) (rows-once t v) (budget t) e,
   )
 
   walk-right : (stem cycle : List ℕ) → verdict (final t) ≡ lasso stem cycle → Lasso (searched t) stem cycle
@@ -143,8 +152,8 @@ module _ (t : Table) (v : Valid t) where
       omega (
         arith,
         length-append stem cycle,
-        length-upto (t .size),
-        once-short (stem ++ cycle) (upto (t .size)) (w .once) (lasso-inside (searched t) (upto (t .size)) (target-in t v) (start-in t v) stem cycle w),
+        states-count t,
+        once-short (stem ++ cycle) (states t) (w .once) (lasso-inside (searched t) (states t) (target-in t v) (start-in t v) stem cycle w),
       )
 
   none-when : (FreeRound (graphOf t) → ⊥) → verdict (final t) ≡ none
@@ -152,7 +161,7 @@ module _ (t : Table) (v : Valid t) where
     where
       by-verdict : (w : Verdict) → verdict (final t) ≡ w → w ≡ none
       by-verdict none e = refl
-      by-verdict (lasso stem cycle) e = absurd (n (lasso-free (graphOf t) stem cycle (lasso-there t stem cycle (walk-right stem cycle e))))
+      by-verdict (lasso stem cycle) e = absurd (n (lasso-free (graphOf t) stem cycle (lasso-game t stem cycle (walk-right stem cycle e))))
       by-verdict unfinished e = absurd (ends e)
 
   pub verdict-right : VerdictRight t
@@ -161,10 +170,10 @@ module _ (t : Table) (v : Valid t) where
     ends = ends;
     none-only = λ e f. none-right (searched t) (budget t) e (free-searched t f);
     none-if = none-when;
-    walk = λ stem cycle e. lasso-there t stem cycle (walk-right stem cycle e);
+    walk = λ stem cycle e. lasso-game t stem cycle (walk-right stem cycle e);
     short = walk-short;
-    looks = looks-twice;
-    each = each-twice;
+    looks = looks-few;
+    each = each-few;
   }
 
 -- DEMAND 2, of the plain answers

@@ -1,5 +1,7 @@
-pub mod Games
+pub mod AllGames
 pub mod Tests
+pub mod Bits
+pub mod Words
 pub mod Paths
 pub mod Runs
 pub mod Invariant

@@ -4,7 +4,7 @@ use Prim.Native.Nat.{_%_}
 use lib.ListN.{List·getD-eq-default}
 use borrow.Author.Needs.{needs}
 use Rattle.plain.specs.Table.{accepts, bit}
-use Rattle.marks.proofs.Bits.{bit-of-zero}
+use Rattle.plain.proofs.Bits.{bit-of-zero}
 use Rattle.marks.proofs.accepts_in.Statement.{statement}
 use Rattle.marks.proofs.accepts_in.Tie as tie
 

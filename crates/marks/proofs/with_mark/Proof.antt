@@ -7,7 +7,7 @@ use lib.ListN.{getD, set}
 use lib.Seq.{set-out}
 use borrow.Author.Needs.{needs}
 use Rattle.plain.specs.Table.{withMark}
-use Rattle.marks.proofs.Bits.{or-sets}
+use Rattle.plain.proofs.Bits.{or-sets}
 use Rattle.marks.proofs.Masks.{masks, mask-at}
 use Rattle.marks.proofs.with_mark.Statement.{statement}
 use Rattle.marks.proofs.with_mark.Tie as tie

@@ -1,5 +1,6 @@
 -- A bit of a word, against and, or and the powers of 2. Assumes nothing.
 use mathlib.Core.Path.{_≡_, refl, sym, ap, _∙_}
+use mathlib.Core.Logic.{⊎-elim}
 use mathlib.Core.Bool.{Bool, true, false, _||_, or-comm}
 use Prim.Native.Nat.{ℕ, zero, suc, _+_, _*_, _/_, _%_, _^_, _<_}
 use native.Mathlib.Nat.{zero-lt-suc, le-of-suc-le-suc, not-suc-le-zero, one-mul, zero-div, div-one, mod-lt, mul-mod-left, mul-div-cancel, pow-suc}
@@ -8,11 +9,12 @@ use native.Mathlib.Omega.{arith}
 use lib.Bits.{bitAnd, bitOr, and-high, or-add-and, or-shr, or-mod}
 use lib.Dec.{eqb, eqb·zero-suc, eqb·suc-zero, eqb·suc-suc}
 use lib.Pow.{high-ones, shr-shr}
 use Rattle.plain.specs.Table.{bit, one, withBit}
+use Rattle.plain.proofs.Tests.{either}
 
 -- what holds of 0 and of 1 holds of the remainder by 2
-pub either : (P : ℕ → Type 0) → P 0 → P 1 → (n : ℕ) → P (n % 2)
-either P p q n = go (n % 2) (mod-lt n (zero-lt-suc 1))
+pub by-digit : (P : ℕ → Type 0) → P 0 → P 1 → (n : ℕ) → P (n % 2)
+by-digit P p q n = go (n % 2) (mod-lt n (zero-lt-suc 1))
   where
     go : (d : ℕ) → d < 2 → P d
     go zero h = p
@@ -22,7 +24,7 @@ either P p q n = go (n % 2) (mod-lt n (zero-lt-suc 1))
 -- the digit at b is 1 where bit b is set, else 0
 pub digit : (b w : ℕ) → w / 2 ^ b % 2 ≡ one (bit b w)
 unfolding bit
-digit b w = either (λ (d : ℕ). d ≡ one (eqb d 1)) refl refl (w / 2 ^ b)
+digit b w = by-digit (λ (d : ℕ). d ≡ one (eqb d 1)) refl refl (w / 2 ^ b)
 
 -- 0 has no bit
 pub bit-of-zero : (b : ℕ) → bit b 0 ≡ false
@@ -49,22 +51,28 @@ bit-of-power (suc a) (suc b) =
 pub and-power : (b w : ℕ) → bitAnd w (2 ^ b) ≡ one (bit b w) * 2 ^ b
 and-power b w = ap (bitAnd w) (sym (high-ones 1 b ∙ one-mul (2 ^ b))) ∙ and-high w 1 b ∙ ap (λ (d : ℕ). d * 2 ^ b) (digit b w)
 
+-- a bit that is set stays as it is, another is added
+bit-stays : (b w : ℕ) → bit b w ≡ true → withBit b w ≡ w
+unfolding withBit
+bit-stays b w e = rw (e, withBit)
+
+bit-added : (b w : ℕ) → bit b w ≡ false → withBit b w ≡ w + 2 ^ b
+unfolding withBit
+bit-added b w e = rw (e, withBit)
+
 -- or with a power of 2 sets the bit
 pub or-sets : (b w : ℕ) → bitOr w (2 ^ b) ≡ withBit b w
-unfolding withBit
-or-sets b w = go (bitOr w (2 ^ b)) (bit b w) (ap (λ (x : ℕ). bitOr w (2 ^ b) + x) (sym (and-power b w)) ∙ or-add-and w (2 ^ b))
-  where
-    go : (r : ℕ) (t : Bool) → r + one t * 2 ^ b ≡ w + 2 ^ b → r ≡ elim t [ true ↦ w | false ↦ w + 2 ^ b ]
-    go r true h = omega arith
-    go r false h = omega arith
+or-sets b w =
+    let h : bitOr w (2 ^ b) + one (bit b w) * 2 ^ b ≡ w + 2 ^ b = ap (λ (x : ℕ). bitOr w (2 ^ b) + x) (sym (and-power b w)) ∙ or-add-and w (2 ^ b) in
+    ⊎-elim (λ e. omega (arith, rw e at h, bit-stays b w e)) (λ e. omega (arith, rw e at h, bit-added b w e)) (either (bit b w))
 
 -- a bit of an or is set in one or the other
 pub bit-of-or : (a x y : ℕ) → bit a (bitOr x y) ≡ (bit a x || bit a y)
 unfolding bit
 bit-of-or a x y =
     ap (λ (d : ℕ). eqb d 1) (ap (λ (q : ℕ). q % 2) (or-shr x y a) ∙ or-mod (x / 2 ^ a) (y / 2 ^ a) 1)
-    ∙ either (λ (d : ℕ). eqb (bitOr d (y / 2 ^ a % 2)) 1 ≡ (eqb d 1 || eqb (y / 2 ^ a % 2) 1)) refl
-    (either (λ (e : ℕ). eqb (bitOr 1 e) 1 ≡ (eqb 1 1 || eqb e 1)) refl refl (y / 2 ^ a)) (x / 2 ^ a)
+    ∙ by-digit (λ (d : ℕ). eqb (bitOr d (y / 2 ^ a % 2)) 1 ≡ (eqb d 1 || eqb (y / 2 ^ a % 2) 1)) refl
+    (by-digit (λ (e : ℕ). eqb (bitOr 1 e) 1 ≡ (eqb 1 1 || eqb e 1)) refl refl (y / 2 ^ a)) (x / 2 ^ a)
 
 -- the bits of a word after one is set
 pub bit-of-withBit : (a b w : ℕ) → bit a (withBit b w) ≡ (eqb a b || bit a w)

@@ -1,0 +1,65 @@
+-- The paying words: which states pay once the word of one state is changed, and once that state is marked. Assumes nothing.
+use mathlib.Core.Path.{_≡_, ap, ap₂, _∙_}
+use mathlib.Core.Logic.{_≢_, ⊎-elim}
+use mathlib.Core.Bool.{true, false, _||_}
+use mathlib.Core.List.{List}
+use Prim.Native.Nat.{ℕ, _+_, _*_, _/_, _%_, _<_}
+use native.Mathlib.Decide.{decLt}
+use native.Mathlib.Omega.{arith}
+use lib.Arith.{digits-div, digits-mod}
+use lib.Dec.{eqb}
+use lib.ListN.{length, getD, set}
+use lib.Seq.{set-out, getD-set-same, getD-set-other}
+use borrow.Author.Tests.{eqb-false, ne-eqb}
+use Rattle.plain.specs.Table.{accepts, bit, withBit, withMark}
+use Rattle.plain.proofs.Tests.{either, self, same}
+use Rattle.plain.proofs.Bits.{bit-of-withBit}
+
+-- state b of word n
+pub accepts-in-word : (words : List ℕ) (n b : ℕ) → b < 64 → accepts words (n * 64 + b) ≡ bit b (getD words n 0)
+unfolding accepts
+accepts-in-word words n b h = ap₂ (λ (c k : ℕ). bit c (getD words k 0)) (digits-mod n h) (digits-div n h)
+
+-- ---- the word of s is changed to w
+
+module _ (words : List ℕ) (s w : ℕ) where
+  -- s has its bit of w, where s has a word
+  pub accepts-set : s / 64 < length words → accepts (set words (s / 64) w) s ≡ bit (s % 64) w
+  unfolding accepts
+  accepts-set h = ap (bit (s % 64)) (getD-set-same words (s / 64) w 0 h)
+
+  -- the other states stay as they were, where the other bits of the word do
+  pub accepts-set-other : ((b : ℕ) → b ≢ s % 64 → bit b w ≡ bit b (getD words (s / 64) 0)) → (x : ℕ) → x ≢ s
+      → accepts (set words (s / 64) w) x ≡ accepts words x
+  unfolding accepts
+  accepts-set-other keeps x n = ⊎-elim here elsewhere (either (eqb (x / 64) (s / 64)))
+    where
+      Goal : ℕ → Type 0
+      Goal k = bit (x % 64) (getD (set words (s / 64) w) k 0) ≡ bit (x % 64) (getD words k 0)
+
+      elsewhere : eqb (x / 64) (s / 64) ≡ false → Goal (x / 64)
+      elsewhere f = ap (bit (x % 64)) (getD-set-other words (s / 64) (x / 64) w 0 (eqb-false (x / 64) (s / 64) f))
+
+      by-length : x / 64 ≡ s / 64 → Dec (s / 64 < length words) → Goal (s / 64)
+      by-length q (yes h) = ap (bit (x % 64)) (getD-set-same words (s / 64) w 0 h) ∙ keeps (x % 64) (λ r. n (omega arith))
+      by-length q (no h) = ap (λ (l : List ℕ). bit (x % 64) (getD l (s / 64) 0)) (set-out words (s / 64) w (omega arith))
+
+      here : eqb (x / 64) (s / 64) ≡ true → Goal (x / 64)
+      here e = let q : x / 64 ≡ s / 64 = same e in rw q (by-length q (decLt (s / 64) (length words)))
+
+-- ---- s is marked
+
+-- the other states stay as they were
+pub accepts-marked-other : (words : List ℕ) (s x : ℕ) → x ≢ s → accepts (withMark words s) x ≡ accepts words x
+unfolding withMark
+accepts-marked-other words s x n =
+    accepts-set-other words s (withBit (s % 64) (getD words (s / 64) 0))
+    (λ b m. bit-of-withBit b (s % 64) (getD words (s / 64) 0) ∙ rw (ne-eqb b (s % 64) m)) x n
+
+-- s pays, and each state that paid before, and no other
+pub accepts-marked : (words : List ℕ) (s : ℕ) → s / 64 < length words → (x : ℕ) → accepts (withMark words s) x ≡ (eqb x s || accepts words x)
+unfolding withMark
+accepts-marked words s h x = ⊎-elim
+    (λ e. let z : x ≡ s = same e in rw (e, z) (
+    accepts-set words s (withBit (s % 64) (getD words (s / 64) 0)) h ∙ bit-of-withBit (s % 64) (s % 64) (getD words (s / 64) 0) ∙ rw (self (s % 64))))
+    (λ f. accepts-marked-other words s x (eqb-false x s f) ∙ rw f) (either (eqb x s))
