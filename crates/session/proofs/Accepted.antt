@@ -101,7 +101,7 @@ abbrev recordsHeld : Session → Records
 recordsHeld s = recordsOf (s .number) (s .parent) (s .index) (s .probes) (s .stamp) (s .walk)
 
 module _ (op : Op) (s : Session) (rows : Rows) (a : Records) (v : Verdict) (new : rows ≡ filedIn op (s .size) (rowsOf (s .targets) (s .starts)))
-    (sought : Sought (rows .targets) (rows .starts) (s .words) (s .start) (resumptionAt (s .number) (sourceOf op)) (oldOf s) (recordsHeld s) v a)
+    (sought : Sought (rows .targets) (rows .starts) (s .words) (s .size) (s .start) (resumptionAt (s .number) (sourceOf op)) (oldOf s) (recordsHeld s) v a)
     (t : Table) (h : Holds s t) (room : ℕ) (yes-it-is : changeTrial (changeOf op) t room ≡ accepted) where
   abbrev from : ℕ
   from = sourceOf op
@@ -128,7 +128,7 @@ module _ (op : Op) (s : Session) (rows : Rows) (a : Records) (v : Verdict) (new 
   worth-unmet : getD (s .number) from 0 ≡ none → elem from (discoveredOf (run (searched t) (h .steps))) ≡ false → Worth c t v a
   unfolding r kept
   worth-unmet e f =
-      let q = subst (λ (x : Resumption). Sought (rows .targets) (rows .starts) (s .words) (s .start) x (oldOf s) (recordsHeld s) v a) (taken-nowhere (s .number) from e) sought in
+      let q = subst (λ (x : Resumption). Sought (rows .targets) (rows .starts) (s .words) (s .size) (s .start) x (oldOf s) (recordsHeld s) v a) (taken-nowhere (s .number) from e) sought in
       let m : meets (named c) (run (searched t) (h .steps)) ≡ false = subst (λ (l : List ℕ). meets l (run (searched t) (h .steps)) ≡ false) (sym (named-one op)) (unmet-one (searched t) from (run (searched t) (h .steps)) f) in
       let u = change-unmet c t ok ok′ (h .steps) (h .ended) r m (h .archived .holds) in
       let z : s .total + 0 ≡ count (final t′) = omega (arith, h .total-is, ap count (u .same-final)) in
@@ -146,20 +146,20 @@ module _ (op : Op) (s : Session) (rows : Rows) (a : Records) (v : Verdict) (new 
   worth-met : (getD (s .number) from 0 ≡ none → ⊥) → In from (discoveredOf (run (searched t) (h .steps))) → Worth c t v a
   unfolding r kept
   worth-met e i =
-      let q = subst (λ (x : Resumption). Sought (rows .targets) (rows .starts) (s .words) (s .start) x (oldOf s) (recordsHeld s) v a) (taken-at (s .number) from e) sought in
+      let q = subst (λ (x : Resumption). Sought (rows .targets) (rows .starts) (s .words) (s .size) (s .start) x (oldOf s) (recordsHeld s) v a) (taken-at (s .number) from e) sought in
       let m : meets (named c) (run (searched t) (h .steps)) ≡ true = subst (λ (l : List ℕ). meets l (run (searched t) (h .steps)) ≡ true) (sym (named-one op)) (meets-one (searched t) from (run (searched t) (h .steps)) i) in
       let u = change-met c t ok ok′ (h .steps) (h .ended) r m (h .archived .holds) in
       let w = u .meeting in
       let here : w .meeting .state ≡ from = in-one (w .meeting .state) from (subst (λ (l : List ℕ). In (w .meeting .state) l) (named-one op) (w .meeting .is-named)) in
       let fit = resume-fits (named c) (searched t) (searched t′) (agree c t) (small t′ ok′) (h .steps) (s .number) (s .parent) (s .index) (s .probes) (s .stamp) (s .walk) (h .archived) w in
-      let back = backAt (t′ .start) (w .meeting .state) (recordsHeld s) in
+      let back = backAt (s .size) (t′ .start) (w .meeting .state) (recordsHeld s) in
       let ran = ran-from (rows .targets) (rows .starts) (s .words) (same-start (h .start-is ∙ sym (changed-start op t)) (sym here)) (q .1) in
       let g = reached t′ ok′ (rows .targets) (rows .starts) (s .words) (matches t′ rows (s .words) rows-new (h .words-are ∙ sym (changed-words op t)))
       (w .at) back (q .0) (rewound-spent (t′ .start) (w .meeting .state) 0 (s .number) (s .parent) (s .index) (s .probes) (s .stamp) (s .walk)) fit ran in
       subst⁻¹ (λ (x : Verdict). Worth c t x a) (q .2) (subst⁻¹ (λ (x : Records). Worth c t (verdictOf (q .0 .walker) (q .0 .spent)) x) (q .3) (settled-by (q .0) (w .at) g (ap count (u .kept-here))))
     where
-      same-start : {x y z w : ℕ} → x ≡ y → z ≡ w → backAt x z (recordsHeld s) ≡ backAt y w (recordsHeld s)
-      same-start p z = λ j. backAt (p j) (z j) (recordsHeld s)
+      same-start : {x y z w : ℕ} → x ≡ y → z ≡ w → backAt (s .size) x z (recordsHeld s) ≡ backAt (s .size) y w (recordsHeld s)
+      same-start p z = λ j. backAt (s .size) (p j) (z j) (recordsHeld s)
 
       settled-by : (x : Core) (n : ℕ) → Reached t′ n x → count (firstMeeting (named c) t′) ≡ count (run (searched t′) n) → Worth c t (verdictOf (x .walker) (x .spent)) (recordsIn x)
       settled-by x n g z =
@@ -297,7 +297,7 @@ module _ (op : Op) (s : Session) (lent : List ℕ) where
 
   change-accepted : (lent′ : List ℕ) (rows : Rows) (a : Records) (r : Settled) → trialIn op (s .size) (s .targets) (s .starts) (length lent) ≡ accepted
       → rows ≡ filedIn op (s .size) (rowsOf (s .targets) (s .starts))
-      → Settles (rows .targets) (rows .starts) (s .words) (s .start) (resumptionAt (s .number) (sourceOf op)) (oldOf s) (recordsHeld s) lent r a lent′
+      → Settles (rows .targets) (rows .starts) (s .words) (s .size) (s .start) (resumptionAt (s .number) (sourceOf op)) (oldOf s) (recordsHeld s) lent r a lent′
       → Changes op s lent (record { answer = r .answer; session = sessionOf (s .size) (s .start) (s .words) rows a (r .verdict) (plus (r .verdict .kept) (r .verdict .spent)) }) lent′
   change-accepted lent′ rows a r e new w = rw (w .answer-is) (record {
     answers = λ t h. ap answerLine (answer-accepted (changeOf op) (length lent) t (is t h))
@@ -332,5 +332,5 @@ module _ (op : Op) (s : Session) (lent : List ℕ) where
       by-trial (refused n) f =
           let q = w .on-refusal n f in
           let sum : total ≡ plus (s .total) 0 = e ∙ (λ i. plus (q .0 i .verdict .kept) (q .0 i .verdict .spent)) in
-          subst⁻¹ (λ (x : ℕ × (Settled × (Rows × (Records × List ℕ)))). Made (x .1) (x .2) (x .3) (x .0) (x .4)) (λ i. (sum i, q .0 i, q .1 i, q .2 i, q .3 i))
+          subst⁻¹ (λ (x : ℕ × Settled × Rows × Records × List ℕ). Made (x .1) (x .2) (x .3) (x .0) (x .4)) (λ i. (sum i, q .0 i, q .1 i, q .2 i, q .3 i))
           (subst⁻¹ (λ (x : Session). Changes op s lent (record { answer = refusing n; session = x }) lent) (same-session s small) (change-refused n f))

@@ -204,6 +204,9 @@ module _ (size : ℕ) where
 
 -- ---- the trial of a load
 
+pub not-refused : {n : ℕ} → Accepted ≡ Refused n → ⊥
+not-refused e = let z : _≡_ {A = ℕ} 0 1 = cc in omega arith
+
 pub not-accepted : {n : ℕ} → Refused n ≡ Accepted → ⊥
 not-accepted e = let z : _≡_ {A = ℕ} 0 1 = cc in omega arith
 

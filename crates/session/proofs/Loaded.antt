@@ -62,7 +62,7 @@ freshFrom start blank-walk = recordsOf (set (replicate 512 none) start 0) (repli
 
 module _ (l : Load) (lent lent′ : List ℕ) (rows : Rows) (a : Records) (r : Settled) (blank-walk : List ℕ)
     (yes-it-is : loadTrial l (length lent) ≡ accepted) (filed : Filed (l .numbers) (l .size) (rows .targets) (rows .starts)) (blank-size : length blank-walk ≡ 512)
-    (settles : Settles (rows .targets) (rows .starts) (l .words) (l .start) (At (l .start)) noVerdict (freshFrom (l .start) blank-walk) lent r a lent′) where
+    (settles : Settles (rows .targets) (rows .starts) (l .words) (l .size) (l .start) (At (l .start)) noVerdict (freshFrom (l .start) blank-walk) lent r a lent′) where
   abbrev t : Table
   t = tableOf l
 
@@ -85,7 +85,7 @@ module _ (l : Load) (lent lent′ : List ℕ) (rows : Rows) (a : Records) (r : S
   begun =
       let q = settles .sought in
       let fresh = freshFrom (l .start) blank-walk in
-      let g = reached t ok (rows .targets) (rows .starts) (l .words) (matches t rows (l .words) refiled refl) 0 (backAt (l .start) (l .start) fresh) (q .0)
+      let g = reached t ok (rows .targets) (rows .starts) (l .words) (matches t rows (l .words) refiled refl) 0 (backAt (l .size) (l .start) (l .start) fresh) (q .0)
       (rewound-spent (l .start) (l .start) 0 (fresh .number) (fresh .parent) (fresh .index) (fresh .probes) (fresh .stamp) (fresh .walk))
       (begin-fits (searched t) (small t ok) blank-walk blank-size) (q .1) in
       (q .0, g, q .2, q .3)

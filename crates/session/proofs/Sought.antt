@@ -1,7 +1,7 @@
 -- A search of the arrays, begun or resumed to its end: what it has come to is what the plain search on the table comes to. Assumes nothing.
 use mathlib.Core.Path.{_≡_, refl, sym, ap, subst, subst⁻¹, _∙_}
 use mathlib.Core.Logic.{_≢_}
-use mathlib.Core.Bool.{Bool}
+use mathlib.Core.Bool.{Bool, true, false}
 use mathlib.Core.List.{List}
 use Prim.Native.Nat.{ℕ, _+_, _≤_, _<_}
 use native.Mathlib.Omega.{arith}
@@ -16,8 +16,6 @@ use Rattle.plain.specs.Table.{Table, searched, final, accepts}
 use Rattle.plain.specs.Notes.{notes}
 use Rattle.plain.proofs.Tables.{Valid}
 use Rattle.plain.proofs.Demands.{ended-within, run-final, verdict-right}
-use Rattle.search.specs.declared.Phase.{Phase}
-use Rattle.search.specs.declared.Phase.the-variants.{Outer, Nested, Exhausted, Found}
 use Rattle.search.specs.declared.Walker.{Walker}
 use Rattle.search.specs.Core.{Core, none as noNumber, runFor, Ran, rewound, plus, Result, resultOf, result, Kept}
 use Rattle.search.proofs.Represents.{Matches, plus-more}
@@ -25,7 +23,7 @@ use Rattle.search.proofs.Ways.{run-sized, rewound-sized}
 use Rattle.search.proofs.OneStep.{Fits}
 use Rattle.search.proofs.Resumed.{limits, at-run, Archived, archived}
 use Rattle.search.proofs.Ended.{Spoken, spoken, run-kept}
-use Rattle.session.specs.Model.{Records, recordsOf, whenFound, verdictOf, bound, pickResumption, resumptionAt, backAt, Sought}
+use Rattle.session.specs.Model.{Records, recordsOf, isFound, pickVerdict, verdictOf, bound, pickResumption, resumptionAt, backAt, Sought}
 use Rattle.session.specs.Promises.{Tells}
 use Rattle.session.proofs.Held.{small, budget-bound, Refiled}
 
@@ -43,15 +41,11 @@ spoken-tells g c unfinished s p = absurd s
 -- the verdict of a search that is over tells its looks
 pub verdict-kept : (w : Walker) (spent : ℕ) → (verdictOf w spent .kept ≡ w .kept) × (verdictOf w spent .spent ≡ spent)
 unfolding verdictOf
-verdict-kept w spent = by-phase (w .phase)
+verdict-kept w spent = by-test (isFound (w .phase)) (record { stem = w .height; length = w .top; spent = spent; kept = w .kept }) (record { stem = 0; length = 0; spent = spent; kept = w .kept }) (refl, refl) (refl, refl)
   where
-    by-phase : (f : Phase) → let a = record { stem = w .height; length = w .top; spent = spent; kept = w .kept } in
-        let b = record { stem = 0; length = 0; spent = spent; kept = w .kept } in
-        (whenFound f a b .kept ≡ w .kept) × (whenFound f a b .spent ≡ spent)
-    by-phase Outer = (refl, refl)
-    by-phase Nested = (refl, refl)
-    by-phase Exhausted = (refl, refl)
-    by-phase Found = (refl, refl)
+    by-test : (f : Bool) (a b : Verdict) → (a .kept ≡ w .kept) × (a .spent ≡ spent) → (b .kept ≡ w .kept) × (b .spent ≡ spent) → (pickVerdict f a b .kept ≡ w .kept) × (pickVerdict f a b .spent ≡ spent)
+    by-test true a b x y = x
+    by-test false a b x y = y
 
 -- what a search that stood at a step and took `bound` steps more, or still more, has come to
 pub record Reached (t : Table) (start-at : ℕ) (c : Core) : Type 0 where
@@ -106,26 +100,26 @@ past-end number s h e = let z : getD number s 0 ≡ 0 = List·getD-eq-default nu
 
 -- ---- what `seek` leaves
 
-pub sought-at : (targets starts words : List ℕ) (start s : ℕ) (from : Resumption) (old : Verdict) (a : Records) (w : Walker) (spent : ℕ) (number parent index probes stamp walk : List ℕ) (v : Verdict)
+pub sought-at : (targets starts words : List ℕ) (size start s : ℕ) (from : Resumption) (old : Verdict) (a : Records) (w : Walker) (spent : ℕ) (number parent index probes stamp walk : List ℕ) (v : Verdict)
     → from ≡ At s → v ≡ verdictOf w spent
-    → (c : Core) × Ran targets starts words bound (backAt start s a) c × (resultOf w spent number parent index probes stamp walk ≡ result c)
-    → Sought targets starts words start from old a v (recordsOf number parent index probes stamp walk)
-sought-at targets starts words start s from old a w spent number parent index probes stamp walk v f e (c, r, q) =
-    subst⁻¹ (λ (x : Resumption). Sought targets starts words start x old a v (recordsOf number parent index probes stamp walk)) f (
+    → (c : Core) × Ran targets starts words bound (backAt size start s a) c × (resultOf w spent number parent index probes stamp walk ≡ result c)
+    → Sought targets starts words size start from old a v (recordsOf number parent index probes stamp walk)
+sought-at targets starts words size start s from old a w spent number parent index probes stamp walk v f e (c, r, q) =
+    subst⁻¹ (λ (x : Resumption). Sought targets starts words size start x old a v (recordsOf number parent index probes stamp walk)) f (
       c,
       r,
       e ∙ (λ i. verdictOf (q i .walker) (q i .spent)),
       ap {B = Records} (λ (x : Result). recordsOf (x .number) (x .parent) (x .index) (x .probes) (x .stamp) (x .walk)) q,
     )
 
-pub sought-nowhere : (targets starts words : List ℕ) (start : ℕ) (from : Resumption) (old : Verdict) (a : Records) → from ≡ Nowhere → Sought targets starts words start from old a old a
-sought-nowhere targets starts words start from old a f = subst⁻¹ (λ (x : Resumption). Sought targets starts words start x old a old a) f (refl, refl)
+pub sought-nowhere : (targets starts words : List ℕ) (size start : ℕ) (from : Resumption) (old : Verdict) (a : Records) → from ≡ Nowhere → Sought targets starts words size start from old a old a
+sought-nowhere targets starts words size start from old a f = subst⁻¹ (λ (x : Resumption). Sought targets starts words size start x old a old a) f (refl, refl)
 
 -- the walk's array keeps its size
-pub walk-sized : (targets starts words : List ℕ) (start s : ℕ) (a : Records) (w : Walker) (spent : ℕ) (number parent index probes stamp walk : List ℕ)
+pub walk-sized : (targets starts words : List ℕ) (size start s : ℕ) (a : Records) (w : Walker) (spent : ℕ) (number parent index probes stamp walk : List ℕ)
     → Kept (a .number) (a .parent) (a .index) (a .probes) (a .stamp) (a .walk)
-    → (c : Core) × Ran targets starts words bound (backAt start s a) c × (resultOf w spent number parent index probes stamp walk ≡ result c)
+    → (c : Core) × Ran targets starts words bound (backAt size start s a) c × (resultOf w spent number parent index probes stamp walk ≡ result c)
     → length walk ≡ 512
-walk-sized targets starts words start s a w spent number parent index probes stamp walk k (c, r, q) =
+walk-sized targets starts words size start s a w spent number parent index probes stamp walk k (c, r, q) =
     ap (λ (x : Result). length (x .walk)) q ∙ ap (λ (x : Core). length (x .walk)) (r .reached)
-    ∙ run-sized targets starts words (r .steps) (backAt start s a) (rewound-sized start s 0 (a .number) (a .parent) (a .index) (a .probes) (a .stamp) (a .walk) k) .walk-size
+    ∙ run-sized targets starts words (r .steps) (backAt size start s a) (rewound-sized start s 0 (a .number) (a .parent) (a .index) (a .probes) (a .stamp) (a .walk) k) .walk-size

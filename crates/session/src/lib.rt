@@ -8,7 +8,7 @@ ghost use Rattle.plain.specs.Lists.{any};
 ghost use Rattle.plain.specs.Refusals.{badMarks, outside, selfLoop, pairs};
 ghost use Rattle.rows.specs.Change.{rowsOf};
 ghost use Rattle.search.specs.Core.{Tabled, Kept, plus};
-ghost use Rattle.session.specs.Model.{tried, earlyTrial, there, addTrialIn, cutTrialIn, trialIn, sourceOf, filedIn, Attempted, FiledAll, Tried, resumptionAt, verdictOf, noVerdict, recordsOf, Sought, answerIs, refusing, noGame, shownWalk, Settles, ChangedIn};
+ghost use Rattle.session.specs.Model.{tried, earlyTrial, there, addTrialIn, cutTrialIn, trialIn, sourceOf, filedIn, Attempted, FiledAll, Tried, resumptionAt, isFound, verdictOf, noVerdict, recordsOf, Sought, answerIs, refusing, noGame, shownWalk, Settles, ChangedIn};
 ghost use Rattle.session.specs.Promises.{Loads, Changes};
 
 // A refusal: its number in document 01's list.
@@ -369,13 +369,24 @@ fn where_to_resume(number: &[u16; 512], s: u16) -> Resumption
     requires { ⌜ length (now number) ≡ 512 ⌝ }
     ensures { λ r. ⌜ r ≡ resumptionAt (now (number .entry)) s ⌝ }
 {
-    let i = wide(s);
-    if i < wide(STATES) {
-        if number[i] == NO_NUMBER {
+    if s < STATES {
+        if number[wide(s)] == NO_NUMBER {
             return Resumption::Nowhere;
         }
     }
     Resumption::At(s)
+}
+
+// Has the search found a cycle?
+fn is_found(phase: search::Phase) -> bool
+    ensures { λ r. ⌜ r ≡ isFound phase ⌝ }
+{
+    match phase {
+        search::Phase::Outer => false,
+        search::Phase::Nested => false,
+        search::Phase::Exhausted => false,
+        search::Phase::Found => true,
+    }
 }
 
 // What a search has come to that is over, with so many probes spent.
@@ -383,7 +394,7 @@ fn verdict_of(w: search::Walker, spent: u16) -> Verdict
     ensures { λ r. ⌜ r ≡ verdictOf w spent ⌝ }
 {
     let phase = w.phase;
-    if let search::Phase::Found = phase {
+    if is_found(phase) {
         return Verdict {
             stem: w.height,
             length: w.top,

@@ -1,33 +1,39 @@
+-- `attempt` meets its contract. Assumes nothing.
+use mathlib.Core.Path.{sym, refl, _∙_}
+use Rattle.session.proofs.Filing.{not-accepted, not-refused}
 use borrow.Author.Needs.{needs}
 use Rattle.session.proofs.attempt.Statement.{statement}
 use Rattle.session.proofs.attempt.Tie as tie
-use Rattle.session.proofs.attempt.Reads as reads
-use Rattle.session.proofs.attempt.Lts as lts
-use Rattle.session.proofs.change_trial.Reads as change-trial-reads
-use Rattle.session.proofs.file_one.Reads as file-one-reads
 
--- src/lib.rt:349:9
 change-trial-requires : tie.Need-change-trial-requires
 change-trial-requires c κs = search needs
 
--- src/lib.rt:350:27
 enum-known-trial : tie.Need-enum-known-trial
 enum-known-trial c = search needs
 
--- src/lib.rt:351:9
 returns : tie.Need-returns
-returns c = ?
+returns c =
+    let k = c .before in
+    record {
+      trial-is = sym (k .trial .given .1) ∙ k .before .before .change-trial .ensures;
+      filed = λ e. absurd (not-accepted e);
+      unfiled = λ n e. refl;
+    }
 
 enum-told : tie.Need-enum-told
 enum-told c = search needs
 
--- src/lib.rt:353:5
 file-one-requires : tie.Need-file-one-requires
 file-one-requires c κs = search needs
 
--- src/lib.rt:339:1
 returns-2 : tie.Need-returns-2
-returns-2 c = ?
+returns-2 c =
+    let e = c .before .before .before in
+    record {
+      trial-is = sym (e .enum-told .given .1) ∙ e .before .before .change-trial .ensures;
+      filed = λ z. c .file-one .ensures;
+      unfiled = λ n z. absurd (not-refused z);
+    }
 
 pub attempt-spec : {M : Type 1} → statement M
 attempt-spec =

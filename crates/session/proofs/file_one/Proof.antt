@@ -32,7 +32,7 @@ returns-2 c =
     let p = c .before .before .before in
     let t = p .before .before .before in
     let a = t .before .before .before .args in
-    rw (t .before .op2 .given .1) (c .remove .ensures ∙ ap (λ (k : ℕ). removed (a .size) _ k (rowsOf (now (a .targets)) (now (a .starts)))) (p .place .ensures))
+    rw (t .before .op2 .given .1) (c .remove .ensures ∙ ap (λ (k : ℕ). removed (a .size) (t .before .op2 .given .0 .0) k (rowsOf (now (a .targets)) (now (a .starts)))) (p .place .ensures))
 
 pub file-one-spec : {M : Type 1} → statement M
 file-one-spec =

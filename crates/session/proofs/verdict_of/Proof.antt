@@ -1,20 +1,20 @@
+-- `verdict_of` meets its contract. Assumes nothing.
+use mathlib.Core.Path.{sym, _∙_}
 use borrow.Author.Needs.{needs}
+use Rattle.session.specs.Model.{verdictOf}
 use Rattle.session.proofs.verdict_of.Statement.{statement}
 use Rattle.session.proofs.verdict_of.Tie as tie
-use Rattle.session.proofs.verdict_of.Reads as reads
-use Rattle.session.proofs.verdict_of.Lts as lts
 
--- src/lib.rt:387:9
-enum-told : tie.Need-enum-told
-enum-told c = search needs
+is-found-requires : tie.Need-is-found-requires
+is-found-requires c κs = search needs
 
--- src/lib.rt:387:9
 returns : tie.Need-returns
-returns c = ?
+unfolding verdictOf
+returns c = rw (sym (c .before .is-found .ensures) ∙ c .if1 .taken)
 
--- src/lib.rt:382:1
 returns-2 : tie.Need-returns-2
-returns-2 c = ?
+unfolding verdictOf
+returns-2 c = rw (sym (c .before .is-found .ensures) ∙ c .if1 .left)
 
 pub verdict-of-spec : {M : Type 1} → statement M
-verdict-of-spec = tie.close (tie.spec enum-told returns returns-2)
+verdict-of-spec = tie.close (tie.spec is-found-requires returns returns-2)
