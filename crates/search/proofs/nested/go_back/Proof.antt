@@ -6,16 +6,16 @@ use Rattle.search.proofs.nested.go_back.Statement.{statement}
 use Rattle.search.proofs.nested.go_back.Tie as tie
 
 put-requires : tie.Need-put-requires
-put-requires c κs = c .before .before .pre .2
+put-requires c κs = c .before .before .before .pre .2
 
 leave-requires : tie.Need-leave-requires
-leave-requires c κs = (c .before .before .before .pre .0, c .before .before .before .pre .1)
+leave-requires c κs = (c .before .before .before .before .pre .0, c .before .before .before .before .pre .1)
 
 returns : tie.Need-returns
 returns c = λ spent number probes depth.
     let p = c .before in
     let i = p .before .before in
-    let a = i .before .args in
+    let a = i .before .before .args in
     let s : Core = coreOf (a .w) spent number (now (a .parent)) (now (a .index)) probes (now (a .stamp)) (now (a .walk)) depth (now (a .cursor)) in
     back-out s (i .if1 .taken) (p .put .ensures) (c .leave .ensures)
 
@@ -41,7 +41,7 @@ returns-2 c = λ spent number probes depth.
     let e = g .before in
     let d = e .before in
     let i = d .before in
-    let a = i .before .args in
+    let a = i .before .before .args in
     let s : Core = coreOf (a .w) spent number (now (a .parent)) (now (a .index)) probes (now (a .stamp)) (now (a .walk)) depth (now (a .cursor)) in
     back-down s (i .if1 .left) (d .down .ensures) (e .down2 .ensures) (g .get .ensures) (n .get2 .ensures) (c .further .ensures)
 
