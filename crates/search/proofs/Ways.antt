@@ -494,10 +494,6 @@ module _ (size start s spent : ℕ) (number parent index probes stamp walk : Lis
       sized _ (forget-length _ number size ∙ z .number-size) (z .parent-size) (z .index-size) (z .probes-size) (forget-length _ stamp size ∙ z .stamp-size)
       (walk-size parent _ s walk ∙ z .walk-size) (depth-size parent _ s (replicate 512 0) ∙ length-replicate {A = ℕ} 512 0) (length-replicate {A = ℕ} 512 0)
 
-  pub rewound-deep : Deep (rewound size start s spent number parent index probes stamp walk .walker)
-  unfolding rewound
-  rewound-deep = outer-deep _ refl
-
   pub rewound-by : {limit height met kept : ℕ} {number′ stamp′ walk′ depth : List ℕ} → limit ≡ getD number s 0 → number′ ≡ forgetAbove limit size number
       → stamp′ ≡ forgetAbove limit size stamp → height ≡ climb parent start 512 s → walk′ ≡ retraceWalk parent height s walk
       → depth ≡ retraceDepth parent height s (replicate 512 0) → met ≡ up limit → kept ≡ getD probes s 0
