@@ -15,14 +15,14 @@ use Rattle.plain.specs.Cycles.{FreeRound, Lasso}
 use Rattle.plain.specs.Table.{Table, one, row, graphOf, searched, budget, final, firstMeeting}
 use Rattle.plain.specs.Refusals.{badStart, outside, accepted}
 use Rattle.plain.specs.Machine.{Change, named, apply, kept, Call, trialOf}
-use Rattle.plain.specs.Notes.{Notes, notes}
+use Rattle.plain.specs.Notes.{Notes, notes, Faithful}
 use Rattle.plain.specs.Claims.{Arises, changed, times, VerdictRight, clear, round, reportOf, ReportRight, KeptRight}
 use Rattle.plain.proofs.Tests.{either, not-in, in-nil, in-head, in-tail, in-cases, or-first, or-false, one-le, none-cons, any-in}
 use Rattle.plain.proofs.Runs.{lasso-free, lasso-inside}
 use Rattle.plain.proofs.Lassos.{sound, none-right}
 use Rattle.plain.proofs.Bounds.{left, left-add, left-const, left-alone, once-short, times-reverse, probes-twice, each-twice, ended-by}
 use Rattle.plain.proofs.Prefix.{FirstMeeting, first-meeting}
-use Rattle.plain.proofs.Resume.{one-end, one-until, met-at-end, until-end, until-at, probes-grow, Holds, holds-notes, unchanged, resumed}
+use Rattle.plain.proofs.Resume.{one-end, one-until, met-at-end, until-end, until-at, probes-grow, holds-notes, unchanged, resumed}
 use Rattle.plain.proofs.Edges.{Has, has-cases, has-nil}
 use Rattle.plain.proofs.Rows.{row-nil, row-length, row-has, row-once, agree}
 use Rattle.plain.proofs.Tables.{Valid, valid}
@@ -228,12 +228,12 @@ module _ (c : Change) (t : Table) (v : Valid t) (v′ : Valid (apply c t)) (n : 
   -- No named state is met: the search on the changed table is the one before, to its end, and the notes stay right; every look is kept.
   pub record Unmet (r : Notes) : Type 0 where
     pub still-ended : verdict (run h n) ≢ unfinished
-    pub holds : Holds h r n
+    pub holds : Faithful h r n
     pub same-final : final (apply c t) ≡ final t
     pub same-run : run h n ≡ run g n
     pub all-kept : firstMeeting (named c) (apply c t) ≡ final t
 
-  pub change-unmet : (r : Notes) → meets (named c) (run g n) ≡ false → Holds g r n → Unmet r
+  pub change-unmet : (r : Notes) → meets (named c) (run g n) ≡ false → Faithful g r n → Unmet r
   unfolding final firstMeeting
   change-unmet r f w =
       let u = unchanged (named c) g h (agree c t) r n f w in
@@ -251,10 +251,10 @@ module _ (c : Change) (t : Table) (v : Valid t) (v′ : Valid (apply c t)) (n : 
   -- A named state is met: the search on the changed table, at its first meeting, stands where the one before stood at its own, and the notes are right there.
   pub record Met (r : Notes) : Type 0 where
     pub meeting : FirstMeeting (named c) g h (agree c t) n
-    pub holds : Holds h r (meeting .at)
+    pub holds : Faithful h r (meeting .at)
     pub kept-here : firstMeeting (named c) (apply c t) ≡ run h (meeting .at)
 
-  pub change-met : (r : Notes) → meets (named c) (run g n) ≡ true → Holds g r n → Met r
+  pub change-met : (r : Notes) → meets (named c) (run g n) ≡ true → Faithful g r n → Met r
   unfolding final firstMeeting
   change-met r m held =
       let f = first-meeting (named c) g h (agree c t) n m in

@@ -4,19 +4,19 @@ use mathlib.Core.Logic.{_≢_}
 use mathlib.Core.Bool.{Bool, true, false}
 use mathlib.Core.List.{List}
 use Prim.Native.Nat.{ℕ, zero, suc}
-use lib.Dec.{eqb, ltb}
+use lib.Dec.{eqb, ltb, leb}
 use lib.ListN.{getD}
-use Rattle.plain.specs.Table.{accepts}
-use Rattle.plain.specs.Search.{Graph, Config, outer, nested, exhausted, found, Verdict, none, lasso, unfinished, verdict}
+use Rattle.plain.specs.Search.{Graph, Frame, Config, outer, nested, exhausted, found, Verdict, none, lasso, unfinished, verdict}
 use Rattle.search.specs.declared.Phase.{Phase}
 use Rattle.search.specs.declared.Phase.the-variants.{Outer, Nested, Exhausted, Found}
-use Rattle.search.specs.Core.{Core, none as none′, choose, withWalker, probed, skipped, exhausted as over′, closed, returned, onOpenPath, targetOf, hasEdge, outerProbe, finish, outerStep, nestedProbe, nestedStep, byPhase, step, runFor, rewound, discover, leave, nest, deepen}
+use Rattle.search.specs.Core.{noNumber, choose, Game, Core, withWalker, probed, skipped, finished, emptied, returned, exhausted as over′, closed, discover, deepen, leaveRoot, onOpenPath, byPhase, targetOf, hasEdge, outerProbe, finish, outerStep, nestedProbe, nestedStep, step, runFor, rewound, acceptsAt}
+use Rattle.search.specs.declared.Walker.{Walker}
 use Rattle.search.proofs.Represents.{AtFound, Stands}
 
--- no cycle, or the walk of one
+-- no cycle; or the walk of one, and the open path at the stop
 abbrev pub Spoken : Graph → Core → Verdict → Type 0
-Spoken g s none = s .walker .phase ≡ Exhausted
-Spoken g s (lasso stem cycle) = AtFound g s stem cycle
+Spoken g s none = (s .walker .phase ≡ Exhausted) × (s .walker .height ≡ 0)
+Spoken g s (lasso stem cycle) = (p : List Frame) × AtFound g s p stem cycle
 Spoken g s unfinished = ⊥
 
 pub spoken : (g : Graph) (s : Core) (c : Config) → Stands g s c → verdict c ≢ unfinished → Spoken g s (verdict c)
@@ -24,7 +24,7 @@ unfolding verdict
 spoken g s (outer p d k l) a n = absurd (n refl)
 spoken g s (nested b p q d k l) a n = absurd (n refl)
 spoken g s (exhausted d k l) a n = a
-spoken g s (found h p q d k l) a n = a
+spoken g s (found h p q d k l) a n = (p, a)
 
 -- ---- what was kept stays as it was
 
@@ -38,45 +38,57 @@ phase-kept Nested x y z k e f g = f
 phase-kept Exhausted x y z k e f g = g
 phase-kept Found x y z k e f g = g
 
-module _ (targets starts words : List ℕ) where
-  outer-probe-kept : (s : Core) → outerProbe targets starts words s .walker .kept ≡ s .walker .kept
+finished-kept : (b : Bool) (parent index : List ℕ) (w : Walker) → finished b parent index w .kept ≡ w .kept
+unfolding finished
+finished-kept true parent index w = refl
+finished-kept false parent index w = refl
+
+back-kept : (b : Bool) (w x y : Walker) → x .kept ≡ w .kept → y .kept ≡ w .kept → choose b x y .kept ≡ w .kept
+back-kept true w x y e f = e
+back-kept false w x y e f = f
+
+module _ (g : Game) where
+  outer-probe-kept : (s : Core) → outerProbe g s .walker .kept ≡ s .walker .kept
   unfolding outerProbe discover
   outer-probe-kept s =
-      choose-kept (eqb (getD (s .number) (targetOf targets starts words s) 0) none′) (discover (probed s) (targetOf targets starts words s)) (withWalker (probed s) (skipped (s .walker))) (s .walker .kept) refl refl
+      choose-kept (eqb (getD (s .number) (targetOf g s) 0) noNumber) (discover (probed s) (targetOf g s)) (withWalker (probed s) (skipped (s .walker))) (s .walker .kept) refl refl
 
-  finish-kept : (s : Core) → finish words s .walker .kept ≡ s .walker .kept
-  unfolding finish nest leave
-  finish-kept s = choose-kept (accepts words (s .walker .cur)) (nest s) (leave s) (s .walker .kept) refl refl
+  finish-kept : (s : Core) → finish g s .walker .kept ≡ s .walker .kept
+  unfolding finish
+  finish-kept s = finished-kept (acceptsAt g (s .walker .cur)) (s .parent) (s .index) (s .walker)
 
-  outer-kept : (s : Core) → outerStep targets starts words s .walker .kept ≡ s .walker .kept
+  outer-kept : (s : Core) → outerStep g s .walker .kept ≡ s .walker .kept
   unfolding outerStep
   outer-kept s =
-      choose-kept (eqb (s .walker .height) 0) (withWalker s (over′ (s .walker))) (choose (hasEdge targets starts words s) (outerProbe targets starts words s) (finish words s)) (s .walker .kept) refl
-      (choose-kept (hasEdge targets starts words s) (outerProbe targets starts words s) (finish words s) (s .walker .kept) (outer-probe-kept s) (finish-kept s))
+      choose-kept (eqb (s .walker .height) 0) (withWalker s (over′ (s .walker))) (choose (hasEdge g s) (outerProbe g s) (finish g s)) (s .walker .kept) refl
+      (choose-kept (hasEdge g s) (outerProbe g s) (finish g s) (s .walker .kept) (outer-probe-kept s) (finish-kept s))
 
-  nested-probe-kept : (s : Core) → nestedProbe targets starts words s .walker .kept ≡ s .walker .kept
+  nested-probe-kept : (s : Core) → nestedProbe g s .walker .kept ≡ s .walker .kept
   unfolding nestedProbe deepen
   nested-probe-kept s =
-      let t = targetOf targets starts words s in
-      choose-kept (onOpenPath (s .walk) (s .depth) (s .walker .height) t) (withWalker (probed s) (closed (s .walker) (getD (s .depth) t 0)))
-      (choose (eqb (getD (s .stamp) t 0) none′) (deepen (probed s) t) (withWalker (probed s) (skipped (s .walker)))) (s .walker .kept) refl
-      (choose-kept (eqb (getD (s .stamp) t 0) none′) (deepen (probed s) t) (withWalker (probed s) (skipped (s .walker))) (s .walker .kept) refl refl)
+      let t = targetOf g s in
+      let closes = withWalker (probed s) (closed (s .walker) (getD (s .depth) t 0)) in
+      choose-kept (eqb (getD (s .stamp) t 0) noNumber) (choose (onOpenPath (s .walk) (s .depth) (s .walker .height) t) closes (deepen (probed s) t))
+      (withWalker (probed s) (skipped (s .walker))) (s .walker .kept)
+      (choose-kept (onOpenPath (s .walk) (s .depth) (s .walker .height) t) closes (deepen (probed s) t) (s .walker .kept) refl refl) refl
 
-  nested-kept : (s : Core) → nestedStep targets starts words s .walker .kept ≡ s .walker .kept
-  unfolding nestedStep leave
+  nested-kept : (s : Core) → nestedStep g s .walker .kept ≡ s .walker .kept
+  unfolding nestedStep leaveRoot
   nested-kept s =
-      choose-kept (ltb (s .walker .top) (s .walker .height)) (leave s) (choose (hasEdge targets starts words s) (nestedProbe targets starts words s) (withWalker s (returned (s .walk) (s .cursor) (s .walker)))) (s .walker .kept) refl
-      (choose-kept (hasEdge targets starts words s) (nestedProbe targets starts words s) (withWalker s (returned (s .walk) (s .cursor) (s .walker))) (s .walker .kept) (nested-probe-kept s) refl)
+      let back = choose (leb (s .walker .top) (s .walker .height)) (emptied (s .walker)) (returned (s .walk) (s .cursor) (s .walker)) in
+      choose-kept (ltb (s .walker .top) (s .walker .height)) (leaveRoot s) (choose (hasEdge g s) (nestedProbe g s) (withWalker s back)) (s .walker .kept) refl
+      (choose-kept (hasEdge g s) (nestedProbe g s) (withWalker s back) (s .walker .kept) (nested-probe-kept s)
+      (back-kept (leb (s .walker .top) (s .walker .height)) (s .walker) (emptied (s .walker)) (returned (s .walk) (s .cursor) (s .walker)) refl refl))
 
-  step-kept : (s : Core) → step targets starts words s .walker .kept ≡ s .walker .kept
+  step-kept : (s : Core) → step g s .walker .kept ≡ s .walker .kept
   unfolding step
-  step-kept s = phase-kept (s .walker .phase) (outerStep targets starts words s) (nestedStep targets starts words s) s (s .walker .kept) (outer-kept s) (nested-kept s) refl
+  step-kept s = phase-kept (s .walker .phase) (outerStep g s) (nestedStep g s) s (s .walker .kept) (outer-kept s) (nested-kept s) refl
 
-  pub run-kept : (n : ℕ) (s : Core) → runFor targets starts words n s .walker .kept ≡ s .walker .kept
+  pub run-kept : (n : ℕ) (s : Core) → runFor g n s .walker .kept ≡ s .walker .kept
   unfolding runFor
   run-kept zero s = refl
-  run-kept (suc n) s = run-kept n (step targets starts words s) ∙ step-kept s
+  run-kept (suc n) s = run-kept n (step g s) ∙ step-kept s
 
-pub rewound-spent : (start s spent : ℕ) (number parent index probes stamp walk : List ℕ) → rewound start s spent number parent index probes stamp walk .spent ≡ spent
+pub rewound-spent : (size start s spent : ℕ) (number parent index probes stamp walk : List ℕ) → rewound size start s spent number parent index probes stamp walk .spent ≡ spent
 unfolding rewound
-rewound-spent start s spent number parent index probes stamp walk = refl
+rewound-spent size start s spent number parent index probes stamp walk = refl

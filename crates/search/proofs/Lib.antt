@@ -1,8 +1,9 @@
-pub mod Represents
+pub mod Counting
 pub mod Ways
 pub mod Scans
+pub mod Represents
 pub mod Places
 pub mod OneStep
-pub mod Rewind
+pub mod Rewound
 pub mod Resumed
 pub mod Ended

@@ -5,26 +5,45 @@ use mathlib.Core.Bool.{Bool, true, false}
 use mathlib.Core.List.{List, [], _∷_, _++_, append-assoc}
 use Prim.Native.Nat.{ℕ, suc, _+_, _-_, _≤_, _<_}
 use native.Mathlib.Omega.{arith}
-use lib.Dec.{eqb, ltb}
+use lib.Dec.{eqb, ltb, leb}
 use lib.ListN.{length, getD, set, drop, length-append, length-set, length-drop}
 use lib.Seq.{getD-set-same, getD-set-other}
-use borrow.Author.Tests.{lt-ltb, le-ltb, eq-eqb, ne-eqb}
+use borrow.Author.Tests.{lt-ltb, le-ltb, le-leb, lt-leb, eq-eqb, ne-eqb, eqb-true, eqb-false}
 use Rattle.plain.specs.Lists.{elem, In, before, from}
 use Rattle.plain.specs.Search.{Graph, Edge, Frame, frame, onPath, Config, outer, nested, exhausted as ended, found, discoveredOf, markedOf, count, visit, finish as finishes, probe, step as stepOf, statesOf, stemOf, cycleOf}
 use Rattle.plain.specs.Notes.{Note, Notes, put, noteVisit, noteMark, noteProbe, noteOf, noted, Below}
-use Rattle.plain.proofs.Tests.{contra, not-true, in-head, in-tail, in-cases, in-out}
-use Rattle.plain.proofs.Paths.{On, Off, Distinct, on-head}
+use Rattle.plain.proofs.Tests.{contra, either, not-true, in-nil, out-nil, in-head, in-tail, in-cases, in-one, in-out}
+use Rattle.plain.proofs.Paths.{On, Off, Distinct, on-head, on-cases}
 use Rattle.plain.proofs.Invariant.{Linked, Outer as OuterInv, Marks, Nested as NestedInv, Inv, next-known}
 use Rattle.plain.proofs.Lassos.{path-run, before-from}
 use Rattle.plain.proofs.Restore.{put-same, put-hit, put-other, ShapeOf, Counted}
-use Rattle.rows.specs.Rows.{degreeAt}
-use Rattle.rows.proofs.Entries.{row-length}
 use Rattle.search.specs.declared.Phase.the-variants.{Outer, Nested, Exhausted, Found}
 use Rattle.search.specs.declared.Walker.{Walker}
-use Rattle.search.specs.Core.{Core, Sized, none, up, plus, choose, coreOf, skipped, left, nesting, returned, exhausted, closed, withWalker, probed, discover, leave, nest, deepen, onOpenPath, targetOf, hasEdge, outerProbe, finish, outerStep, nestedProbe, nestedStep, step}
-use Rattle.search.proofs.Represents.{view, Records, Begins, Placed, AtOuter, AtNested, AtReturn, Stands, Matches, Limits, up-more, plus-more, no-edge, edge-left, drop-up}
+use Rattle.search.specs.Core.{noNumber, choose, Game, rowOf, acceptsAt, Core, Sized, coreOf, up, plus, further, skipped, left, nesting, finished, returned, emptied, exhausted, closed, withWalker, probed, discover, leaveRoot, deepen, onOpenPath, targetOf, hasEdge, outerProbe, finish, outerStep, nestedProbe, nestedStep, step}
+use Rattle.search.specs.Archive.{Begins, rootOf, stampIn}
+use Rattle.search.proofs.Counting.{up-more, plus-more, further-more, no-edge, edge-left, drop-further}
+use Rattle.search.proofs.Represents.{noteIn, Records, Placed, AtOuter, AtNested, AtReturn, Stands, Matches, Limits}
 use Rattle.search.proofs.Ways.{step-at}
 use Rattle.search.proofs.Places.{begins-push, begins-pop, begins-at, states-length, placed-set, on-test, stem-length, cursors-set}
+
+-- ---- stamps
+
+-- of any state but the first of a nested search, the array has the stamp
+pub stamp-there : (c : Config) (stamp : List ℕ) (x : ℕ) → elem x (rootOf c) ≡ false → stampIn c stamp x ≡ getD stamp x 0
+stamp-there c stamp x o = rw o
+
+pub stamp-root : (c : Config) (stamp : List ℕ) (x : ℕ) → In x (rootOf c) → stampIn c stamp x ≡ length (discoveredOf c)
+stamp-root c stamp x i = rw i
+
+-- while no nested search runs, of every state
+pub stamp-all : (c : Config) (stamp : List ℕ) (x : ℕ) → rootOf c ≡ [] → stampIn c stamp x ≡ getD stamp x 0
+stamp-all c stamp x e = stamp-there c stamp x (ap (elem x) e ∙ out-nil x)
+
+stamp-same : (c c′ : Config) (stamp : List ℕ) (x : ℕ) → discoveredOf c′ ≡ discoveredOf c → rootOf c′ ≡ rootOf c → stampIn c′ stamp x ≡ stampIn c stamp x
+stamp-same c c′ stamp x e ρ = λ i. choose (elem x (ρ i)) (length (e i)) (getD stamp x 0)
+
+not-one : (x b : ℕ) → (x ≡ b → ⊥) → elem x (b ∷ []) ≡ false
+not-one x b n = not-true (elem x (b ∷ [])) (λ i. n (in-one x b i))
 
 -- ---- the records
 
@@ -41,26 +60,49 @@ records-sized s w spent z = record {
 }
 
 -- a step that discovers and marks nothing: the walker and the count change
-records-idle : (s : Core) (r : Notes) (c c′ : Config) (w : Walker) (spent : ℕ) → discoveredOf c′ ≡ discoveredOf c → markedOf c′ ≡ markedOf c
+records-idle : (s : Core) (r : Notes) (c c′ : Config) (w : Walker) (spent : ℕ) → discoveredOf c′ ≡ discoveredOf c → markedOf c′ ≡ markedOf c → rootOf c′ ≡ rootOf c
     → w .met ≡ s .walker .met → w .kept + spent ≡ count c′ → Records s r c
     → Records (coreOf w spent (s .number) (s .parent) (s .index) (s .probes) (s .stamp) (s .walk) (s .depth) (s .cursor)) r c′
-records-idle s r c c′ w spent e f m n h = record {
+records-idle s r c c′ w spent e f ρ m n h = record {
   sized = records-sized s w spent (h .sized);
   notes-right = λ x i. h .notes-right x (rw e at i);
-  stamps-right = λ x i. h .stamps-right x (rw f at i);
+  stamps-right = λ x i. stamp-same c c′ (s .stamp) x e ρ ∙ h .stamps-right x (rw f at i);
   undiscovered = λ x b o. h .undiscovered x b (rw e at o);
   unmarked = λ x b o. h .unmarked x b (rw f at o);
+  root-unmarked = λ x i. h .root-unmarked x (rw ρ at i);
   met-right = m ∙ h .met-right ∙ ap length (sym e);
   probes-right = n;
 }
 
--- a step that marks t
+-- a nested search starts from b, which is marked, and not yet in the array
+records-nest : (s : Core) (r : Notes) (c c′ : Config) (w : Walker) (b : ℕ) → discoveredOf c′ ≡ discoveredOf c → markedOf c′ ≡ b ∷ markedOf c → rootOf c ≡ []
+    → rootOf c′ ≡ b ∷ [] → elem b (markedOf c) ≡ false → b < 512 → w .met ≡ s .walker .met → w .kept + s .spent ≡ count c′ → Records s r c
+    → Records (withWalker s w) (record { of = r .of; stamp = put b (length (discoveredOf c)) (r .stamp) }) c′
+records-nest s r c c′ w b e f ρ ρ′ u l m n h = record {
+  sized = records-sized s w (s .spent) (h .sized);
+  notes-right = λ x i. h .notes-right x (rw e at i);
+  stamps-right = λ x i. ⊎-elim
+      (λ z. let i : In x (b ∷ []) = rw z (in-head b []) in stamp-root c′ (s .stamp) x (rw ρ′ i) ∙ ap length e ∙ sym (put-hit b (length (discoveredOf c)) (r .stamp) x z))
+      (λ j. let ne = in-out x b (markedOf c) j u in
+      stamp-there c′ (s .stamp) x (ap (elem x) ρ′ ∙ not-one x b ne) ∙ sym (stamp-all c (s .stamp) x ρ) ∙ h .stamps-right x j
+      ∙ sym (put-other b (length (discoveredOf c)) (r .stamp) x ne))
+      (in-cases x b (markedOf c) (rw f at i));
+  undiscovered = λ x l o. h .undiscovered x l (rw e at o);
+  unmarked = λ x l o.
+      let o′ : elem x (b ∷ markedOf c) ≡ false = rw f at o in
+      h .unmarked x l (not-true (elem x (markedOf c)) (λ i. contra (in-tail x b (markedOf c) i) o′));
+  root-unmarked = λ x i. let z : x ≡ b = in-one x b (rw ρ′ at i) in ap (λ (v : ℕ). getD (s .stamp) v 0) z ∙ h .unmarked b l u;
+  met-right = m ∙ h .met-right ∙ ap length (sym e);
+  probes-right = n;
+}
+
+-- a nested search marks t
 records-mark : (s : Core) (r : Notes) (c c′ : Config) (w : Walker) (spent t : ℕ) (walk cursor : List ℕ) → length walk ≡ 512 → length cursor ≡ 512
-    → discoveredOf c′ ≡ discoveredOf c → markedOf c′ ≡ t ∷ markedOf c → elem t (markedOf c) ≡ false → t < 512
-    → w .met ≡ s .walker .met → w .kept + spent ≡ count c′ → Records s r c
+    → discoveredOf c′ ≡ discoveredOf c → markedOf c′ ≡ t ∷ markedOf c → rootOf c′ ≡ rootOf c → ((x : ℕ) → In x (rootOf c) → In x (markedOf c))
+    → elem t (markedOf c) ≡ false → t < 512 → w .met ≡ s .walker .met → w .kept + spent ≡ count c′ → Records s r c
     → Records (coreOf w spent (s .number) (s .parent) (s .index) (s .probes) (set (s .stamp) t (s .walker .met)) walk (s .depth) cursor)
     (record { of = r .of; stamp = put t (length (discoveredOf c)) (r .stamp) }) c′
-records-mark s r c c′ w spent t walk cursor lw lc e f u b m n h = record {
+records-mark s r c c′ w spent t walk cursor lw lc e f ρ rooted u b m n h = record {
   sized = record {
     number-size = h .sized .number-size;
     parent-size = h .sized .parent-size;
@@ -73,19 +115,69 @@ records-mark s r c c′ w spent t walk cursor lw lc e f u b m n h = record {
   };
   notes-right = λ x i. h .notes-right x (rw e at i);
   stamps-right = λ x i. ⊎-elim
-      (λ z. ap (λ (v : ℕ). getD (set (s .stamp) t (s .walker .met)) v 0) z ∙ getD-set-same (s .stamp) t (s .walker .met) 0 (omega (arith, h .sized .stamp-size)) ∙ h .met-right
+      (λ z. ap (stampIn c′ (set (s .stamp) t (s .walker .met))) z ∙ stamp-there c′ (set (s .stamp) t (s .walker .met)) t (ap (elem t) ρ ∙ off-root)
+      ∙ getD-set-same (s .stamp) t (s .walker .met) 0 (omega (arith, h .sized .stamp-size)) ∙ h .met-right
       ∙ sym (put-hit t (length (discoveredOf c)) (r .stamp) x z))
       (λ j. let ne = in-out x t (markedOf c) j u in
-      getD-set-other (s .stamp) t x (s .walker .met) 0 ne ∙ h .stamps-right x j ∙ sym (put-other t (length (discoveredOf c)) (r .stamp) x ne))
+      stamp-same c c′ (set (s .stamp) t (s .walker .met)) x e ρ
+      ∙ ap (λ (v : ℕ). choose (elem x (rootOf c)) (length (discoveredOf c)) v) (getD-set-other (s .stamp) t x (s .walker .met) 0 ne)
+      ∙ h .stamps-right x j ∙ sym (put-other t (length (discoveredOf c)) (r .stamp) x ne))
       (in-cases x t (markedOf c) (rw f at i));
   undiscovered = λ x l o. h .undiscovered x l (rw e at o);
   unmarked = λ x l o.
       let o′ : elem x (t ∷ markedOf c) ≡ false = rw f at o in
       getD-set-other (s .stamp) t x (s .walker .met) 0 (λ z. contra (rw z (in-head t (markedOf c))) o′)
       ∙ h .unmarked x l (not-true (elem x (markedOf c)) (λ i. contra (in-tail x t (markedOf c) i) o′));
+  root-unmarked = λ x i.
+      let j : In x (rootOf c) = rw ρ at i in
+      getD-set-other (s .stamp) t x (s .walker .met) 0 (in-out x t (markedOf c) (rooted x j) u) ∙ h .root-unmarked x j;
   met-right = m ∙ h .met-right ∙ ap length (sym e);
   probes-right = n;
 }
+  where
+    off-root : elem t (rootOf c) ≡ false
+    off-root = not-true (elem t (rootOf c)) (λ i. contra (rooted t i) u)
+
+-- a nested search is left: its first state b is marked in the array
+records-left : (s : Core) (r : Notes) (c c′ : Config) (w : Walker) (b : ℕ) → discoveredOf c′ ≡ discoveredOf c → markedOf c′ ≡ markedOf c → rootOf c ≡ b ∷ []
+    → rootOf c′ ≡ [] → In b (markedOf c) → b < 512 → w .met ≡ s .walker .met → w .kept + s .spent ≡ count c′ → Records s r c
+    → Records (coreOf w (s .spent) (s .number) (s .parent) (s .index) (s .probes) (set (s .stamp) b (s .walker .met)) (s .walk) (s .depth) (s .cursor)) r c′
+records-left s r c c′ w b e f ρ ρ′ k l m n h = record {
+  sized = record {
+    number-size = h .sized .number-size;
+    parent-size = h .sized .parent-size;
+    index-size = h .sized .index-size;
+    probes-size = h .sized .probes-size;
+    stamp-size = length-set (s .stamp) b (s .walker .met) ∙ h .sized .stamp-size;
+    walk-size = h .sized .walk-size;
+    depth-size = h .sized .depth-size;
+    cursor-size = h .sized .cursor-size;
+  };
+  notes-right = λ x i. h .notes-right x (rw e at i);
+  stamps-right = λ x i. stamp-all c′ stamp x ρ′ ∙ ⊎-elim (here x) (there x (rw f at i)) (either (eqb x b));
+  undiscovered = λ x l o. h .undiscovered x l (rw e at o);
+  unmarked = λ x l o.
+      let o′ : elem x (markedOf c) ≡ false = rw f at o in
+      getD-set-other (s .stamp) b x (s .walker .met) 0 (λ z. contra (rw z k) o′) ∙ h .unmarked x l o′;
+  root-unmarked = λ x i. absurd (in-nil x (rw ρ′ at i));
+  met-right = m ∙ h .met-right ∙ ap length (sym e);
+  probes-right = n;
+}
+  where
+    stamp : List ℕ
+    stamp = set (s .stamp) b (s .walker .met)
+
+    here : (x : ℕ) → eqb x b ≡ true → getD stamp x 0 ≡ r .stamp x
+    here x z =
+        let same : x ≡ b = eqb-true x b z in
+        let root : In b (rootOf c) = rw ρ (in-head b []) in
+        ap (λ (v : ℕ). getD stamp v 0) same ∙ getD-set-same (s .stamp) b (s .walker .met) 0 (omega (arith, h .sized .stamp-size)) ∙ h .met-right
+        ∙ sym (stamp-root c (s .stamp) b root) ∙ h .stamps-right b k ∙ ap (r .stamp) (sym same)
+
+    there : (x : ℕ) → In x (markedOf c) → eqb x b ≡ false → getD stamp x 0 ≡ r .stamp x
+    there x i z =
+        let ne : x ≡ b → ⊥ = eqb-false x b z in
+        getD-set-other (s .stamp) b x (s .walker .met) 0 ne ∙ sym (stamp-there c (s .stamp) x (ap (elem x) ρ ∙ not-one x b ne)) ∙ h .stamps-right x i
 
 same-note : {a b c d a′ b′ c′ d′ : ℕ} → a ≡ a′ → b ≡ b′ → c ≡ c′ → d ≡ d′
     → _≡_ {A = Note} (record { number = a; parent = b; index = c; probes = d }) (record { number = a′; parent = b′; index = c′; probes = d′ })
@@ -93,13 +185,13 @@ same-note e f g h = λ i. record { number = e i; parent = f i; index = g i; prob
 
 -- a step that discovers t
 records-new : (s : Core) (r : Notes) (n : Note) (t cur next : ℕ) (spent : ℕ) (w : Walker) (c c′ : Config) → t < 512
-    → discoveredOf c′ ≡ t ∷ discoveredOf c → markedOf c′ ≡ markedOf c → elem t (discoveredOf c) ≡ false
+    → discoveredOf c′ ≡ t ∷ discoveredOf c → markedOf c′ ≡ markedOf c → rootOf c ≡ [] → rootOf c′ ≡ [] → elem t (discoveredOf c) ≡ false
     → n .number ≡ length (discoveredOf c) → n .parent ≡ cur → n .index ≡ next → n .probes ≡ spent
     → w .met ≡ suc (length (discoveredOf c)) → (walk depth : List ℕ) → length walk ≡ 512 → length depth ≡ 512
     → (total : ℕ) → w .kept + total ≡ count c′ → Records s r c
     → Records (coreOf w total (set (s .number) t (s .walker .met)) (set (s .parent) t cur) (set (s .index) t next) (set (s .probes) t spent) (s .stamp) walk depth (s .cursor))
     (record { of = put t n (r .of); stamp = r .stamp }) c′
-records-new s r n t cur next spent w c c′ b e f u e₁ e₂ e₃ e₄ m walk depth lw ld total pr h = record {
+records-new s r n t cur next spent w c c′ b e f ρ ρ′ u e₁ e₂ e₃ e₄ m walk depth lw ld total pr h = record {
   sized = record {
     number-size = length-set (s .number) t (s .walker .met) ∙ h .sized .number-size;
     parent-size = length-set (s .parent) t cur ∙ h .sized .parent-size;
@@ -111,12 +203,13 @@ records-new s r n t cur next spent w c c′ b e f u e₁ e₂ e₃ e₄ m walk d
     cursor-size = h .sized .cursor-size;
   };
   notes-right = λ x i. ⊎-elim (λ z. rw z here) (λ j. there x j) (in-cases x t (discoveredOf c) (rw e at i));
-  stamps-right = λ x i. h .stamps-right x (rw f at i);
+  stamps-right = λ x i. stamp-all c′ (s .stamp) x ρ′ ∙ sym (stamp-all c (s .stamp) x ρ) ∙ h .stamps-right x (rw f at i);
   undiscovered = λ x l o.
       let o′ : elem x (t ∷ discoveredOf c) ≡ false = rw e at o in
       getD-set-other (s .number) t x (s .walker .met) 0 (λ z. contra (rw z (in-head t (discoveredOf c))) o′)
       ∙ h .undiscovered x l (not-true (elem x (discoveredOf c)) (λ i. contra (in-tail x t (discoveredOf c) i) o′));
   unmarked = λ x l o. h .unmarked x l (rw f at o);
+  root-unmarked = λ x i. absurd (in-nil x (rw ρ′ at i));
   met-right = m ∙ ap length (sym e);
   probes-right = pr;
 }
@@ -156,53 +249,56 @@ stem-is depth t b p h d o = sym (stem-length depth t (frame b [] ∷ p) h d o)
 
 -- ---- tests
 
-new-test : (number : List ℕ) (t : ℕ) (a b : Core) → getD number t 0 ≡ none → choose (eqb (getD number t 0) none) a b ≡ a
-new-test number t a b e = rw (eq-eqb (getD number t 0) none e)
+new-test : (array : List ℕ) (t : ℕ) (a b : Core) → getD array t 0 ≡ noNumber → choose (eqb (getD array t 0) noNumber) a b ≡ a
+new-test array t a b e = rw (eq-eqb (getD array t 0) noNumber e)
 
-old-test : (number : List ℕ) (t : ℕ) (a b : Core) → getD number t 0 < none → choose (eqb (getD number t 0) none) a b ≡ b
-old-test number t a b h = rw (ne-eqb (getD number t 0) none (λ e. omega arith))
+old-test : (array : List ℕ) (t : ℕ) (a b : Core) → getD array t 0 < noNumber → choose (eqb (getD array t 0) noNumber) a b ≡ b
+old-test array t a b h = rw (ne-eqb (getD array t 0) noNumber (λ e. omega arith))
 
-module _ (targets starts words : List ℕ) (s : Core) where
-  outer-end : s .walker .height ≡ 0 → outerStep targets starts words s ≡ withWalker s (exhausted (s .walker))
+module _ (game : Game) (s : Core) where
+  outer-end : s .walker .height ≡ 0 → outerStep game s ≡ withWalker s (exhausted (s .walker))
   unfolding outerStep
   outer-end e = rw (eq-eqb (s .walker .height) 0 e)
 
-  outer-edge : 0 < s .walker .height → hasEdge targets starts words s ≡ true → outerStep targets starts words s ≡ outerProbe targets starts words s
+  outer-edge : 0 < s .walker .height → hasEdge game s ≡ true → outerStep game s ≡ outerProbe game s
   unfolding outerStep
   outer-edge h e = rw (ne-eqb (s .walker .height) 0 (λ z. omega arith), e)
 
-  outer-last : 0 < s .walker .height → hasEdge targets starts words s ≡ false → outerStep targets starts words s ≡ finish words s
+  outer-last : 0 < s .walker .height → hasEdge game s ≡ false → outerStep game s ≡ finish game s
   unfolding outerStep
   outer-last h e = rw (ne-eqb (s .walker .height) 0 (λ z. omega arith), e)
 
-  nested-end : s .walker .top < s .walker .height → nestedStep targets starts words s ≡ leave s
+  nested-end : s .walker .top < s .walker .height → nestedStep game s ≡ leaveRoot s
   unfolding nestedStep
   nested-end h = rw (lt-ltb (s .walker .top) (s .walker .height) h)
 
-  nested-edge : s .walker .height ≤ s .walker .top → hasEdge targets starts words s ≡ true → nestedStep targets starts words s ≡ nestedProbe targets starts words s
+  nested-edge : s .walker .height ≤ s .walker .top → hasEdge game s ≡ true → nestedStep game s ≡ nestedProbe game s
   unfolding nestedStep
   nested-edge h e = rw (le-ltb (s .walker .top) (s .walker .height) h, e)
 
-  nested-last : s .walker .height ≤ s .walker .top → hasEdge targets starts words s ≡ false
-      → nestedStep targets starts words s ≡ withWalker s (returned (s .walk) (s .cursor) (s .walker))
+  nested-out : s .walker .height ≡ s .walker .top → hasEdge game s ≡ false → nestedStep game s ≡ withWalker s (emptied (s .walker))
   unfolding nestedStep
-  nested-last h e = rw (le-ltb (s .walker .top) (s .walker .height) h, e)
+  nested-out h e = rw (le-ltb (s .walker .top) (s .walker .height) (omega arith), e, le-leb (s .walker .top) (s .walker .height) (omega arith))
+
+  nested-last : s .walker .height < s .walker .top → hasEdge game s ≡ false → nestedStep game s ≡ withWalker s (returned (s .walk) (s .cursor) (s .walker))
+  unfolding nestedStep
+  nested-last h e = rw (le-ltb (s .walker .top) (s .walker .height) (omega arith), e, lt-leb (s .walker .top) (s .walker .height) h)
 
 -- what the outcome of a step has to be
 abbrev pub Fits : Graph → Core → Notes → Config → Type 0
 Fits g s r c = Records s r c × Stands g s c
 
-module _ (g : Graph) (targets starts words : List ℕ) (m : Matches g targets starts words) where
-  row-size : (v : ℕ) → length (g .successors v) ≡ degreeAt starts v
-  row-size v = ap length (m .rows v) ∙ row-length targets starts v
+module _ (g : Graph) (game : Game) (m : Matches g game) where
+  row-size : (v : ℕ) → length (g .successors v) ≡ length (rowOf game v)
+  row-size v = ap length (m .rows v)
 
-  has-edge : (s : Core) (x : ℕ) → s .walker .cur ≡ x → s .walker .next < length (g .successors x) → hasEdge targets starts words s ≡ true
-  has-edge s x e h = lt-ltb (s .walker .next) (degreeAt starts (s .walker .cur)) (omega (arith, row-size (s .walker .cur), ap (λ (v : ℕ). length (g .successors v)) e))
+  has-edge : (s : Core) (x : ℕ) → s .walker .cur ≡ x → s .walker .next < length (g .successors x) → hasEdge game s ≡ true
+  has-edge s x e h = lt-ltb (s .walker .next) (length (rowOf game (s .walker .cur))) (omega (arith, row-size (s .walker .cur), ap (λ (v : ℕ). length (g .successors v)) e))
 
-  edges-done : (s : Core) (x : ℕ) → s .walker .cur ≡ x → length (g .successors x) ≤ s .walker .next → hasEdge targets starts words s ≡ false
-  edges-done s x e h = le-ltb (s .walker .next) (degreeAt starts (s .walker .cur)) (omega (arith, row-size (s .walker .cur), ap (λ (v : ℕ). length (g .successors v)) e))
+  edges-done : (s : Core) (x : ℕ) → s .walker .cur ≡ x → length (g .successors x) ≤ s .walker .next → hasEdge game s ≡ false
+  edges-done s x e h = le-ltb (s .walker .next) (length (rowOf game (s .walker .cur))) (omega (arith, row-size (s .walker .cur), ap (λ (v : ℕ). length (g .successors v)) e))
 
-  target-is : (s : Core) (x t : ℕ) → s .walker .cur ≡ x → getD (g .successors x) (s .walker .next) 0 ≡ t → targetOf targets starts words s ≡ t
+  target-is : (s : Core) (x t : ℕ) → s .walker .cur ≡ x → getD (g .successors x) (s .walker .next) 0 ≡ t → targetOf game s ≡ t
   target-is s x t e h =
       ap (λ (row : List ℕ). getD row (s .walker .next) 0) (sym (m .rows (s .walker .cur)))
       ∙ ap (λ (v : ℕ). getD (g .successors v) (s .walker .next) 0) e ∙ h
@@ -215,12 +311,12 @@ module _ (g : Graph) (targets starts words : List ℕ) (m : Matches g targets st
   unfolding statesOf
   outer-skip s r x t ts p d k l b h a =
       let e = edge-left (g .successors x) (s .walker .next) t ts (a .pending-is) in (
-        records-idle s r (outer (frame x (t ∷ ts) ∷ p) d k l) (outer (frame x ts ∷ p) d k ((x, t) ∷ l)) (skipped (s .walker)) (up (s .spent)) refl refl refl
+        records-idle s r (outer (frame x (t ∷ ts) ∷ p) d k l) (outer (frame x ts ∷ p) d k ((x, t) ∷ l)) (skipped (s .walker)) (up (s .spent)) refl refl refl refl
             (omega (arith, up-more (s .spent) (omega (arith, h .probes-right, b .probes-few)), h .probes-right)) h,
         record {
           phase-is = a .phase-is;
           cur-is = a .cur-is;
-          pending-is = e .rest ∙ sym (drop-up (g .successors x) (s .walker .next) (omega (arith, b .rows-short x)));
+          pending-is = e .rest;
           height-is = a .height-is;
           walk-is = a .walk-is;
           places = a .places;
@@ -240,7 +336,7 @@ module _ (g : Graph) (targets starts words : List ℕ) (m : Matches g targets st
       let height : up (s .walker .height) ≡ suc (suc (length p)) = up-more (s .walker .height) (omega (arith, a .height-is)) ∙ ap suc (a .height-is) in
       let place : s .walker .height ≡ length (statesOf p ++ (x ∷ [])) = omega (arith, a .height-is, length-append (statesOf p) (x ∷ []), states-length p) in (
         records-new s r (noteOf g x ts d l) t (s .walker .cur) (s .walker .next) (plus (s .walker .kept) (up (s .spent))) (discover (probed s) t .walker)
-            (outer (frame x (t ∷ ts) ∷ p) d k l) (outer (frame t (g .successors t) ∷ frame x ts ∷ p) (t ∷ d) k ((x, t) ∷ l)) tb refl refl new
+            (outer (frame x (t ∷ ts) ∷ p) d k l) (outer (frame t (g .successors t) ∷ frame x ts ∷ p) (t ∷ d) k ((x, t) ∷ l)) tb refl refl refl refl new
             refl (sym (a .cur-is)) index (sym total) (up-more (s .walker .met) (omega (arith, h .met-right, b .few)) ∙ ap suc (h .met-right))
             (set (s .walk) (s .walker .height) t) (set (s .depth) t (s .walker .height))
             (length-set (s .walk) (s .walker .height) t ∙ h .sized .walk-size) (length-set (s .depth) t (s .walker .height) ∙ h .sized .depth-size)
@@ -259,38 +355,35 @@ module _ (g : Graph) (targets starts words : List ℕ) (m : Matches g targets st
       )
 
   -- the current state leaves the open path
-  leaves : (s : Core) (r : Notes) (x : ℕ) (p : List Frame) (d k : List ℕ) (l : List Edge) → ((v : ℕ) → length (g .successors v) ≤ 2048)
-      → s .walker .cur ≡ x → s .walker .height ≡ suc (length p) → Begins (statesOf p) (s .walk) → Placed (s .depth) p → view s .of x ≡ r .of x → Below g r x p
-      → Stands g (leave s) (outer p d k l)
-  unfolding leave
-  leaves s r x [] d k l short e h w z n b = (refl, omega arith)
-  leaves s r x (frame y us ∷ p) d k l short e h w z n b = record {
+  leaves : (s : Core) (stamp : List ℕ) (r : Notes) (x : ℕ) (p : List Frame) (d k : List ℕ) (l : List Edge) → ((v : ℕ) → length (g .successors v) ≤ 2048)
+      → s .walker .cur ≡ x → s .walker .height ≡ suc (length p) → Begins (statesOf p) (s .walk) → Placed (s .depth) p → noteIn s x ≡ r .of x → Below g r x p
+      → Stands g (coreOf (left (s .parent) (s .index) (s .walker)) (s .spent) (s .number) (s .parent) (s .index) (s .probes) stamp (s .walk) (s .depth) (s .cursor)) (outer p d k l)
+  leaves s stamp r x [] d k l short e h w z n b = (refl, omega arith)
+  leaves s stamp r x (frame y us ∷ p) d k l short e h w z n b = record {
     phase-is = refl;
     cur-is = ap (λ (v : ℕ). getD (s .parent) v 0) e ∙ ap (λ (o : Note). o .parent) n ∙ b .0;
     pending-is = b .1 ∙ ap (λ (i : ℕ). drop (suc i) (g .successors y)) (ap (λ (o : Note). o .index) (sym n) ∙ ap (λ (v : ℕ). getD (s .index) v 0) (sym e))
-        ∙ sym (drop-up (g .successors y) (getD (s .index) (s .walker .cur) 0) (omega (arith, short y)));
+        ∙ sym (drop-further (g .successors y) (getD (s .index) (s .walker .cur) 0) (omega (arith, short y)));
     height-is = omega arith;
     walk-is = w;
     places = z;
   }
 
   outer-leave : (s : Core) (r : Notes) (x : ℕ) (p : List Frame) (d k : List ℕ) (l : List Edge) → Limits g (outer (frame x [] ∷ p) d k l) → In x d → Below g r x p
-      → Records s r (outer (frame x [] ∷ p) d k l) → AtOuter g s x [] p → Fits g (leave s) r (outer p d k l)
-  unfolding leave statesOf
+      → Records s r (outer (frame x [] ∷ p) d k l) → AtOuter g s x [] p → Fits g (withWalker s (left (s .parent) (s .index) (s .walker))) r (outer p d k l)
+  unfolding statesOf
   outer-leave s r x p d k l b i below h a = (
-    records-idle s r (outer (frame x [] ∷ p) d k l) (outer p d k l) (left (s .parent) (s .index) (s .walker)) (s .spent) refl refl refl (h .probes-right) h,
-    leaves s r x p d k l (b .rows-short) (a .cur-is) (a .height-is) (begins-pop (statesOf p) (x ∷ []) (s .walk) (a .walk-is)) (a .places .1) (h .notes-right x i) below,
+    records-idle s r (outer (frame x [] ∷ p) d k l) (outer p d k l) (left (s .parent) (s .index) (s .walker)) (s .spent) refl refl refl refl (h .probes-right) h,
+    leaves s (s .stamp) r x p d k l (b .rows-short) (a .cur-is) (a .height-is) (begins-pop (statesOf p) (x ∷ []) (s .walk) (a .walk-is)) (a .places .1) (h .notes-right x i) below,
   )
 
   outer-nest : (s : Core) (r : Notes) (x : ℕ) (p : List Frame) (d k : List ℕ) (l : List Edge) → x < 512 → elem x k ≡ false
       → Records s r (outer (frame x [] ∷ p) d k l) → AtOuter g s x [] p
-      → Fits g (nest s) (record { of = r .of; stamp = put x (length d) (r .stamp) }) (nested x p (frame x (g .successors x) ∷ []) d (x ∷ k) l)
-  unfolding nest statesOf
+      → Fits g (withWalker s (nesting (s .walker))) (record { of = r .of; stamp = put x (length d) (r .stamp) }) (nested x p (frame x (g .successors x) ∷ []) d (x ∷ k) l)
+  unfolding statesOf
   outer-nest s r x p d k l xb new h a = (
-    subst (λ (v : ℕ). Records (coreOf (nesting (s .walker)) (s .spent) (s .number) (s .parent) (s .index) (s .probes) (set (s .stamp) v (s .walker .met)) (s .walk) (s .depth) (s .cursor))
-        (record { of = r .of; stamp = put x (length d) (r .stamp) }) (nested x p (frame x (g .successors x) ∷ []) d (x ∷ k) l)) (sym (a .cur-is))
-        (records-mark s r (outer (frame x [] ∷ p) d k l) (nested x p (frame x (g .successors x) ∷ []) d (x ∷ k) l) (nesting (s .walker)) (s .spent) x (s .walk) (s .cursor)
-        (h .sized .walk-size) (h .sized .cursor-size) refl refl new xb refl (h .probes-right) h),
+    records-nest s r (outer (frame x [] ∷ p) d k l) (nested x p (frame x (g .successors x) ∷ []) d (x ∷ k) l) (nesting (s .walker)) x refl refl refl refl new xb refl
+        (h .probes-right) h,
     record {
       phase-is = refl;
       cur-is = a .cur-is;
@@ -311,12 +404,12 @@ module _ (g : Graph) (targets starts words : List ℕ) (m : Matches g targets st
   unfolding statesOf
   nested-skip s r b p x t ts q d k l u h a =
       let e = edge-left (g .successors x) (s .walker .next) t ts (a .pending-is) in (
-        records-idle s r (nested b p (frame x (t ∷ ts) ∷ q) d k l) (nested b p (frame x ts ∷ q) d k ((x, t) ∷ l)) (skipped (s .walker)) (up (s .spent)) refl refl refl
+        records-idle s r (nested b p (frame x (t ∷ ts) ∷ q) d k l) (nested b p (frame x ts ∷ q) d k ((x, t) ∷ l)) (skipped (s .walker)) (up (s .spent)) refl refl refl refl
             (omega (arith, up-more (s .spent) (omega (arith, h .probes-right, u .probes-few)), h .probes-right)) h,
         record {
           phase-is = a .phase-is;
           cur-is = a .cur-is;
-          pending-is = e .rest ∙ sym (drop-up (g .successors x) (s .walker .next) (omega (arith, u .rows-short x)));
+          pending-is = e .rest;
           height-is = a .height-is;
           top-is = a .top-is;
           walk-is = a .walk-is;
@@ -326,75 +419,80 @@ module _ (g : Graph) (targets starts words : List ℕ) (m : Matches g targets st
       )
 
   nested-deepen : (s : Core) (r : Notes) (b : ℕ) (p : List Frame) (x t : ℕ) (ts : List ℕ) (q : List Frame) (d k : List ℕ) (l : List Edge) → Limits g (nested b p (frame x (t ∷ ts) ∷ q) d k l)
-      → length p + suc (length q) < 512 → t < 512 → elem t k ≡ false
+      → length p + suc (length q) < 512 → t < 512 → In b k → elem t k ≡ false
       → Records s r (nested b p (frame x (t ∷ ts) ∷ q) d k l) → AtNested g s b p x (t ∷ ts) q
       → Fits g (deepen (probed s) t) (record { of = r .of; stamp = put t (length d) (r .stamp) }) (nested b p (frame t (g .successors t) ∷ frame x ts ∷ q) d (t ∷ k) ((x, t) ∷ l))
   unfolding deepen statesOf
-  nested-deepen s r b p x t ts q d k l u few tb new h a =
+  nested-deepen s r b p x t ts q d k l u few tb base new h a =
       let e = edge-left (g .successors x) (s .walker .next) t ts (a .pending-is) in
       let size : length (statesOf p ++ (statesOf q ++ (x ∷ []))) ≡ length p + suc (length q) =
       omega (arith, length-append (statesOf p) (statesOf q ++ (x ∷ [])), length-append (statesOf q) (x ∷ []), states-length p, states-length q) in
       let at : s .walker .top - 1 ≡ length p + length q = omega (arith, a .top-is) in (
         records-mark s r (nested b p (frame x (t ∷ ts) ∷ q) d k l) (nested b p (frame t (g .successors t) ∷ frame x ts ∷ q) d (t ∷ k) ((x, t) ∷ l)) (deepen (probed s) t .walker) (up (s .spent)) t
-            (set (s .walk) (s .walker .top) t) (set (s .cursor) (s .walker .top - 1) (up (s .walker .next)))
-            (length-set (s .walk) (s .walker .top) t ∙ h .sized .walk-size) (length-set (s .cursor) (s .walker .top - 1) (up (s .walker .next)) ∙ h .sized .cursor-size)
-            refl refl new tb refl (omega (arith, up-more (s .spent) (omega (arith, h .probes-right, u .probes-few)), h .probes-right)) h,
+            (set (s .walk) (s .walker .top) t) (set (s .cursor) (s .walker .top - 1) (s .walker .next))
+            (length-set (s .walk) (s .walker .top) t ∙ h .sized .walk-size) (length-set (s .cursor) (s .walker .top - 1) (s .walker .next) ∙ h .sized .cursor-size)
+            refl refl refl (λ y i. rw (in-one y b i) base) new tb refl (omega (arith, up-more (s .spent) (omega (arith, h .probes-right, u .probes-few)), h .probes-right)) h,
         record {
           phase-is = refl;
           cur-is = refl;
           pending-is = refl;
           height-is = a .height-is;
-          top-is = up-more (s .walker .top) (omega (arith, a .top-is)) ∙ omega (arith, a .top-is);
+          top-is = further-more (s .walker .top) (omega (arith, a .top-is)) ∙ omega (arith, a .top-is);
           walk-is =
               let w = begins-push (statesOf p ++ (statesOf q ++ (x ∷ []))) (s .walk) t (s .walker .top) (a .top-is ∙ sym size) (h .sized .walk-size) (omega arith) (a .walk-is) in
               (w .0, w .1 ∙ ap (λ (y : List ℕ). y ++ w .0) (append-assoc (statesOf p) (statesOf q ++ (x ∷ [])) (t ∷ [])));
           places = a .places;
           cursors = (
-            e .rest ∙ sym (drop-up (g .successors x) (s .walker .next) (omega (arith, u .rows-short x)))
-                ∙ ap (λ (i : ℕ). drop i (g .successors x)) (sym (ap (λ (i : ℕ). getD (set (s .cursor) (s .walker .top - 1) (up (s .walker .next))) i 0) (sym at)
-                ∙ getD-set-same (s .cursor) (s .walker .top - 1) (up (s .walker .next)) 0 (omega (arith, h .sized .cursor-size)))),
-            cursors-set g (length p) (s .walker .top - 1) (up (s .walker .next)) (s .cursor) q (omega arith) (a .cursors),
+            e .rest ∙ ap (λ (i : ℕ). drop (suc i) (g .successors x)) (sym (ap (λ (i : ℕ). getD (set (s .cursor) (s .walker .top - 1) (s .walker .next)) i 0) (sym at)
+                ∙ getD-set-same (s .cursor) (s .walker .top - 1) (s .walker .next) 0 (omega (arith, h .sized .cursor-size)))),
+            cursors-set g (length p) (s .walker .top - 1) (s .walker .next) (s .cursor) q (omega arith) (a .cursors),
           );
         },
       )
 
-  nested-leave : (s : Core) (r : Notes) (b : ℕ) (p : List Frame) (d k : List ℕ) (l : List Edge) → Limits g (nested b p [] d k l) → In b d → Below g r b p
-      → Records s r (nested b p [] d k l) → AtReturn g s b p → Fits g (leave s) r (outer p d k l)
-  unfolding leave
-  nested-leave s r b p d k l u i below h a = (
-    records-idle s r (nested b p [] d k l) (outer p d k l) (left (s .parent) (s .index) (s .walker)) (s .spent) refl refl refl (h .probes-right) h,
-    leaves s r b p d k l (u .rows-short) (a .cur-is) (a .height-is) (a .walk-is) (a .places .1) (h .notes-right b i) below,
+  nested-leave : (s : Core) (r : Notes) (b : ℕ) (p : List Frame) (d k : List ℕ) (l : List Edge) → Limits g (nested b p [] d k l) → In b d → In b k → Below g r b p
+      → Records s r (nested b p [] d k l) → AtReturn g s b p → Fits g (leaveRoot s) r (outer p d k l)
+  unfolding leaveRoot
+  nested-leave s r b p d k l u i base below h a = (
+    subst (λ (v : ℕ). Records (coreOf (left (s .parent) (s .index) (s .walker)) (s .spent) (s .number) (s .parent) (s .index) (s .probes) (set (s .stamp) v (s .walker .met))
+        (s .walk) (s .depth) (s .cursor)) r (outer p d k l)) (sym (a .cur-is))
+        (records-left s r (nested b p [] d k l) (outer p d k l) (left (s .parent) (s .index) (s .walker)) b refl refl refl refl base (u .below b i) refl (h .probes-right) h),
+    leaves s (set (s .stamp) (s .walker .cur) (s .walker .met)) r b p d k l (u .rows-short) (a .cur-is) (a .height-is) (a .walk-is) (a .places .1) (h .notes-right b i) below,
   )
 
-  -- the path of the nested search is taken back by one state
-  nested-back : (s : Core) (r : Notes) (b : ℕ) (p : List Frame) (x : ℕ) (q : List Frame) (d k : List ℕ) (l : List Edge) → Linked g b x q
-      → Records s r (nested b p (frame x [] ∷ q) d k l) → AtNested g s b p x [] q
-      → Fits g (withWalker s (returned (s .walk) (s .cursor) (s .walker))) r (nested b p q d k l)
+  -- the path of the nested search is taken back by one state: out of its first
+  nested-empty : (s : Core) (r : Notes) (b : ℕ) (p : List Frame) (x : ℕ) (d k : List ℕ) (l : List Edge) → Linked g b x []
+      → Records s r (nested b p (frame x [] ∷ []) d k l) → AtNested g s b p x [] []
+      → Fits g (withWalker s (emptied (s .walker))) r (nested b p [] d k l)
   unfolding statesOf
-  nested-back s r b p x [] d k l e h a =
-      let t : ltb (s .walker .top - 1) (s .walker .height) ≡ true = lt-ltb (s .walker .top - 1) (s .walker .height) (omega (arith, a .top-is, a .height-is)) in (
-        records-idle s r (nested b p (frame x [] ∷ []) d k l) (nested b p [] d k l) (returned (s .walk) (s .cursor) (s .walker)) (s .spent) refl refl refl (h .probes-right) h,
-        record {
-          phase-is = refl;
-          cur-is = ap (λ (y : Bool). choose y (s .walker .cur) (getD (s .walk) (s .walker .top - 1 - 1) 0)) t ∙ a .cur-is ∙ e;
-          height-is = a .height-is;
-          top-is = omega (arith, a .top-is);
-          walk-is = begins-pop (statesOf p) (x ∷ []) (s .walk) (a .walk-is);
-          places = a .places;
-        },
-      )
-  nested-back s r b p x (frame y us ∷ q) d k l e h a =
-      let t : ltb (s .walker .top - 1) (s .walker .height) ≡ false = le-ltb (s .walker .top - 1) (s .walker .height) (omega (arith, a .top-is, a .height-is)) in
+  nested-empty s r b p x d k l e h a = (
+    records-idle s r (nested b p (frame x [] ∷ []) d k l) (nested b p [] d k l) (emptied (s .walker)) (s .spent) refl refl refl refl (h .probes-right) h,
+    record {
+      phase-is = refl;
+      cur-is = a .cur-is ∙ e;
+      height-is = a .height-is;
+      top-is = omega (arith, a .top-is);
+      walk-is = begins-pop (statesOf p) (x ∷ []) (s .walk) (a .walk-is);
+      places = a .places;
+    },
+  )
+
+  -- to the state below
+  nested-back : (s : Core) (r : Notes) (b : ℕ) (p : List Frame) (x y : ℕ) (us : List ℕ) (q : List Frame) (d k : List ℕ) (l : List Edge)
+      → Limits g (nested b p (frame x [] ∷ frame y us ∷ q) d k l)
+      → Records s r (nested b p (frame x [] ∷ frame y us ∷ q) d k l) → AtNested g s b p x [] (frame y us ∷ q)
+      → Fits g (withWalker s (returned (s .walk) (s .cursor) (s .walker))) r (nested b p (frame y us ∷ q) d k l)
+  unfolding statesOf
+  nested-back s r b p x y us q d k l u h a =
       let at : s .walker .top - 1 - 1 ≡ length p + length q = omega (arith, a .top-is) in
       let place : s .walker .top - 1 - 1 ≡ length (statesOf p ++ statesOf q) = omega (arith, at, length-append (statesOf p) (statesOf q), states-length p, states-length q) in
       let w : Begins ((statesOf p ++ statesOf q) ++ (y ∷ (x ∷ []))) (s .walk) = regroup (statesOf p) (statesOf q) x y (s .walk) (a .walk-is) in (
-        records-idle s r (nested b p (frame x [] ∷ frame y us ∷ q) d k l) (nested b p (frame y us ∷ q) d k l) (returned (s .walk) (s .cursor) (s .walker)) (s .spent) refl refl refl (h .probes-right) h,
+        records-idle s r (nested b p (frame x [] ∷ frame y us ∷ q) d k l) (nested b p (frame y us ∷ q) d k l) (returned (s .walk) (s .cursor) (s .walker)) (s .spent) refl refl refl refl (h .probes-right) h,
         record {
           phase-is = refl;
-          cur-is = ap (λ (z : Bool). choose z (s .walker .cur) (getD (s .walk) (s .walker .top - 1 - 1) 0)) t ∙ ap (λ (i : ℕ). getD (s .walk) i 0) place
-              ∙ begins-at (statesOf p ++ statesOf q) y (x ∷ []) (s .walk) w;
-          pending-is = a .cursors .0 ∙ ap (λ (i : ℕ). drop i (g .successors y))
-              (sym (ap (λ (z : Bool). choose z (s .walker .next) (getD (s .cursor) (s .walker .top - 1 - 1) 0)) t ∙ ap (λ (i : ℕ). getD (s .cursor) i 0) at));
+          cur-is = ap (λ (i : ℕ). getD (s .walk) i 0) place ∙ begins-at (statesOf p ++ statesOf q) y (x ∷ []) (s .walk) w;
+          pending-is = a .cursors .0 ∙ ap (λ (i : ℕ). drop (suc (getD (s .cursor) i 0)) (g .successors y)) (sym at)
+              ∙ sym (drop-further (g .successors y) (getD (s .cursor) (s .walker .top - 1 - 1) 0) (omega (arith, u .rows-short y)));
           height-is = a .height-is;
           top-is = omega (arith, a .top-is);
           walk-is = popped (statesOf p) (statesOf q) x y (s .walk) w;
@@ -421,6 +519,12 @@ module _ (g : Graph) (targets starts words : List ℕ) (m : Matches g targets st
       ∙ top-first b us p (v .0)
       ∙ ap (λ (l : List ℕ). statesOf p ++ l) (sym (v .1))
 
+  -- the walk begins with the open path, while a nested search runs
+  path-first : (s : Core) (b : ℕ) (p : List Frame) (x : ℕ) (ts : List ℕ) (q : List Frame) → Linked g b x q → Begins (statesOf p ++ statesOf (frame x ts ∷ q)) (s .walk) → Begins (statesOf (frame b [] ∷ p)) (s .walk)
+  path-first s b p x ts q c (rest, w) =
+      let v = path-run g q b x ts c in
+      (v .0 ++ rest, w ∙ ap (λ (l : List ℕ). l ++ rest) (ap (λ (l : List ℕ). statesOf p ++ l) (v .1)) ∙ append-assoc (statesOf p) (b ∷ v .0) rest ∙ sym (top-first b [] p (v .0 ++ rest)))
+
   nested-found : (s : Core) (r : Notes) (b : ℕ) (p : List Frame) (x t : ℕ) (ts : List ℕ) (q : List Frame) (d k : List ℕ) (l : List Edge) → Limits g (nested b p (frame x (t ∷ ts) ∷ q) d k l)
       → Linked g b x q → Distinct (frame b [] ∷ p) → On t (frame b [] ∷ p)
       → Records s r (nested b p (frame x (t ∷ ts) ∷ q) d k l) → AtNested g s b p x (t ∷ ts) q
@@ -428,10 +532,11 @@ module _ (g : Graph) (targets starts words : List ℕ) (m : Matches g targets st
   unfolding statesOf
   nested-found s r b p x t ts q d k l u c dis on h a =
       let e : stemOf t (frame b [] ∷ p) ++ cycleOf t (frame b [] ∷ p) (frame x ts ∷ q) ≡ statesOf p ++ statesOf (frame x ts ∷ q) = walk-whole t b [] p x ts q c in (
-        records-idle s r (nested b p (frame x (t ∷ ts) ∷ q) d k l) (found t (frame b [] ∷ p) (frame x ts ∷ q) d k ((x, t) ∷ l)) (closed (s .walker) (getD (s .depth) t 0)) (up (s .spent)) refl refl refl
+        records-idle s r (nested b p (frame x (t ∷ ts) ∷ q) d k l) (found t (frame b [] ∷ p) (frame x ts ∷ q) d k ((x, t) ∷ l)) (closed (s .walker) (getD (s .depth) t 0)) (up (s .spent)) refl refl refl refl
             (omega (arith, up-more (s .spent) (omega (arith, h .probes-right, u .probes-few)), h .probes-right)) h,
         record {
           phase-is = refl;
+          height-is = a .height-is;
           stem-is = stem-is (s .depth) t b p (a .places) dis on;
           top-is = a .top-is ∙ omega (
             arith,
@@ -443,6 +548,7 @@ module _ (g : Graph) (targets starts words : List ℕ) (m : Matches g targets st
             states-length q,
           );
           walk-is = (a .walk-is .0, a .walk-is .1 ∙ ap (λ (y : List ℕ). y ++ a .walk-is .0) (sym e));
+          path-is = path-first s b p x (t ∷ ts) q c (a .walk-is);
         },
       )
 
@@ -452,7 +558,7 @@ module _ (g : Graph) (targets starts words : List ℕ) (m : Matches g targets st
       → OuterInv g (frame x (t ∷ ts) ∷ p) d → Counted g r (outer (frame x (t ∷ ts) ∷ p) d k l)
       → Limits g (outer (frame x (t ∷ ts) ∷ p) d k l) → Limits g (visit g v x t ts p d k ((x, t) ∷ l))
       → Records s r (outer (frame x (t ∷ ts) ∷ p) d k l) → AtOuter g s x (t ∷ ts) p
-      → Fits g (choose (eqb (getD (s .number) t 0) none) (discover (probed s) t) (withWalker (probed s) (skipped (s .walker)))) (noteVisit v t (noteOf g x ts d l) r) (visit g v x t ts p d k ((x, t) ∷ l))
+      → Fits g (choose (eqb (getD (s .number) t 0) noNumber) (discover (probed s) t) (withWalker (probed s) (skipped (s .walker)))) (noteVisit v t (noteOf g x ts d l) r) (visit g v x t ts p d k ((x, t) ∷ l))
   unfolding onPath
   visit-fits true s r x t ts p d k l e o n u u′ h a =
       rw (old-test (s .number) t (discover (probed s) t) (withWalker (probed s) (skipped (s .walker)))
@@ -463,73 +569,95 @@ module _ (g : Graph) (targets starts words : List ℕ) (m : Matches g targets st
 
   finish-fits : (v : Bool) (s : Core) (r : Notes) (x : ℕ) (p : List Frame) (d k : List ℕ) (l : List Edge) → OuterInv g (frame x [] ∷ p) d → Marks g (frame x [] ∷ p) d k → Below g r x p
       → Limits g (outer (frame x [] ∷ p) d k l) → Records s r (outer (frame x [] ∷ p) d k l) → AtOuter g s x [] p
-      → Fits g (choose v (nest s) (leave s)) (noteMark v x (length d) r) (finishes g v x p d k l)
+      → Fits g (withWalker s (finished v (s .parent) (s .index) (s .walker))) (noteMark v x (length d) r) (finishes g v x p d k l)
+  unfolding finished
   finish-fits true s r x p d k l o w b u h a =
       outer-nest s r x p d k l (u .below x (o .known x (on-head x [] p))) (not-true (elem x k) (λ i. contra (on-head x [] p) (w .done x i .1))) h a
   finish-fits false s r x p d k l o w b u h a = outer-leave s r x p d k l u (o .known x (on-head x [] p)) b h a
 
+  -- a state of the open path is not marked in the array
+  path-unmarked : (s : Core) (r : Notes) (b : ℕ) (p : List Frame) (x t : ℕ) (ts : List ℕ) (q : List Frame) (d k : List ℕ) (l : List Edge) → On t (frame b [] ∷ p)
+      → OuterInv g (frame b [] ∷ p) d → (old : List ℕ) → NestedInv g b p (frame x (t ∷ ts) ∷ q) d k old → Limits g (nested b p (frame x (t ∷ ts) ∷ q) d k l)
+      → Records s r (nested b p (frame x (t ∷ ts) ∷ q) d k l) → getD (s .stamp) t 0 ≡ noNumber
+  path-unmarked s r b p x t ts q d k l e o old n u h = ⊎-elim
+      (λ z. h .root-unmarked t (rw z (in-head b [])))
+      (λ i. h .unmarked t (u .below t (o .known t e)) (not-true (elem t k) (λ j. contra i (n .done t j .1)))) (on-cases t b [] p e)
+
+  -- a marked state that is not on the open path is marked in the array
+  off-marked : (s : Core) (r : Notes) (b : ℕ) (p q : List Frame) (t : ℕ) (d k : List ℕ) (l : List Edge) → Off t (frame b [] ∷ p) → In t k → Counted g r (nested b p q d k l)
+      → Limits g (nested b p q d k l) → Records s r (nested b p q d k l) → getD (s .stamp) t 0 < noNumber
+  off-marked s r b p q t d k l off i c u h =
+      let away : elem t (b ∷ []) ≡ false = not-one t b (λ z. contra (rw z (on-head b [] p)) off) in
+      omega (arith, stamp-there (nested b p q d k l) (s .stamp) t away, h .stamps-right t i, c .1 t i, u .few)
+
+  -- the ways of a probe
+  abbrev probes-to : Core → ℕ → Core
+  probes-to s t = choose (eqb (getD (s .stamp) t 0) noNumber)
+      (choose (onOpenPath (s .walk) (s .depth) (s .walker .height) t) (withWalker (probed s) (closed (s .walker) (getD (s .depth) t 0))) (deepen (probed s) t))
+      (withWalker (probed s) (skipped (s .walker)))
+
+  probe-closes : (s : Core) (t : ℕ) → getD (s .stamp) t 0 ≡ noNumber → onOpenPath (s .walk) (s .depth) (s .walker .height) t ≡ true
+      → probes-to s t ≡ withWalker (probed s) (closed (s .walker) (getD (s .depth) t 0))
+  probe-closes s t e f = rw (eq-eqb (getD (s .stamp) t 0) noNumber e, f)
+
+  probe-deepens : (s : Core) (t : ℕ) → getD (s .stamp) t 0 ≡ noNumber → onOpenPath (s .walk) (s .depth) (s .walker .height) t ≡ false
+      → probes-to s t ≡ deepen (probed s) t
+  probe-deepens s t e f = rw (eq-eqb (getD (s .stamp) t 0) noNumber e, f)
+
   probe-fits : (v w : Bool) (s : Core) (r : Notes) (b : ℕ) (p : List Frame) (x t : ℕ) (ts : List ℕ) (q : List Frame) (d k : List ℕ) (l : List Edge) → onPath t (frame b [] ∷ p) ≡ v → elem t k ≡ w
+      → onOpenPath (s .walk) (s .depth) (s .walker .height) t ≡ v
       → OuterInv g (frame b [] ∷ p) d → (old : List ℕ) → NestedInv g b p (frame x (t ∷ ts) ∷ q) d k old → Counted g r (nested b p (frame x (t ∷ ts) ∷ q) d k l)
       → Limits g (nested b p (frame x (t ∷ ts) ∷ q) d k l) → Limits g (probe g v w b p x t ts q d k ((x, t) ∷ l))
       → Records s r (nested b p (frame x (t ∷ ts) ∷ q) d k l) → AtNested g s b p x (t ∷ ts) q
-      → Fits g (choose v (withWalker (probed s) (closed (s .walker) (getD (s .depth) t 0))) (choose (eqb (getD (s .stamp) t 0) none) (deepen (probed s) t) (withWalker (probed s) (skipped (s .walker)))))
-      (noteProbe v w t (length d) r) (probe g v w b p x t ts q d k ((x, t) ∷ l))
-  probe-fits true w s r b p x t ts q d k l e f o old n c u u′ h a = nested-found s r b p x t ts q d k l u (n .chain) (o .distinct) e h a
-  probe-fits false true s r b p x t ts q d k l e f o old n c u u′ h a =
-      rw (old-test (s .stamp) t (deepen (probed s) t) (withWalker (probed s) (skipped (s .walker))) (omega (arith, h .stamps-right t f, c .1 t f, u .few))) (nested-skip s r b p x t ts q d k l u h a)
-  probe-fits false false s r b p x t ts q d k l e f o old n c u u′ h a =
+      → Fits g (probes-to s t) (noteProbe v w t (length d) r) (probe g v w b p x t ts q d k ((x, t) ∷ l))
+  probe-fits true w s r b p x t ts q d k l e f z o old n c u u′ h a =
+      rw (probe-closes s t (path-unmarked s r b p x t ts q d k l e o old n u h) z) (nested-found s r b p x t ts q d k l u (n .chain) (o .distinct) e h a)
+  probe-fits false true s r b p x t ts q d k l e f z o old n c u u′ h a =
+      rw (old-test (s .stamp) t _ (withWalker (probed s) (skipped (s .walker))) (off-marked s r b p (frame x (t ∷ ts) ∷ q) t d k l e f c u h)) (nested-skip s r b p x t ts q d k l u h a)
+  probe-fits false false s r b p x t ts q d k l e f z o old n c u u′ h a =
       let i : t < 512 = u .below t (next-known g b p x t ts q d k old o n) in
-      rw (new-test (s .stamp) t (deepen (probed s) t) (withWalker (probed s) (skipped (s .walker))) (h .unmarked t i f)) (nested-deepen s r b p x t ts q d k l u (omega (arith, u′ .walk-few)) i f h a)
+      rw (probe-deepens s t (h .unmarked t i f) z) (nested-deepen s r b p x t ts q d k l u (omega (arith, u′ .walk-few)) i (n .base) f h a)
 
-  accepts-is : (s : Core) (x : ℕ) → s .walker .cur ≡ x → finish words s ≡ choose (g .accepting x) (nest s) (leave s)
+  accepts-is : (s : Core) (x : ℕ) → s .walker .cur ≡ x → finish game s ≡ withWalker s (finished (g .accepting x) (s .parent) (s .index) (s .walker))
   unfolding finish
-  accepts-is s x e = ap (λ (v : Bool). choose v (nest s) (leave s)) (sym (m .acceptance (s .walker .cur)) ∙ ap (g .accepting) e)
+  accepts-is s x e = ap (λ (v : Bool). withWalker s (finished v (s .parent) (s .index) (s .walker))) (sym (m .acceptance (s .walker .cur)) ∙ ap (g .accepting) e)
 
-  outer-probes : (s : Core) (t : ℕ) → targetOf targets starts words s ≡ t
-      → outerProbe targets starts words s ≡ choose (eqb (getD (s .number) t 0) none) (discover (probed s) t) (withWalker (probed s) (skipped (s .walker)))
+  outer-probes : (s : Core) (t : ℕ) → targetOf game s ≡ t
+      → outerProbe game s ≡ choose (eqb (getD (s .number) t 0) noNumber) (discover (probed s) t) (withWalker (probed s) (skipped (s .walker)))
   unfolding outerProbe
-  outer-probes s t e = ap (λ (y : ℕ). choose (eqb (getD (s .number) y 0) none) (discover (probed s) y) (withWalker (probed s) (skipped (s .walker)))) e
+  outer-probes s t e = ap (λ (y : ℕ). choose (eqb (getD (s .number) y 0) noNumber) (discover (probed s) y) (withWalker (probed s) (skipped (s .walker)))) e
 
-  nested-probes : (s : Core) (t : ℕ) (v : Bool) → targetOf targets starts words s ≡ t → onOpenPath (s .walk) (s .depth) (s .walker .height) t ≡ v
-      → nestedProbe targets starts words s
-      ≡ choose v (withWalker (probed s) (closed (s .walker) (getD (s .depth) t 0))) (choose (eqb (getD (s .stamp) t 0) none) (deepen (probed s) t) (withWalker (probed s) (skipped (s .walker))))
+  nested-probes : (s : Core) (t : ℕ) → targetOf game s ≡ t → nestedProbe game s ≡ probes-to s t
   unfolding nestedProbe
-  nested-probes s t v e f =
-      ap (λ (y : ℕ). choose (onOpenPath (s .walk) (s .depth) (s .walker .height) y) (withWalker (probed s) (closed (s .walker) (getD (s .depth) y 0)))
-      (choose (eqb (getD (s .stamp) y 0) none) (deepen (probed s) y) (withWalker (probed s) (skipped (s .walker))))) e
-      ∙ ap (λ (y : Bool). choose y (withWalker (probed s) (closed (s .walker) (getD (s .depth) t 0)))
-      (choose (eqb (getD (s .stamp) t 0) none) (deepen (probed s) t) (withWalker (probed s) (skipped (s .walker))))) f
-
-  -- the walk begins with the open path, while a nested search runs
-  path-first : (s : Core) (b : ℕ) (p : List Frame) (x : ℕ) (ts : List ℕ) (q : List Frame) → Linked g b x q → Begins (statesOf p ++ statesOf (frame x ts ∷ q)) (s .walk) → Begins (statesOf (frame b [] ∷ p)) (s .walk)
-  path-first s b p x ts q c (rest, w) =
-      let v = path-run g q b x ts c in
-      (v .0 ++ rest, w ∙ ap (λ (l : List ℕ). l ++ rest) (ap (λ (l : List ℕ). statesOf p ++ l) (v .1)) ∙ append-assoc (statesOf p) (b ∷ v .0) rest ∙ sym (top-first b [] p (v .0 ++ rest)))
+  nested-probes s t e = ap (probes-to s) e
 
   -- ONE STEP of the arrays is one step of the plain search, and notes what that notes
   pub one-step : (s : Core) (r : Notes) (c : Config) → Inv g c → ShapeOf g r c → Counted g r c → Limits g c → Limits g (stepOf g c) → Records s r c → Stands g s c
-      → Fits g (step targets starts words s) (noted g c r) (stepOf g c)
+      → Fits g (step game s) (noted g c r) (stepOf g c)
   unfolding stepOf noted
   one-step s r (outer [] d k l) v z n u u′ h a =
-      rw (sym (step-at targets starts words s Outer (a .0)), outer-end targets starts words s (a .1))
-      (records-idle s r (outer [] d k l) (ended d k l) (exhausted (s .walker)) (s .spent) refl refl refl (h .probes-right) h, refl)
+      rw (sym (step-at game s Outer (a .0)), outer-end game s (a .1))
+      (records-idle s r (outer [] d k l) (ended d k l) (exhausted (s .walker)) (s .spent) refl refl refl refl (h .probes-right) h, (refl, refl))
   one-step s r (outer (frame x [] ∷ p) d k l) (o, w) z n u u′ h a =
-      rw (sym (step-at targets starts words s Outer (a .phase-is)), outer-last targets starts words s (omega (arith, a .height-is)) (edges-done s x (a .cur-is) (no-edge (g .successors x) (s .walker .next) (a .pending-is))), accepts-is s x (a .cur-is))
+      rw (sym (step-at game s Outer (a .phase-is)), outer-last game s (omega (arith, a .height-is)) (edges-done s x (a .cur-is) (no-edge (g .successors x) (s .walker .next) (a .pending-is))), accepts-is s x (a .cur-is))
       (finish-fits (g .accepting x) s r x p d k l o w (z .0) u h a)
   one-step s r (outer (frame x (t ∷ ts) ∷ p) d k l) (o, w) z n u u′ h a =
       let e = edge-left (g .successors x) (s .walker .next) t ts (a .pending-is) in
-      rw (sym (step-at targets starts words s Outer (a .phase-is)), outer-edge targets starts words s (omega (arith, a .height-is)) (has-edge s x (a .cur-is) (e .there)), outer-probes s t (target-is s x t (a .cur-is) (e .target)))
+      rw (sym (step-at game s Outer (a .phase-is)), outer-edge game s (omega (arith, a .height-is)) (has-edge s x (a .cur-is) (e .there)), outer-probes s t (target-is s x t (a .cur-is) (e .target)))
       (visit-fits (elem t d) s r x t ts p d k l refl o n u u′ h a)
   one-step s r (nested b p [] d k l) (o, (old, w)) z n u u′ h a =
-      rw (sym (step-at targets starts words s Nested (a .phase-is)), nested-end targets starts words s (omega (arith, a .top-is, a .height-is)))
-      (nested-leave s r b p d k l u (o .known b (on-head b [] p)) (z .0) h a)
-  one-step s r (nested b p (frame x [] ∷ q) d k l) (o, (old, w)) z n u u′ h a =
-      rw (sym (step-at targets starts words s Nested (a .phase-is)), nested-last targets starts words s (omega (arith, a .top-is, a .height-is)) (edges-done s x (a .cur-is) (no-edge (g .successors x) (s .walker .next) (a .pending-is))))
-      (nested-back s r b p x q d k l (w .chain) h a)
+      rw (sym (step-at game s Nested (a .phase-is)), nested-end game s (omega (arith, a .top-is, a .height-is)))
+      (nested-leave s r b p d k l u (o .known b (on-head b [] p)) (w .base) (z .0) h a)
+  one-step s r (nested b p (frame x [] ∷ []) d k l) (o, (old, w)) z n u u′ h a =
+      rw (sym (step-at game s Nested (a .phase-is)), nested-out game s (omega (arith, a .top-is, a .height-is)) (edges-done s x (a .cur-is) (no-edge (g .successors x) (s .walker .next) (a .pending-is))))
+      (nested-empty s r b p x d k l (w .chain) h a)
+  one-step s r (nested b p (frame x [] ∷ frame y us ∷ q) d k l) (o, (old, w)) z n u u′ h a =
+      rw (sym (step-at game s Nested (a .phase-is)), nested-last game s (omega (arith, a .top-is, a .height-is)) (edges-done s x (a .cur-is) (no-edge (g .successors x) (s .walker .next) (a .pending-is))))
+      (nested-back s r b p x y us q d k l u h a)
   one-step s r (nested b p (frame x (t ∷ ts) ∷ q) d k l) (o, (old, w)) z n u u′ h a =
       let e = edge-left (g .successors x) (s .walker .next) t ts (a .pending-is) in
       let test = on-test (s .walk) (s .depth) (s .walker .height) t (frame b [] ∷ p) (a .height-is) (path-first s b p x (t ∷ ts) q (w .chain) (a .walk-is)) (a .places) in
-      rw (sym (step-at targets starts words s Nested (a .phase-is)), nested-edge targets starts words s (omega (arith, a .top-is, a .height-is)) (has-edge s x (a .cur-is) (e .there)), nested-probes s t (onPath t (frame b [] ∷ p)) (target-is s x t (a .cur-is) (e .target)) test)
-      (probe-fits (onPath t (frame b [] ∷ p)) (elem t k) s r b p x t ts q d k l refl refl o old w n u u′ h a)
-  one-step s r (ended d k l) v z n u u′ h a = rw (sym (step-at targets starts words s Exhausted a)) (h, a)
-  one-step s r (found y p q d k l) v z n u u′ h a = rw (sym (step-at targets starts words s Found (a .phase-is))) (h, a)
+      rw (sym (step-at game s Nested (a .phase-is)), nested-edge game s (omega (arith, a .top-is, a .height-is)) (has-edge s x (a .cur-is) (e .there)), nested-probes s t (target-is s x t (a .cur-is) (e .target)))
+      (probe-fits (onPath t (frame b [] ∷ p)) (elem t k) s r b p x t ts q d k l refl refl test o old w n u u′ h a)
+  one-step s r (ended d k l) v z n u u′ h a = rw (sym (step-at game s Exhausted (a .0))) (h, a)
+  one-step s r (found y p q d k l) v z n u u′ h a = rw (sym (step-at game s Found (a .phase-is))) (h, a)

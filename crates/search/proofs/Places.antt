@@ -15,7 +15,8 @@ use Rattle.plain.proofs.Tests.{contra, either, not-true, same, self, and-true, 
 use Rattle.plain.proofs.Paths.{On, Off, Distinct, on-cases}
 use Rattle.plain.proofs.Lassos.{on-states, states-on, before-hit, before-miss}
 use Rattle.search.specs.Core.{onOpenPath}
-use Rattle.search.proofs.Represents.{Begins, Placed, Cursors}
+use Rattle.search.specs.Archive.{Begins}
+use Rattle.search.proofs.Represents.{Placed, Cursors}
 
 -- ---- the walk
 
@@ -125,6 +126,6 @@ stem-length depth t (frame y ts ∷ p) h d o = ⊎-elim
 pub cursors-set : (g : Graph) (base i v : ℕ) (cursor : List ℕ) (q : List Frame) → base + length q ≤ i → Cursors g base cursor q → Cursors g base (set cursor i v) q
 cursors-set g base i v cursor [] h c = tt
 cursors-set g base i v cursor (frame y us ∷ q) h c = (
-  c .0 ∙ ap (λ (k : ℕ). drop k (g .successors y)) (sym (getD-set-other cursor i (base + length q) v 0 (λ e. omega arith))),
+  c .0 ∙ ap (λ (k : ℕ). drop (suc k) (g .successors y)) (sym (getD-set-other cursor i (base + length q) v 0 (λ e. omega arith))),
   cursors-set g base i v cursor q (omega arith) (c .1),
 )

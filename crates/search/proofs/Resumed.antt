@@ -1,5 +1,5 @@
 -- The search of the arrays is the plain search: from its beginning, and from where it is resumed after a change. Assumes nothing.
-use mathlib.Core.Path.{_≡_, refl, sym, subst, _∙_}
+use mathlib.Core.Path.{_≡_, refl, sym, ap, subst, _∙_}
 use mathlib.Core.Logic.{⊎-elim}
 use mathlib.Core.Bool.{Bool, true, false}
 use mathlib.Core.List.{List, [], _∷_, _++_}
@@ -11,32 +11,34 @@ use lib.ListN.{length, getD, set, drop, replicate, length-append, length-set, le
 use lib.Seq.{getD-set-same, getD-set-other}
 use borrow.Author.Tests.{leb-true, leb-false}
 use Rattle.plain.specs.Lists.{filter, elem, In}
-use Rattle.plain.specs.Search.{Graph, frame, onPath, Config, outer, nested, exhausted, found, discoveredOf, markedOf, steps, run, statesOf}
-use Rattle.plain.specs.Notes.{Note, Notes, notes}
+use Rattle.plain.specs.Search.{Graph, Edge, Frame, frame, onPath, Config, outer, nested, exhausted, found, discoveredOf, markedOf, visit, finish, probe, step as stepOf, steps, run, statesOf}
+use Rattle.plain.specs.Notes.{Note, Notes, notes, Faithful}
 use Rattle.plain.proofs.Tests.{contra, either, not-true, in-nil, in-head, in-tail, in-cases, in-one, filter-yes, filter-no, in-append}
 use Rattle.plain.proofs.Invariant.{Inv, inv-run}
 use Rattle.plain.proofs.Lassos.{states-on, once-states, walk-once}
 use Rattle.plain.proofs.Bounds.{left, once-short, run-within, discovered-few, probes-twice}
 use Rattle.plain.proofs.Prefix.{discovery, Agree, FirstMeeting}
 use Rattle.plain.proofs.Restore.{Restored, noted-run}
-use Rattle.plain.proofs.Resume.{Holds, resumed, resumed-from}
-use Rattle.search.specs.Core.{Core, none, runFor, step, rewound, Kept}
+use Rattle.plain.proofs.Resume.{resumed, resumed-from}
+use Rattle.search.specs.Core.{noNumber, Game, Core, runFor, step, rewound, Lengths}
+use Rattle.search.specs.Archive.{rootOf, stampIn, notesOf, Archived}
 use Rattle.search.proofs.Represents.{Matches, Limits, WalkFew}
 use Rattle.search.proofs.Places.{states-length}
-use Rattle.search.proofs.OneStep.{Fits, one-step}
-use Rattle.search.proofs.Rewind.{notesOf, Resumable, rewound-fits}
+use Rattle.search.proofs.OneStep.{Fits, one-step, stamp-there, stamp-root}
+use Rattle.search.proofs.Rewound.{chain-same, Resumable, rewound-fits}
 
--- a graph of at most 512 states and 2,048 edges
-pub record Small (g : Graph) : Type 0 where
+-- a graph of states below a size of at most 512, with at most 2,048 edges
+pub record Small (g : Graph) (size : ℕ) : Type 0 where
   pub us : List ℕ
   pub start-in : In (g .start) us
   pub stays : (x y : ℕ) → In x us → In y (g .successors x) → In y us
-  pub below : (x : ℕ) → In x us → x < 512
+  pub below : (x : ℕ) → In x us → x < size
+  pub size-few : size ≤ 512
   pub few : length us ≤ 512
   pub rows-short : (v : ℕ) → length (g .successors v) ≤ 2048
   pub edges-few : left (λ x. length (g .successors x)) [] us ≤ 2048
 
-module _ (g : Graph) (b : Small g) where
+module _ (g : Graph) (size : ℕ) (b : Small g size) where
   -- the states of the open path and of the nested search's path fit the walk
   walk-fits : (c : Config) → Inv g c → ((x : ℕ) → In x (discoveredOf c) → In x (b .us)) → WalkFew g c
   unfolding onPath
@@ -66,40 +68,73 @@ module _ (g : Graph) (b : Small g) where
   walk-fits (exhausted d k l) v w = tt
   walk-fits (found h p q d k l) v w = tt
 
+  -- what is discovered lies below the size
+  within : (n x : ℕ) → In x (discoveredOf (run g n)) → x < size
+  within n x i = b .below x (run-within g (b .us) (b .start-in) (b .stays) n x i)
+
   pub limits : (n : ℕ) → Limits g (run g n)
   limits n = record {
-    below = λ x i. b .below x (run-within g (b .us) (b .start-in) (b .stays) n x i);
+    below = λ x i. omega (arith, within n x i, b .size-few);
     few = omega (arith, b .few, discovered-few g (b .us) (b .start-in) (b .stays) n);
     probes-few = omega (arith, b .edges-few, probes-twice g (b .us) (b .start-in) (b .stays) n);
     rows-short = b .rows-short;
     walk-few = walk-fits (run g n) (inv-run g n) (run-within g (b .us) (b .start-in) (b .stays) n);
   }
 
-  module _ (targets starts words : List ℕ) (m : Matches g targets starts words) where
+  module _ (game : Game) (m : Matches g game) where
     -- n steps of the plain search are behind the arrays
     abbrev pub At : ℕ → Core → Type 0
     At n s = Fits g s (notes g n) (run g n)
 
-    at-next : (n : ℕ) (s : Core) → At n s → At (suc n) (step targets starts words s)
+    at-next : (n : ℕ) (s : Core) → At n s → At (suc n) (step game s)
     unfolding notes steps
     at-next n s a =
         let w = noted-run g n in
-        one-step g targets starts words m s (notes g n) (run g n) (inv-run g n) (w .shape) (w .counted) (limits n) (limits (suc n)) (a .0) (a .1)
+        one-step g game m s (notes g n) (run g n) (inv-run g n) (w .shape) (w .counted) (limits n) (limits (suc n)) (a .0) (a .1)
 
     -- THE SEARCH of the arrays is the plain search: j steps more
-    pub at-run : (j n : ℕ) (s : Core) → At n s → At (n + j) (runFor targets starts words j s)
+    pub at-run : (j n : ℕ) (s : Core) → At n s → At (n + j) (runFor game j s)
     unfolding runFor
     at-run zero n s a = rw add-zero a
-    at-run (suc j) n s a = subst (λ (i : ℕ). At i (runFor targets starts words j (step targets starts words s))) (suc-add n j ∙ sym (add-suc n j)) (at-run j (suc n) (step targets starts words s) (at-next n s a))
+    at-run (suc j) n s a = subst (λ (i : ℕ). At i (runFor game j (step game s))) (suc-add n j ∙ sym (add-suc n j)) (at-run j (suc n) (step game s) (at-next n s a))
+
+-- ---- what is marked is discovered
+
+module _ (g : Graph) where
+  abbrev Known : Config → Type 0
+  Known c = (x : ℕ) → In x (markedOf c) → In x (discoveredOf c)
+
+  visit-known : (b : Bool) (s t : ℕ) (ts : List ℕ) (p : List Frame) (d k : List ℕ) (l : List Edge) → Inv g (visit g b s t ts p d k l) → Known (visit g b s t ts p d k l)
+  visit-known true s t ts p d k l (o, m) x i = m .done x i .0
+  visit-known false s t ts p d k l (o, m) x i = m .done x i .0
+
+  finish-known : (b : Bool) (s : ℕ) (p : List Frame) (d k : List ℕ) (l : List Edge) → Inv g (finish g b s p d k l) → Known (finish g b s p d k l)
+  finish-known true s p d k l (o, (old, m)) x i = m .done x i .0
+  finish-known false s p d k l (o, m) x i = m .done x i .0
+
+  probe-known : (a b : Bool) (s : ℕ) (p : List Frame) (x t : ℕ) (ts : List ℕ) (q : List Frame) (d k : List ℕ) (l : List Edge) → Inv g (probe g a b s p x t ts q d k l)
+      → Known (outer p d k l) → Known (probe g a b s p x t ts q d k l)
+  probe-known true b s p x t ts q d k l v h = h
+  probe-known false true s p x t ts q d k l (o, (old, m)) h = λ y i. m .done y i .0
+  probe-known false false s p x t ts q d k l (o, (old, m)) h = λ y i. m .done y i .0
+
+  step-known : (c : Config) → Inv g (stepOf g c) → Known c → Known (stepOf g c)
+  unfolding stepOf
+  step-known (outer [] d k l) v h = h
+  step-known (outer (frame s [] ∷ p) d k l) v h = finish-known (g .accepting s) s p d k l v
+  step-known (outer (frame s (t ∷ ts) ∷ p) d k l) v h = visit-known (elem t d) s t ts p d k ((s, t) ∷ l) v
+  step-known (nested s p [] d k l) v h = h
+  step-known (nested s p (frame x [] ∷ q) d k l) v h = h
+  step-known (nested s p (frame x (t ∷ ts) ∷ q) d k l) v h = probe-known (onPath t (frame s [] ∷ p)) (elem t k) s p x t ts q d k ((x, t) ∷ l) v h
+  step-known (exhausted d k l) v h = h
+  step-known (found t p q d k l) v h = h
+
+  marked-known : (n : ℕ) → Known (run g n)
+  unfolding steps
+  marked-known zero = λ x i. absurd (in-nil x i)
+  marked-known (suc n) = step-known (run g n) (inv-run g (suc n)) (marked-known n)
 
 -- ---- what outlives a search
-
--- arrays that hold the notes of a search of n steps, and nothing else
-pub record Archived (g : Graph) (n : ℕ) (number parent index probes stamp walk : List ℕ) : Type 0 where
-  pub sizes : Kept number parent index probes stamp walk
-  pub holds : Holds g (notesOf number parent index probes stamp) n
-  pub undiscovered : (x : ℕ) → x < 512 → elem x (discoveredOf (run g n)) ≡ false → getD number x 0 ≡ none
-  pub unmarked : (x : ℕ) → x < 512 → elem x (markedOf (run g n)) ≡ false → getD stamp x 0 ≡ none
 
 pub archived : (g : Graph) (n : ℕ) (s : Core) → Fits g s (notes g n) (run g n) → Archived g n (s .number) (s .parent) (s .index) (s .probes) (s .stamp) (s .walk)
 archived g n s (h, a) = record {
@@ -114,6 +149,7 @@ archived g n s (h, a) = record {
   holds = record { notes-right = h .notes-right; stamps-right = h .stamps-right };
   undiscovered = h .undiscovered;
   unmarked = h .unmarked;
+  root-unmarked = h .root-unmarked;
 }
 
 -- ---- the part of a list that is numbered up to m
@@ -140,60 +176,113 @@ numbered-out f m xs ys e x o other = ⊎-elim
     (λ i. leb-false (f x) m (not-true (leb (f x) m) (λ t. contra (rw e (in-filter (λ y. leb (f y) m) x ys i t)) o)))
     other (either (elem x ys))
 
+filter-nil : (p : ℕ → Bool) → filter p [] ≡ []
+unfolding filter
+filter-nil p = refl
+
+filter-short : (p : ℕ → Bool) (xs : List ℕ) → length (filter p xs) ≤ length xs
+filter-short p [] = omega (arith, ap length (filter-nil p))
+filter-short p (x ∷ xs) = ⊎-elim
+    (λ e. omega (arith, ap length (filter-yes p x xs e), filter-short p xs))
+    (λ e. omega (arith, ap length (filter-no p x xs e), filter-short p xs)) (either (p x))
+
 -- ---- a search is resumed
 
-module _ (named : List ℕ) (g h : Graph) (a : Agree named g h) (b : Small h) (n : ℕ) (number parent index probes stamp walk : List ℕ)
-    (f : Archived g n number parent index probes stamp walk) (w : FirstMeeting named g h a n) where
+module _ (size : ℕ) (named : List ℕ) (g h : Graph) (a : Agree named g h) (small : Small g size) (b : Small h size) (n : ℕ)
+    (number parent index probes stamp walk : List ℕ) (f : Archived g n number parent index probes stamp walk) (w : FirstMeeting named g h a n) where
   abbrev r : Notes
-  r = notesOf number parent index probes stamp
+  r = notesOf (run g n) number parent index probes stamp
 
   abbrev s : ℕ
   s = w .meeting .state
 
+  -- a state that is in the archive's place of a nested search's first state was not marked before s was discovered: its stamp is above the limit
+  module _ (q : Restored h r s (run h (w .at)) (run g n)) where
+    earlier-few : suc (length (q .earlier)) ≤ length (discoveredOf (run g n))
+    earlier-few = omega (arith, ap length (q .earlier-are), filter-short (λ x. leb (getD number x 0) (length (q .earlier))) (discoveredOf (run g n)))
+
+    not-root : (x : ℕ) → In x (q .marked) → elem x (rootOf (run g n)) ≡ false
+    not-root x i = not-true (elem x (rootOf (run g n))) (λ j. absurd (late j))
+      where
+        late : In x (rootOf (run g n)) → ⊥
+        late j = omega (
+          arith,
+          numbered-in (stampIn (run g n) stamp) (length (q .earlier)) (q .marked) (markedOf (run g n)) (q .marked-are) x i,
+          stamp-root (run g n) stamp x j,
+          earlier-few,
+        )
+
+    marked-stamp : (x : ℕ) → In x (q .marked) → stampIn (run g n) stamp x ≡ getD stamp x 0
+    marked-stamp x i = stamp-there (run g n) stamp x (not-root x i)
+
+    stamped-late : (x : ℕ) → x < 512 → length (q .earlier) < 512 → elem x (q .marked) ≡ false → length (q .earlier) < getD stamp x 0
+    stamped-late x l few o = ⊎-elim
+        (λ j. omega (arith, f .root-unmarked x j))
+        (λ j. omega (
+          arith,
+          stamp-there (run g n) stamp x j,
+          numbered-out (stampIn (run g n) stamp) (length (q .earlier)) (q .marked) (markedOf (run g n)) (q .marked-are) x o
+              (λ z. omega (arith, stamp-there (run g n) stamp x j, f .unmarked x l z)),
+        ))
+        (either (elem x (rootOf (run g n))))
+
   resumable : (q : Restored h r s (run h (w .at)) (run g n)) → Limits h (discovery h s (q .path) (q .earlier) (q .marked) (q .probes))
-      → Resumable h (notes h (w .at)) s (q .path) (q .earlier) (q .marked) (q .probes) number parent index probes stamp walk
+      → Resumable h (notes h (w .at)) size s (q .path) (q .earlier) (q .marked) (q .probes) number parent index probes stamp walk
   resumable q u =
-      let t : Holds h r (w .at) = resumed named g h a r n (f .holds) w in
+      let t : Faithful h r (w .at) = resumed named g h a r n (f .holds) w in
       record {
         sizes = f .sizes;
-        below = q .below;
+        below = chain-same h (run g n) number parent index probes stamp s (q .path) (q .below);
         number-is = q .number;
         probes-are = q .probe-count;
         numbered = numbered-in (λ x. getD number x 0) (length (q .earlier)) (s ∷ q .earlier) (discoveredOf (run g n)) (q .earlier-are);
         numbered-later = λ x l o. numbered-out (λ x. getD number x 0) (length (q .earlier)) (s ∷ q .earlier) (discoveredOf (run g n)) (q .earlier-are) x o
             (λ z. omega (arith, f .undiscovered x l z, u .few));
-        stamped = numbered-in (λ x. getD stamp x 0) (length (q .earlier)) (q .marked) (markedOf (run g n)) (q .marked-are);
-        stamped-later = λ x l o. numbered-out (λ x. getD stamp x 0) (length (q .earlier)) (q .marked) (markedOf (run g n)) (q .marked-are) x o
-            (λ z. omega (arith, f .unmarked x l z, u .few));
+        stamped = λ x i. omega (
+          arith,
+          marked-stamp q x i,
+          numbered-in (stampIn (run g n) stamp) (length (q .earlier)) (q .marked) (markedOf (run g n)) (q .marked-are) x i,
+        );
+        stamped-later = λ x l o. stamped-late q x l (omega (arith, u .few)) o;
         notes-right = λ x i. t .notes-right x (rw (q .is) i);
-        stamps-right = λ x i. t .stamps-right x (rw (q .is) i);
+        stamps-right = λ x i. sym (marked-stamp q x i) ∙ t .stamps-right x (rw (q .is) i);
+        beyond = λ x l z. (f .undiscovered x l (unmet x z), f .unmarked x l (not-true (elem x (markedOf (run g n))) (λ i. contra (known x i) (unmet x z))));
       }
+    where
+      unmet : (x : ℕ) → size ≤ x → elem x (discoveredOf (run g n)) ≡ false
+      unmet x z = not-true (elem x (discoveredOf (run g n))) (λ i. omega (arith, within g size small n x i))
+
+      known : (x : ℕ) → In x (markedOf (run g n)) → In x (discoveredOf (run g n))
+      known x i = marked-known g n x i
 
   -- the rewound arrays stand where the new search first meets a named state
-  pub resume-fits : Fits h (rewound (h .start) s 0 number parent index probes stamp walk) (notes h (w .at)) (run h (w .at))
+  pub resume-fits : Fits h (rewound size (h .start) s 0 number parent index probes stamp walk) (notes h (w .at)) (run h (w .at))
   resume-fits =
       let q = resumed-from named g h a r n (f .holds) w in
-      let u : Limits h (discovery h s (q .path) (q .earlier) (q .marked) (q .probes)) = rw (q .is) at (limits h b (w .at)) in
+      let u : Limits h (discovery h s (q .path) (q .earlier) (q .marked) (q .probes)) = rw (q .is) at (limits h size b (w .at)) in
       let v : Inv h (discovery h s (q .path) (q .earlier) (q .marked) (q .probes)) = rw (q .is) at (inv-run h (w .at)) in
-      subst (λ (c : Config). Fits h (rewound (h .start) s 0 number parent index probes stamp walk) (notes h (w .at)) c) (sym (q .is))
-      (rewound-fits h (notes h (w .at)) s (q .path) (q .earlier) (q .marked) (q .probes) number parent index probes stamp walk (resumable q u) v u)
+      subst (λ (c : Config). Fits h (rewound size (h .start) s 0 number parent index probes stamp walk) (notes h (w .at)) c) (sym (q .is))
+      (rewound-fits h (notes h (w .at)) size s (q .path) (q .earlier) (q .marked) (q .probes) number parent index probes stamp walk (resumable q u) v u)
 
 -- ---- a search is begun
 
-module _ (g : Graph) (b : Small g) (walk : List ℕ) (size : length walk ≡ 512) where
+module _ (size : ℕ) (g : Graph) (b : Small g size) (walk : List ℕ) (walk-long : length walk ≡ 512) where
+  start-small : g .start < size
+  start-small = b .below (g .start) (b .start-in)
+
   start-below : g .start < 512
-  start-below = b .below (g .start) (b .start-in)
+  start-below = omega (arith, start-small, b .size-few)
 
   abbrev blank : List ℕ
-  blank = set (replicate 512 none) (g .start) 0
+  blank = set (replicate 512 noNumber) (g .start) 0
 
   blank-size : length blank ≡ 512
-  blank-size = length-set (replicate 512 none) (g .start) 0 ∙ length-replicate 512 none
+  blank-size = length-set (replicate 512 noNumber) (g .start) 0 ∙ length-replicate 512 noNumber
 
   blank-start : getD blank (g .start) 0 ≡ 0
-  blank-start = getD-set-same (replicate 512 none) (g .start) 0 0 (omega (arith, start-below, length-replicate 512 none))
+  blank-start = getD-set-same (replicate 512 noNumber) (g .start) 0 0 (omega (arith, start-below, length-replicate 512 noNumber))
 
-  begins : Resumable g (notes g 0) (g .start) [] [] [] [] blank (replicate 512 (g .start)) (replicate 512 0) (replicate 512 0) (replicate 512 none) walk
+  begins : Resumable g (notes g 0) size (g .start) [] [] [] [] blank (replicate 512 (g .start)) (replicate 512 0) (replicate 512 0) (replicate 512 noNumber) walk
   unfolding notes
   begins = record {
     sizes = record {
@@ -201,24 +290,25 @@ module _ (g : Graph) (b : Small g) (walk : List ℕ) (size : length walk ≡ 512
       parent-size = length-replicate 512 (g .start);
       index-size = length-replicate 512 zero;
       probes-size = length-replicate 512 zero;
-      stamp-size = length-replicate 512 none;
-      walk-size = size;
+      stamp-size = length-replicate 512 noNumber;
+      walk-size = walk-long;
     };
     below = refl;
     number-is = blank-start;
     probes-are = getD-replicate 512 (g .start) zero zero start-below;
     numbered = λ x i. let e : x ≡ g .start = in-one x (g .start) i in rw e (omega (arith, blank-start));
-    numbered-later = λ x l o. omega (arith, getD-set-other (replicate 512 none) (g .start) x 0 0 (λ e. contra (rw e (in-head (g .start) [])) o), getD-replicate 512 x none 0 l);
+    numbered-later = λ x l o. omega (arith, getD-set-other (replicate 512 noNumber) (g .start) x 0 0 (λ e. contra (rw e (in-head (g .start) [])) o), getD-replicate 512 x noNumber 0 l);
     stamped = λ x i. absurd (in-nil x i);
-    stamped-later = λ x l o. omega (arith, getD-replicate 512 x none 0 l);
+    stamped-later = λ x l o. omega (arith, getD-replicate 512 x noNumber 0 l);
     notes-right = λ x i. let e : x ≡ g .start = in-one x (g .start) i in rw e (same blank-start (getD-replicate 512 (g .start) (g .start) 0 start-below) (getD-replicate 512 (g .start) zero zero start-below));
     stamps-right = λ x i. absurd (in-nil x i);
+    beyond = λ x l z. (getD-set-other (replicate 512 noNumber) (g .start) x 0 0 (λ e. omega (arith, start-small)) ∙ getD-replicate 512 x noNumber 0 l, getD-replicate 512 x noNumber 0 l);
   }
     where
       same : {a c d : ℕ} → a ≡ 0 → c ≡ g .start → d ≡ 0 → _≡_ {A = Note} (record { number = a; parent = c; index = d; probes = d }) (record { number = 0; parent = g .start; index = 0; probes = 0 })
       same p q t = λ i. record { number = p i; parent = q i; index = t i; probes = t i }
 
   -- blank arrays, with the start state numbered 0, stand for the beginning of the search
-  pub begin-fits : Fits g (rewound (g .start) (g .start) 0 blank (replicate 512 (g .start)) (replicate 512 0) (replicate 512 0) (replicate 512 none) walk) (notes g 0) (run g 0)
+  pub begin-fits : Fits g (rewound size (g .start) (g .start) 0 blank (replicate 512 (g .start)) (replicate 512 0) (replicate 512 0) (replicate 512 noNumber) walk) (notes g 0) (run g 0)
   unfolding steps
-  begin-fits = rewound-fits g (notes g 0) (g .start) [] [] [] [] blank (replicate 512 (g .start)) (replicate 512 0) (replicate 512 0) (replicate 512 none) walk begins (inv-run g 0) (limits g b 0)
+  begin-fits = rewound-fits g (notes g 0) size (g .start) [] [] [] [] blank (replicate 512 (g .start)) (replicate 512 0) (replicate 512 0) (replicate 512 noNumber) walk begins (inv-run g 0) (limits g size b 0)

@@ -1,96 +1,271 @@
--- Several steps at once: the loops of a scan and of `run`, in steps of the model. Assumes nothing.
+-- Several steps at once: a scan, the step behind it, and the loops of the phases, in steps of the model. Assumes nothing.
 use mathlib.Core.Path.{_≡_, refl, sym, ap, subst, _∙_}
-use mathlib.Core.Bool.{true, false}
-use mathlib.Core.List.{List}
+use mathlib.Core.Logic.{⊎-elim}
+use mathlib.Core.Bool.{Bool, true, false, _&&_}
+use mathlib.Core.List.{List, []}
 use Prim.Native.Nat.{ℕ, zero, suc, _+_, _-_, _≤_, _<_}
-use native.Mathlib.Nat.{zero-add}
+use native.Mathlib.Nat.{add-zero, add-suc, zero-add}
 use native.Mathlib.Omega.{arith}
-use lib.ListN.{getD}
-use Rattle.plain.proofs.Tests.{contra}
+use lib.Dec.{ltb, leb}
+use lib.ListN.{length, getD}
+use borrow.Author.Tests.{ltb-true, ltb-false, leb-true, leb-false, lt-ltb, le-ltb, le-leb, lt-leb}
+use Rattle.plain.specs.Table.{accepts}
+use Rattle.plain.proofs.Tests.{contra, either, and-true}
 use Rattle.rows.specs.Rows.{degreeAt, rowAt}
+use Rattle.rows.proofs.Paste.{same-place}
+use Rattle.rows.proofs.Entries.{row-length, row-at}
 use Rattle.search.specs.declared.Phase.{Phase}
 use Rattle.search.specs.declared.Phase.the-variants.{Outer, Nested, Exhausted, Found}
+use Rattle.search.specs.declared.Row.{Row}
 use Rattle.search.specs.declared.Scanned.{Scanned}
 use Rattle.search.specs.declared.Walker.{Walker}
-use Rattle.search.specs.Core.{Core, Sized, none, up, coreOf, placed, returned, closed, discover, deepen, finish, onOpenPath, outerStopped, nestedStopped, over, outerStep, nestedStep, step, runFor, Advanced, Ran, Outwards, Inwards, standing, Skips, Hands, Edge, Swept}
-use Rattle.search.proofs.Represents.{up-more}
-use Rattle.search.proofs.Ways.{same-walker, same-core, outer-discovers, outer-skips, outer-finishes, nested-closes, nested-deepens, nested-skips, nested-returns, step-at, run-over, run-sized}
+use Rattle.search.specs.Core.{noNumber, Game, gameOf, fits, rowIn, rowOf, Core, Sized, coreOf, up, raised, placed, skipped, finished, returned, emptied, closed, withWalker, probed, discover, deepen, leaveRoot, goBack, finish, onOpenPath, outerStopped, nestedStopped, over, outerStep, nestedStep, step, runFor, Spans, Places, Skips, Hits, Swept, Deep, Advanced, Result, result, Ran}
+use Rattle.search.proofs.Counting.{raised-none, raised-next, raised-up}
+use Rattle.search.proofs.Ways.{same-walker, same-core, outer-discovers, outer-skips, outer-finishes, nested-closes, nested-deepens, nested-skips, nested-returns, nested-empties, nested-leaves, step-at, run-over, run-sized, finished-deep, discover-deep, deepen-deep, found-deep, back-deep}
+
+-- ---- the row of a state, by its places
+
+-- what `row_of` reads, on each of its ways
+module _ (starts : List ℕ) (v i : ℕ) (is : i ≡ v) where
+  pub spans-whole : (from stop : ℕ) → i < 512 → stop ≤ 2048 → from ≡ getD starts v 0 → stop ≡ getD starts (suc v) 0 → from < 65536
+      → Spans starts v (record { from = from; stop = stop })
+  spans-whole from stop low short e f small = record {
+    whole = λ y. (e, f);
+    empty = λ y. absurd (contra (both (lt-ltb v 512 (omega arith)) (le-leb (getD starts (suc v) 0) 2048 (omega arith))) y);
+    from-small = small;
+    stop-small = short;
+  }
+    where
+      both : ltb v 512 ≡ true → leb (getD starts (suc v) 0) 2048 ≡ true → fits starts v ≡ true
+      both p q = rw (p, q)
+
+  none-there : fits starts v ≡ false → Spans starts v (record { from = 0; stop = 0 })
+  none-there f = record {
+    whole = λ y. absurd (contra y f);
+    empty = λ y. (refl, refl);
+    from-small = omega arith;
+    stop-small = omega arith;
+  }
+
+  pub spans-long : (stop : ℕ) → 2048 < stop → stop ≡ getD starts (suc v) 0 → Spans starts v (record { from = 0; stop = 0 })
+  spans-long stop long f = none-there (second (ltb v 512) (lt-leb (getD starts (suc v) 0) 2048 (omega arith)))
+    where
+      second : (b : Bool) {d : Bool} → d ≡ false → b && d ≡ false
+      second true e = e
+      second false e = refl
+
+  pub spans-past : 512 ≤ i → Spans starts v (record { from = 0; stop = 0 })
+  spans-past high = none-there (first-off (le-ltb v 512 (omega arith)))
+    where
+      first-off : ltb v 512 ≡ false → fits starts v ≡ false
+      first-off e = rw e
+
+-- the row of v where it fits; none where it does not
+module _ (targets starts : List ℕ) (v : ℕ) where
+  row-whole : fits starts v ≡ true → rowIn targets starts v ≡ rowAt targets starts v
+  unfolding rowIn
+  row-whole e = rw e
+
+  row-none : fits starts v ≡ false → rowIn targets starts v ≡ []
+  unfolding rowIn
+  row-none e = rw e
+
+  -- what stands at the places of a row is the row
+  module _ (r : Row) (z : Spans starts v r) where
+    pub row-size : length (rowIn targets starts v) ≡ r .stop - r .from
+    row-size = ⊎-elim
+        (λ e. omega (arith, ap length (row-whole e), row-length targets starts v, z .whole e .0, z .whole e .1))
+        (λ e. omega (arith, ap length (row-none e), z .empty e .0, z .empty e .1)) (either (fits starts v))
+
+    -- an edge of the row, at its place
+    module _ (k : ℕ) (edge : k < r .stop - r .from) where
+      fit : fits starts v ≡ true
+      fit = ⊎-elim (λ e. e) (λ e. absurd (omega (arith, z .empty e .0, z .empty e .1))) (either (fits starts v))
+
+      pub first-is : r .from ≡ getD starts v 0
+      first-is = z .whole fit .0
+
+      pub entry-is : getD (rowIn targets starts v) k 0 ≡ getD targets (r .from + k) 0
+      entry-is =
+          let e = first-is in
+          ap (λ (row : List ℕ). getD row k 0) (row-whole fit)
+          ∙ row-at targets starts v k (omega (arith, z .whole fit .0, z .whole fit .1))
+          ∙ same-place targets (omega arith)
+
+-- rows that a table has fit
+pub row-fits : (targets starts : List ℕ) (v : ℕ) → (v < 512 → getD starts (suc v) 0 ≤ 2048) → (512 ≤ v → rowAt targets starts v ≡ [])
+    → rowIn targets starts v ≡ rowAt targets starts v
+row-fits targets starts v ends none = ⊎-elim (row-whole targets starts v) (λ e. row-none targets starts v e ∙ sym (none (past e))) (either (fits starts v))
+  where
+    past : fits starts v ≡ false → 512 ≤ v
+    past e = ⊎-elim
+        (λ t. absurd (contra (le-leb (getD starts (suc v) 0) 2048 (ends (ltb-true v 512 t))) (rw t at e)))
+        (ltb-false v 512) (either (ltb v 512))
+
+-- ---- a scan
+
+-- the edges from place `first` up to place `at` are passed over, and counted
+abbrev pub SoFar : List ℕ → List ℕ → ℕ → ℕ → ℕ → ℕ → ℕ → Type 0
+SoFar row array k spent first at now = (first ≤ at) × Skips row array k (at - first) × (now ≡ raised (at - first) spent)
+
+pub scan-begins : (row array : List ℕ) (k spent first : ℕ) → SoFar row array k spent first first spent
+scan-begins row array k spent first =
+    let none : first - first ≡ 0 = omega arith in
+    (omega arith, λ i h. absurd (omega arith), sym (ap (λ (n : ℕ). raised n spent) none ∙ raised-none spent))
+
+module _ (targets starts array : List ℕ) (v k spent : ℕ) (r : Row) (z : Spans starts v r) (first : ℕ) (begun : first ≡ r .from + k) where
+  abbrev row : List ℕ
+  row = rowIn targets starts v
+
+  module _ (at now : ℕ) (so-far : SoFar row array k spent first at now) where
+    abbrev passed : ℕ
+    passed = at - first
+
+    module _ (more : at < r .stop) where
+      edge : k + passed < r .stop - r .from
+      edge = omega (arith, so-far .0)
+
+      handed : (t : ℕ) → t ≡ getD targets at 0 → t ≡ getD row (k + passed) 0
+      handed t e =
+          let here : at ≡ r .from + (k + passed) = omega (arith, so-far .0) in
+          e ∙ same-place targets here ∙ sym (entry-is targets starts v r z (k + passed) edge)
+
+      -- the edge is passed over
+      pub scan-goes-on : (t now′ : ℕ) → t ≡ getD targets at 0 → now′ ≡ up now → (getD array t 0 ≡ noNumber → ⊥) → SoFar row array k spent first (at + 1) now′
+      scan-goes-on t now′ e raises old =
+          let one : at + 1 - first ≡ suc passed = omega (arith, so-far .0) in (
+            omega (arith, so-far .0),
+            λ i h. ⊎-elim
+                (λ y. so-far .1 i (ltb-true i passed y))
+                (λ y. let last : i ≡ passed = omega (arith, ltb-false i passed y) in
+                let there : getD row (k + i) 0 ≡ t = ap (λ (j : ℕ). getD row (k + j) 0) last ∙ sym (handed t e) in
+                (omega (arith, row-size targets starts v r z, edge), λ n. old (ap (λ (u : ℕ). getD array u 0) (sym there) ∙ n)))
+                (either (ltb i passed)),
+            raises ∙ ap up (so-far .2) ∙ sym (raised-next passed spent) ∙ sym (ap (λ (n : ℕ). raised n spent) one),
+          )
+
+      -- the edge is the one
+      pub scan-finds : (t now′ : ℕ) → t ≡ getD targets at 0 → now′ ≡ up now → getD array t 0 ≡ noNumber
+          → Swept row (getD starts v 0) array k spent (record { at = at; target = t; found = true }) now′
+      scan-finds t now′ e raises new = record {
+        passed = passed;
+        skips = so-far .1;
+        looked = λ y. (
+          record {
+            edge = omega (arith, row-size targets starts v r z, edge);
+            place-is = omega (arith, so-far .0, first-is targets starts v r z (k + passed) edge);
+            target-is = handed t e;
+            new = new;
+          },
+          raises ∙ ap up (so-far .2),
+        );
+        ended = λ y. absurd (contra refl y);
+      }
+
+    -- no edge is left
+    pub scan-ends : r .stop ≤ at → Swept row (getD starts v 0) array k spent (record { at = at; target = 0; found = false }) now
+    scan-ends done = record {
+      passed = passed;
+      skips = so-far .1;
+      looked = λ y. absurd (contra y refl);
+      ended = λ y. (omega (arith, row-size targets starts v r z, so-far .0), so-far .2);
+    }
 
 -- ---- steps, one after the other
 
-module _ (targets starts words : List ℕ) where
-  run-none : (s : Core) → runFor targets starts words 0 s ≡ s
+module _ (g : Game) where
+  run-none : (s : Core) → runFor g 0 s ≡ s
   unfolding runFor
   run-none s = refl
 
-  run-one : (s : Core) → runFor targets starts words 1 s ≡ step targets starts words s
+  run-one : (s : Core) → runFor g 1 s ≡ step g s
   unfolding runFor
   run-one s = refl
 
-  -- steps after steps
-  run-add : (m n : ℕ) (s : Core) → runFor targets starts words (m + n) s ≡ runFor targets starts words n (runFor targets starts words m s)
+  run-first : (n : ℕ) (s : Core) → runFor g (suc n) s ≡ runFor g n (step g s)
   unfolding runFor
-  run-add zero n s = ap (λ (k : ℕ). runFor targets starts words k s) (zero-add n)
-  run-add (suc m) n s = let e : suc m + n ≡ suc (m + n) = omega arith in ap (λ (k : ℕ). runFor targets starts words k s) e ∙ run-add m n (step targets starts words s)
+  run-first n s = refl
+
+  -- steps after steps
+  run-add : (m n : ℕ) (s : Core) → runFor g (m + n) s ≡ runFor g n (runFor g m s)
+  unfolding runFor
+  run-add zero n s = ap (λ (k : ℕ). runFor g k s) (zero-add n)
+  run-add (suc m) n s = let e : suc m + n ≡ suc (m + n) = omega arith in ap (λ (k : ℕ). runFor g k s) e ∙ run-add m n (step g s)
 
   -- a step after n steps
-  run-then : (n : ℕ) (s x : Core) → runFor targets starts words n s ≡ x → runFor targets starts words (suc n) s ≡ step targets starts words x
+  run-then : (n : ℕ) (s x : Core) → runFor g n s ≡ x → runFor g (suc n) s ≡ step g x
   run-then n s x e =
       let one : suc n ≡ n + 1 = omega arith in
-      ap (λ (k : ℕ). runFor targets starts words k s) one ∙ run-add n 1 s ∙ ap (runFor targets starts words 1) e ∙ run-one x
+      ap (λ (k : ℕ). runFor g k s) one ∙ run-add n 1 s ∙ ap (runFor g 1) e ∙ run-one x
 
-  advanced : (n : ℕ) (s x s′ : Core) → runFor targets starts words n s ≡ x → s′ ≡ step targets starts words x → Advanced targets starts words s s′
-  advanced n s x s′ e f = record { more = n; reached = f ∙ sym (run-then n s x e) }
+  advanced : (n : ℕ) (s x s′ : Core) → runFor g n s ≡ x → s′ ≡ step g x → Deep (s′ .walker) → Advanced g s s′
+  advanced n s x s′ e f d = record { more = n; reached = f ∙ sym (run-then n s x e); deep = d }
 
-  pub advanced-one : (s s′ : Core) → s′ ≡ step targets starts words s → Advanced targets starts words s s′
-  advanced-one s s′ f = advanced 0 s s s′ (run-none s) f
+  pub advanced-one : (s s′ : Core) → s′ ≡ step g s → Deep (s′ .walker) → Advanced g s s′
+  advanced-one s s′ f d = advanced 0 s s s′ (run-none s) f d
 
   -- a search that is over stays as it is
-  pub advanced-over : (s : Core) → over (s .walker .phase) ≡ true → Advanced targets starts words s s
-  advanced-over s o = record { more = 0; reached = sym (run-over targets starts words 1 s o) }
+  pub advanced-over : (s : Core) → over (s .walker .phase) ≡ true → Deep (s .walker) → Advanced g s s
+  advanced-over s o d = record { more = 0; reached = sym (run-over g 1 s o); deep = d }
 
-  -- the loop of `run`
-  pub ran-none : (s : Core) (budget : ℕ) → Ran targets starts words (budget - budget) s s
-  ran-none s budget = record { steps = 0; enough = omega arith; reached = sym (run-none s) }
+  -- ---- the loops of one phase, and of `run`
 
-  pub ran-more : (s x y : Core) (budget left : ℕ) → 0 < left → left ≤ budget → Ran targets starts words (budget - left) s x → Advanced targets starts words x y
-      → Ran targets starts words (budget - (left - 1)) s y
-  ran-more s x y budget left more fits r a = record {
+  -- some steps, at least so many
+  pub record Made (least : ℕ) (s s′ : Core) : Type 0 where
+    pub steps : ℕ
+    pub enough : least ≤ steps
+    pub reached : s′ ≡ runFor g steps s
+
+  pub made-none : (s : Core) (phases : ℕ) → Made (phases - phases) s s
+  made-none s phases = record { steps = 0; enough = omega arith; reached = sym (run-none s) }
+
+  pub made-more : (s x y : Core) (phases left : ℕ) → 0 < left → left ≤ phases → Made (phases - left) s x → Advanced g x y → Made (phases - (left - 1)) s y
+  made-more s x y phases left more small r a = record {
     steps = r .steps + suc (a .more);
     enough = omega (arith, r .enough);
-    reached = a .reached ∙ ap (runFor targets starts words (suc (a .more))) (r .reached) ∙ sym (run-add (r .steps) (suc (a .more)) s);
+    reached = a .reached ∙ ap (runFor g (suc (a .more))) (r .reached) ∙ sym (run-add (r .steps) (suc (a .more)) s);
   }
 
-  pub ran-over : (s x : Core) (budget left : ℕ) → Ran targets starts words (budget - left) s x → over (x .walker .phase) ≡ true → Ran targets starts words budget s x
-  ran-over s x budget left r o = record {
-    steps = r .steps + budget;
-    enough = omega arith;
-    reached = sym (run-over targets starts words budget x o) ∙ ap (runFor targets starts words budget) (r .reached) ∙ sym (run-add (r .steps) budget s);
-  }
-
-  pub ran-from : {s s₂ x : Core} {budget : ℕ} → s ≡ s₂ → Ran targets starts words budget s x → Ran targets starts words budget s₂ x
-  ran-from {x = x} {budget = budget} e r = subst (λ (y : Core). Ran targets starts words budget y x) e r
-
-  pub ran-all : (s x : Core) (budget left : ℕ) → left ≡ 0 → Ran targets starts words (budget - left) s x → Ran targets starts words budget s x
-  ran-all s x budget left e r = record { steps = r .steps; enough = omega (arith, r .enough); reached = r .reached }
-
-  -- the loops of one phase
-  pub ran-then : {s x y : Core} {budget : ℕ} → Ran targets starts words budget s x → Advanced targets starts words x y → Advanced targets starts words s y
-  ran-then {s = s} r a =
+  pub made-then : {s x y : Core} {least : ℕ} → Made least s x → Advanced g x y → Advanced g s y
+  made-then {s = s} r a =
       let sum : r .steps + suc (a .more) ≡ suc (r .steps + a .more) = omega arith in
       record {
         more = r .steps + a .more;
-        reached = a .reached ∙ ap (runFor targets starts words (suc (a .more))) (r .reached) ∙ sym (run-add (r .steps) (suc (a .more)) s)
-            ∙ ap (λ (n : ℕ). runFor targets starts words n s) sum;
+        reached = a .reached ∙ ap (runFor g (suc (a .more))) (r .reached) ∙ sym (run-add (r .steps) (suc (a .more)) s) ∙ ap (λ (n : ℕ). runFor g n s) sum;
+        deep = a .deep;
       }
 
-  pub ran-some : {s x : Core} {budget : ℕ} → 0 < budget → Ran targets starts words budget s x → Advanced targets starts words s x
-  ran-some {s = s} h r =
+  pub made-some : {s x : Core} {least : ℕ} → 0 < least → Deep (x .walker) → Made least s x → Advanced g s x
+  made-some {s = s} h d r =
       let less : r .steps ≡ suc (r .steps - 1) = omega (arith, r .enough) in
-      record { more = r .steps - 1; reached = r .reached ∙ ap (λ (n : ℕ). runFor targets starts words n s) less }
+      record { more = r .steps - 1; reached = r .reached ∙ ap (λ (n : ℕ). runFor g n s) less; deep = d }
 
-  pub advanced-sized : {s x : Core} → Sized s → Advanced targets starts words s x → Sized x
-  advanced-sized {s = s} z a = subst Sized (sym (a .reached)) (run-sized targets starts words (suc (a .more)) s z)
+  -- at least as many steps as phases were asked for: where the search is over by then, further ones do nothing
+  ran : (s x : Core) (phases : ℕ) → Made phases s x → Ran g phases s (result x)
+  ran s x phases r = record {
+    ends = λ o.
+        let all : r .steps ≡ phases + (r .steps - phases) = omega (arith, r .enough) in
+        ap result (r .reached ∙ ap (λ (n : ℕ). runFor g n s) all ∙ run-add phases (r .steps - phases) s ∙ run-over g (r .steps - phases) (runFor g phases s) o);
+    steps = r .steps;
+    enough = r .enough;
+    reached = ap result (r .reached);
+  }
+
+  pub ran-over : (s x : Core) (phases left : ℕ) → Made (phases - left) s x → over (x .walker .phase) ≡ true → Ran g phases s (result x)
+  ran-over s x phases left r o = ran s x phases (record {
+    steps = r .steps + phases;
+    enough = omega arith;
+    reached = sym (run-over g phases x o) ∙ ap (runFor g phases) (r .reached) ∙ sym (run-add (r .steps) phases s);
+  })
+
+  pub ran-all : (s x : Core) (phases left : ℕ) → left ≡ 0 → Made (phases - left) s x → Ran g phases s (result x)
+  ran-all s x phases left e r = ran s x phases (record { steps = r .steps; enough = omega (arith, r .enough); reached = r .reached })
+
+  pub ran-from : {s s₂ : Core} {phases : ℕ} {x : Result} → s ≡ s₂ → Ran g phases s x → Ran g phases s₂ x
+  ran-from {phases = phases} {x = x} e r = subst (λ (y : Core). Ran g phases y x) e r
+
+  pub advanced-sized : {s x : Core} → Sized s → Advanced g s x → Sized x
+  advanced-sized {s = s} z a = subst Sized (sym (a .reached)) (run-sized g (suc (a .more)) s z)
 
 pub outer-only : (f : Phase) → outerStopped f ≡ false → f ≡ Outer
 outer-only Outer h = refl
@@ -104,88 +279,50 @@ nested-only Nested h = refl
 nested-only Exhausted h = absurd (contra refl h)
 nested-only Found h = absurd (contra refl h)
 
--- ---- the skips of a scan
+-- ---- the steps of a scan
 
-module _ (Stands : Core → Type 0) (targets starts : List ℕ) (v k spent : ℕ) where
-  pub skips-none : (next : ℕ) → next ≡ k → Skips Stands targets starts v k spent next spent
-  skips-none next e words s a c n p =
-      let none : next - k ≡ 0 = omega arith in
-      ap (λ (i : ℕ). runFor targets starts words i s) none ∙ run-none targets starts words s ∙ same-core _ _ refl refl refl refl refl refl refl refl p
-      (same-walker _ _ refl refl (n ∙ sym e) refl refl refl refl)
+-- the same at another edge, with another count of probes
+abbrev pub standing : Core → ℕ → ℕ → Core
+standing s next spent = coreOf (placed (s .walker) next) spent (s .number) (s .parent) (s .index) (s .probes) (s .stamp) (s .walk) (s .depth) (s .cursor)
 
-  -- one more, where a step from that edge only passes over it
-  skips-more : (next next′ before after : ℕ) → k ≤ next → next′ ≡ suc next → Skips Stands targets starts v k spent next before
-      → ((words : List ℕ) (s : Core) → Stands s → s .walker .cur ≡ v → step targets starts words (standing s next before) ≡ standing s next′ after)
-      → Skips Stands targets starts v k spent next′ after
-  skips-more next next′ before after fits e so-far pass words s a c n p =
-      let one : next′ - k ≡ suc (next - k) = omega arith in
-      ap (λ (i : ℕ). runFor targets starts words i s) one ∙ run-then targets starts words (next - k) s (standing s next before) (so-far words s a c n p)
-      ∙ pass words s a c
+standing-here : (s : Core) → standing s (s .walker .next + 0) (raised 0 (s .spent)) ≡ s
+standing-here s = same-core _ _ refl refl refl refl refl refl refl refl (raised-none (s .spent)) (same-walker _ _ refl refl (add-zero (s .walker .next)) refl refl refl refl refl)
 
--- an edge that leads to a discovered state
-pub outer-passes : (targets starts number : List ℕ) (v next next′ t before after : ℕ) → next < degreeAt starts v → t ≡ getD (rowAt targets starts v) next 0
-    → (getD number t 0 ≡ none → ⊥) → after ≡ up before → next′ ≡ up next
-    → (words : List ℕ) (s : Core) → Outwards number s → s .walker .cur ≡ v → step targets starts words (standing s next before) ≡ standing s next′ after
-outer-passes targets starts number v next next′ t before after edge e old raised on words s a c =
-    let x = standing s next before in
-    sym (step-at targets starts words x Outer (a .phase-is))
-    ∙ sym (outer-skips targets starts words x (ap (degreeAt starts) (sym c)) (e ∙ ap (λ (u : ℕ). getD (rowAt targets starts u) next 0) (sym c)) raised edge
-    (a .high) _ (ap (placed (s .walker)) on) (λ z. old (ap (λ (l : List ℕ). getD l t 0) (sym (a .number-is)) ∙ z)))
+-- one edge is passed over, and then n more
+module _ (g : Game) (s : Core) where
+  abbrev passing : Core
+  passing = withWalker (probed s) (skipped (s .walker))
 
--- an edge that leads to a marked state that is not on the open path
-pub nested-passes : (targets starts stamp walk depth : List ℕ) (height v next next′ t before after : ℕ) → next < degreeAt starts v
-    → t ≡ getD (rowAt targets starts v) next 0 → onOpenPath walk depth height t ≡ false → (getD stamp t 0 ≡ none → ⊥) → after ≡ up before → next′ ≡ up next
-    → (words : List ℕ) (s : Core) → Inwards stamp walk depth height s → s .walker .cur ≡ v → step targets starts words (standing s next before) ≡ standing s next′ after
-nested-passes targets starts stamp walk depth height v next next′ t before after edge e off old raised on words s a c =
-    let x = standing s next before in
-    let away : onOpenPath (s .walk) (s .depth) (s .walker .height) t ≡ false = (λ i. onOpenPath (a .walk-is i) (a .depth-is i) (a .height-is i) t) ∙ off in
-    sym (step-at targets starts words x Nested (a .phase-is))
-    ∙ sym (nested-skips targets starts words x (ap (degreeAt starts) (sym c)) (e ∙ ap (λ (u : ℕ). getD (rowAt targets starts u) next 0) (sym c)) raised edge
-    (a .high) away _ (ap (placed (s .walker)) on) (λ z. old (ap (λ (l : List ℕ). getD l t 0) (sym (a .stamp-is)) ∙ z)))
+  standing-next : (n : ℕ) → standing passing (suc (s .walker .next) + n) (raised n (up (s .spent))) ≡ standing s (s .walker .next + suc n) (raised (suc n) (s .spent))
+  standing-next n = same-core _ _ refl refl refl refl refl refl refl refl (raised-up n (s .spent) ∙ sym (raised-next n (s .spent)))
+      (same-walker _ _ refl refl (omega arith) refl refl refl refl refl)
 
--- ---- a scan
+  skips-later : (row array : List ℕ) (k n : ℕ) → Skips row array k (suc n) → Skips row array (suc k) n
+  skips-later row array k n h i l =
+      let on : k + suc i ≡ suc k + i = omega arith in
+      let w = h (suc i) (omega arith) in
+      (omega (arith, w .0), λ e. w .1 (ap (λ (j : ℕ). getD array (getD row j 0) 0) on ∙ e))
 
-module _ (targets : List ℕ) (from stop at spent next spent′ : ℕ) (e : next ≡ at - from) where
-  pub edge-there : (t : ℕ) → at < stop → Hands targets at t → spent′ ≡ up spent
-      → Edge targets from stop at spent (record { next = next; target = t; found = true }) spent′
-  edge-there t more h raised = record { next-is = e; looked = λ y. (more, h, raised); ended = λ y. absurd (contra refl y) }
+  skips-first : (row array : List ℕ) (k n : ℕ) → Skips row array k (suc n) → (k < length row) × (getD array (getD row k 0) 0 ≡ noNumber → ⊥)
+  skips-first row array k n h =
+      let w = h 0 (omega arith) in
+      (omega (arith, w .0), λ e. w .1 (ap (λ (j : ℕ). getD array (getD row j 0) 0) (add-zero k) ∙ e))
 
-  pub no-edge-there : stop ≤ at → spent′ ≡ spent → Edge targets from stop at spent (record { next = next; target = 0; found = false }) spent′
-  no-edge-there taken same = record { next-is = e; looked = λ y. absurd (contra y refl); ended = λ y. (taken, same) }
+pub outer-run : (g : Game) (n : ℕ) (s : Core) → s .walker .phase ≡ Outer → (s .walker .height ≡ 0 → ⊥) → Skips (rowOf g (s .walker .cur)) (s .number) (s .walker .next) n
+    → runFor g n s ≡ standing s (s .walker .next + n) (raised n (s .spent))
+outer-run g zero s p high h = run-none g s ∙ sym (standing-here s)
+outer-run g (suc n) s p high h =
+    let w = skips-first g s (rowOf g (s .walker .cur)) (s .number) (s .walker .next) n h in
+    run-first g n s ∙ ap (runFor g n) (sym (outer-skips g s refl refl (w .0) high (w .1) ∙ step-at g s Outer p))
+    ∙ outer-run g n (passing g s) p high (skips-later g s (rowOf g (s .walker .cur)) (s .number) (s .walker .next) n h) ∙ standing-next g s n
 
--- at a place of the row of v, with `before` probes made; the row stands from place `from` up to place `stop`
-module _ (Stands : Core → Type 0) (targets starts : List ℕ) (v k spent from stop at before : ℕ) (first : from ≡ getD starts v 0)
-    (last : stop ≡ getD starts (suc v) 0) (begun : from + k ≤ at) (so-far : Skips Stands targets starts v k spent (at - from) before) where
-  module _ (more : at < stop) where
-    edge : at - from < degreeAt starts v
-    edge = omega (arith, first, last, more, begun)
-
-    handed : (t : ℕ) → Hands targets at t → t ≡ getD (rowAt targets starts v) (at - from) 0
-    handed t h = h starts v (at - from) edge (omega (arith, first, begun))
-
-    -- it is passed over
-    pub goes-on : (t spent′ : ℕ) → stop < 65536 → Hands targets at t → spent′ ≡ up before
-        → ((words : List ℕ) (s : Core) → Stands s → s .walker .cur ≡ v → at - from < degreeAt starts v → t ≡ getD (rowAt targets starts v) (at - from) 0
-        → at + 1 - from ≡ up (at - from) → step targets starts words (standing s (at - from) before) ≡ standing s (at + 1 - from) spent′)
-        → Skips Stands targets starts v k spent (at + 1 - from) spent′
-    goes-on t spent′ small h raised pass =
-        let on : at + 1 - from ≡ suc (at - from) = omega (arith, begun) in
-        skips-more Stands targets starts v k spent (at - from) (at + 1 - from) before spent′ (omega (arith, begun)) on so-far
-        (λ words s a c. pass words s a c edge (handed t h) (on ∙ sym (up-more (at - from) (omega (arith, more, small)))))
-
-  -- it is looked at, or no edge is left
-  pub swept : (r : Scanned) (spent′ : ℕ) → Edge targets from stop at before r spent′ → Swept Stands targets starts v k spent r spent′
-  swept r spent′ e = record {
-    before = before;
-    skips = subst (λ (n : ℕ). Skips Stands targets starts v k spent n before) (sym (e .next-is)) so-far;
-    looked = λ y.
-        let l = e .looked y in (
-          subst (λ (n : ℕ). n < degreeAt starts v) (sym (e .next-is)) (edge (l .0)),
-          handed (l .0) (r .target) (l .1) ∙ ap (λ (n : ℕ). getD (rowAt targets starts v) n 0) (sym (e .next-is)),
-          l .2,
-        );
-    ended = λ y. let l = e .ended y in (omega (arith, first, last, l .0, e .next-is), l .1);
-  }
+pub nested-run : (g : Game) (n : ℕ) (s : Core) → s .walker .phase ≡ Nested → s .walker .height ≤ s .walker .top → Skips (rowOf g (s .walker .cur)) (s .stamp) (s .walker .next) n
+    → runFor g n s ≡ standing s (s .walker .next + n) (raised n (s .spent))
+nested-run g zero s p above h = run-none g s ∙ sym (standing-here s)
+nested-run g (suc n) s p above h =
+    let w = skips-first g s (rowOf g (s .walker .cur)) (s .stamp) (s .walker .next) n h in
+    run-first g n s ∙ ap (runFor g n) (sym (nested-skips g s refl refl (w .0) above (w .1) ∙ step-at g s Nested p))
+    ∙ nested-run g n (passing g s) p above (skips-later g s (rowOf g (s .walker .cur)) (s .stamp) (s .walker .next) n h) ∙ standing-next g s n
 
 -- ---- the step behind a scan
 
@@ -193,68 +330,109 @@ module _ (Stands : Core → Type 0) (targets starts : List ℕ) (v k spent from 
 abbrev pub counted : Core → Walker → ℕ → Core
 counted s w spent = coreOf w spent (s .number) (s .parent) (s .index) (s .probes) (s .stamp) (s .walk) (s .depth) (s .cursor)
 
-module _ (targets starts words : List ℕ) (s : Core) (r : Scanned) (spent′ : ℕ) (phase-is : s .walker .phase ≡ Outer) (high : s .walker .height ≡ 0 → ⊥)
-    (q : Swept (Outwards (s .number)) targets starts (s .walker .cur) (s .walker .next) (s .spent) r spent′) where
-  abbrev there : Core
-  there = standing s (r .next) (q .before)
+-- the place at which a scan stops belongs to the row
+pub place-near : {starts array : List ℕ} {row : List ℕ} {v k : ℕ} {r : Scanned} → length starts ≡ 513 → length row ≤ 65535 → Hits row (getD starts v 0) array k r
+    → Places starts v (r .at)
+place-near z few h = record { starts-size = z; first = omega (arith, h .place-is); near = omega (arith, h .place-is, h .edge) }
 
-  then-outer : (s′ : Core) → s′ ≡ outerStep targets starts words there → Advanced targets starts words s s′
-  then-outer s′ e =
-      advanced targets starts words (r .next - s .walker .next) s there s′
-      (q .skips words s (record { phase-is = phase-is; high = high; number-is = refl }) refl refl refl)
-      (e ∙ step-at targets starts words there Outer phase-is)
+pub row-few : (targets starts : List ℕ) (v : ℕ) → length (rowIn targets starts v) ≤ 65535
+row-few targets starts v = ⊎-elim
+    (λ e. omega (arith, ap length (row-whole targets starts v e), row-length targets starts v, leb-true (getD starts (suc v) 0) 2048 (and-true (ltb v 512) _ e .1)))
+    (λ e. omega (arith, ap length (row-none targets starts v e))) (either (fits starts v))
 
-  pub then-discovers : (w : Walker) (s′ : Core) → r .found ≡ true → getD (s .number) (r .target) 0 ≡ none → w ≡ placed (s .walker) (r .next)
-      → s′ ≡ discover (counted s w spent′) (r .target) → Advanced targets starts words s s′
-  then-discovers w s′ hit new e f =
-      let l = q .looked hit in
-      then-outer s′ (f ∙ ap (λ (x : Walker). discover (counted s x spent′) (r .target)) e ∙ outer-discovers targets starts words there refl (l .1) (l .2) (l .0) high new)
+module _ (targets starts words : List ℕ) (s : Core) (r : Scanned) (spent′ : ℕ) where
+  abbrev g : Game
+  g = gameOf targets starts words
 
-  pub then-skips : (w : Walker) (k : ℕ) → r .found ≡ true → (getD (s .number) (r .target) 0 ≡ none → ⊥) → k ≡ up (r .next) → w ≡ placed (s .walker) k
-      → Advanced targets starts words s (counted s w spent′)
-  then-skips w k hit old e f =
-      let l = q .looked hit in
-      then-outer _ (outer-skips targets starts words there refl (l .1) (l .2) (l .0) high w (f ∙ ap (placed (s .walker)) e) old)
+  abbrev first : ℕ
+  first = getD starts (s .walker .cur) 0
 
-  pub then-finishes : (w : Walker) (s′ : Core) → r .found ≡ false → w ≡ placed (s .walker) (r .next) → s′ ≡ finish words (counted s w spent′)
-      → Advanced targets starts words s s′
-  then-finishes w s′ no-more e f =
-      let l = q .ended no-more in
-      then-outer s′ (f ∙ (λ i. finish words (counted s (e i) (l .1 i))) ∙ outer-finishes targets starts words there refl (l .0) high)
+  -- the walker at the edge at which the scan stopped
+  abbrev stopped : Walker
+  stopped = placed (s .walker) (r .at - first)
 
-module _ (targets starts words : List ℕ) (s : Core) (r : Scanned) (spent′ : ℕ) (phase-is : s .walker .phase ≡ Nested) (high : s .walker .height ≤ s .walker .top)
-    (q : Swept (Inwards (s .stamp) (s .walk) (s .depth) (s .walker .height)) targets starts (s .walker .cur) (s .walker .next) (s .spent) r spent′) where
-  abbrev within : Core
-  within = standing s (r .next) (q .before)
+  module _ (phase-is : s .walker .phase ≡ Outer) (high : s .walker .height ≡ 0 → ⊥)
+      (q : Swept (rowOf g (s .walker .cur)) first (s .number) (s .walker .next) (s .spent) r spent′) where
+    abbrev there : Core
+    there = standing s (s .walker .next + q .passed) (raised (q .passed) (s .spent))
 
-  then-nested : (s′ : Core) → s′ ≡ nestedStep targets starts words within → Advanced targets starts words s s′
-  then-nested s′ e =
-      advanced targets starts words (r .next - s .walker .next) s within s′
-      (q .skips words s (record { phase-is = phase-is; high = high; height-is = refl; stamp-is = refl; walk-is = refl; depth-is = refl }) refl refl refl)
-      (e ∙ step-at targets starts words within Nested phase-is)
+    then-outer : (s′ : Core) → s′ ≡ outerStep g there → Deep (s′ .walker) → Advanced g s s′
+    then-outer s′ e d =
+        advanced g (q .passed) s there s′ (outer-run g (q .passed) s phase-is high (q .skips)) (e ∙ step-at g there Outer phase-is) d
 
-  module _ (hit : r .found ≡ true) where
-    pub then-closes : (h : ℕ) → onOpenPath (s .walk) (s .depth) (s .walker .height) (r .target) ≡ true → h ≡ getD (s .depth) (r .target) 0
-        → Advanced targets starts words s (counted s (closed (placed (s .walker) (r .next)) h) spent′)
-    then-closes h on e =
+    pub then-discovers : (s′ : Core) → r .found ≡ true → s′ ≡ discover (counted s stopped spent′) (r .target) → Advanced g s s′
+    then-discovers s′ hit f =
         let l = q .looked hit in
-        then-nested _ (nested-closes targets starts words within refl (l .1) (l .2) (l .0) high h e on)
+        let h = l .0 in
+        let at-edge : r .at - first ≡ s .walker .next + q .passed = omega (arith, h .place-is) in
+        then-outer s′ (f ∙ ap (λ (k : ℕ). discover (counted s (placed (s .walker) k) spent′) (r .target)) at-edge
+        ∙ outer-discovers g there (h .target-is) (l .1) (h .edge) high (h .new))
+        (subst (λ (x : Core). Deep (x .walker)) (sym f) (discover-deep _ _))
 
-    module _ (off : onOpenPath (s .walk) (s .depth) (s .walker .height) (r .target) ≡ false) where
-      pub then-deepens : (w : Walker) (s′ : Core) → getD (s .stamp) (r .target) 0 ≡ none → w ≡ placed (s .walker) (r .next)
-          → s′ ≡ deepen (counted s w spent′) (r .target) → Advanced targets starts words s s′
-      then-deepens w s′ new e f =
+    pub then-finishes : (w : Walker) → r .found ≡ false → w ≡ finished (accepts words (s .walker .cur)) (s .parent) (s .index) (s .walker)
+        → Advanced g s (counted s w spent′)
+    unfolding finish finished
+    then-finishes w no-more f =
+        let l = q .ended no-more in
+        then-outer _ ((λ i. counted s (f i) (l .1 i)) ∙ outer-finishes g there (l .0) high)
+        (subst Deep (sym f) (finished-deep (accepts words (s .walker .cur)) (s .parent) (s .index) (s .walker) high))
+
+  module _ (phase-is : s .walker .phase ≡ Nested) (deep : Deep (s .walker))
+      (q : Swept (rowOf g (s .walker .cur)) first (s .stamp) (s .walker .next) (s .spent) r spent′) where
+    above : s .walker .height ≤ s .walker .top
+    above = deep .above phase-is
+
+    abbrev within : Core
+    within = standing s (s .walker .next + q .passed) (raised (q .passed) (s .spent))
+
+    reaches : runFor g (q .passed) s ≡ within
+    reaches = nested-run g (q .passed) s phase-is above (q .skips)
+
+    then-nested : (s′ : Core) → s′ ≡ nestedStep g within → Deep (s′ .walker) → Advanced g s s′
+    then-nested s′ e d = advanced g (q .passed) s within s′ reaches (e ∙ step-at g within Nested phase-is) d
+
+    module _ (hit : r .found ≡ true) where
+      pub then-closes : (h : ℕ) → onOpenPath (s .walk) (s .depth) (s .walker .height) (r .target) ≡ true → h ≡ getD (s .depth) (r .target) 0
+          → Advanced g s (counted s (closed (s .walker) h) spent′)
+      then-closes h on e =
           let l = q .looked hit in
-          then-nested s′ (f ∙ ap (λ (x : Walker). deepen (counted s x spent′) (r .target)) e ∙ nested-deepens targets starts words within refl (l .1) (l .2) (l .0) high off new)
+          then-nested _ (nested-closes g within (l .0 .target-is) (l .1) (l .0 .edge) above (l .0 .new) e on) (found-deep _ refl)
 
-      pub then-passes : (w : Walker) (k : ℕ) → (getD (s .stamp) (r .target) 0 ≡ none → ⊥) → k ≡ up (r .next) → w ≡ placed (s .walker) k
-          → Advanced targets starts words s (counted s w spent′)
-      then-passes w k old e f =
+      pub then-deepens : (s′ : Core) → onOpenPath (s .walk) (s .depth) (s .walker .height) (r .target) ≡ false
+          → s′ ≡ deepen (counted s stopped spent′) (r .target) → Advanced g s s′
+      then-deepens s′ off f =
           let l = q .looked hit in
-          then-nested _ (nested-skips targets starts words within refl (l .1) (l .2) (l .0) high off w (f ∙ ap (placed (s .walker)) e) old)
+          let at-edge : r .at - first ≡ s .walker .next + q .passed = omega (arith, l .0 .place-is) in
+          then-nested s′ (f ∙ ap (λ (k : ℕ). deepen (counted s (placed (s .walker) k) spent′) (r .target)) at-edge
+          ∙ nested-deepens g within (l .0 .target-is) (l .1) (l .0 .edge) above (l .0 .new) off)
+          (subst (λ (x : Core). Deep (x .walker)) (sym f) (deepen-deep _ _ (deep .high phase-is) above))
 
-  pub then-returns : (w x : Walker) → r .found ≡ false → w ≡ placed (s .walker) (r .next) → x ≡ returned (s .walk) (s .cursor) w
-      → Advanced targets starts words s (counted s x spent′)
-  then-returns w x no-more e f =
-      let l = q .ended no-more in
-      then-nested _ (ap (counted s x) (l .1) ∙ nested-returns targets starts words within refl (l .0) x (f ∙ ap (returned (s .walk) (s .cursor)) e) high)
+    below-is : {n : ℕ} → s .walker .height < s .walker .top → spent′ ≡ n → goBack (counted s (s .walker) spent′) ≡ counted s (returned (s .walk) (s .cursor) (s .walker)) n
+    unfolding goBack
+    below-is h e = rw (lt-leb (s .walker .top) (s .walker .height) h) (ap (counted s (returned (s .walk) (s .cursor) (s .walker))) e)
+
+    out-is : {n : ℕ} → s .walker .top ≤ s .walker .height → spent′ ≡ n → goBack (counted s (s .walker) spent′) ≡ leaveRoot (counted s (emptied (placed (s .walker) (s .walker .next + q .passed))) n)
+    unfolding goBack leaveRoot
+    out-is h e = rw (le-leb (s .walker .top) (s .walker .height) h, e)
+
+    module _ (no-more : r .found ≡ false) where
+      -- back to the state below: one step
+      goes-below : s .walker .height < s .walker .top → Advanced g s (goBack (counted s (s .walker) spent′))
+      goes-below h =
+          let l = q .ended no-more in
+          then-nested _ (below-is h (l .1) ∙ nested-returns g within (l .0) above h) (back-deep (counted s (s .walker) spent′) (deep .high phase-is))
+
+      -- out of the first state: two steps
+      goes-out : s .walker .top ≤ s .walker .height → Advanced g s (goBack (counted s (s .walker) spent′))
+      goes-out h =
+          let l = q .ended no-more in
+          let x = withWalker within (emptied (within .walker)) in
+          advanced g (suc (q .passed)) s x _
+          (run-then g (q .passed) s within reaches ∙ sym (nested-empties g within (l .0) above h ∙ step-at g within Nested phase-is))
+          (out-is h (l .1) ∙ nested-leaves g x (omega (arith, deep .high phase-is)) ∙ step-at g x Nested refl)
+          (back-deep (counted s (s .walker) spent′) (deep .high phase-is))
+
+      pub then-returns : (s′ : Core) → s′ ≡ goBack (counted s (s .walker) spent′) → Advanced g s s′
+      then-returns s′ f = subst (Advanced g s) (sym f) (⊎-elim
+          (λ e. goes-out (leb-true (s .walker .top) (s .walker .height) e))
+          (λ e. goes-below (leb-false (s .walker .top) (s .walker .height) e)) (either (leb (s .walker .top) (s .walker .height))))

@@ -1,21 +1,55 @@
--- The arrays of the search as lists, and what each step does to them. Cited by the contracts of this crate alone: a theorem
--- (proofs/OneStep.antt) ties it to the plain search. Assumes nothing.
-use Prim.Native.Nat.{ℕ, zero, suc, _+_, _-_, _≤_, _<_}
+-- The arrays of the search as lists, and what each step does to them. Cited by the contracts of this crate: a theorem (proofs/OneStep.antt) ties it
+-- to the plain search. Assumes nothing.
+use Prim.Native.Nat.{ℕ, zero, suc, _+_, _-_, _%_, _≤_, _<_}
 use mathlib.Core.Path.{_≡_}
 use mathlib.Core.Bool.{Bool, true, false, _&&_}
-use mathlib.Core.List.{List, map}
+use mathlib.Core.List.{List, [], _++_, map}
 use lib.Dec.{eqb, ltb, leb}
-use lib.ListN.{length, getD, set, replicate}
+use lib.ListN.{length, getD, set, take, drop, replicate}
 use Rattle.plain.specs.Table.{accepts}
-use Rattle.rows.specs.Rows.{rowAt, degreeAt}
+use Rattle.rows.specs.Rows.{rowAt}
 use Rattle.search.specs.declared.Phase.{Phase}
 use Rattle.search.specs.declared.Phase.the-variants.{Outer, Nested, Exhausted, Found}
 use Rattle.search.specs.declared.Walker.{Walker}
+use Rattle.search.specs.declared.Row.{Row}
 use Rattle.search.specs.declared.Scanned.{Scanned}
 
 -- what stands in an array for "no number"
-abbrev pub none : ℕ
-none = 65535
+abbrev pub noNumber : ℕ
+noNumber = 65535
+
+-- one of two
+abbrev pub choose : {A : Type 0} → Bool → A → A → A
+choose true a b = a
+choose false a b = b
+
+-- ---- the game
+
+-- the moves as compressed rows, and the words of the paying marks
+pub record Game : Type 0 where
+  pub targets : List ℕ
+  pub starts : List ℕ
+  pub words : List ℕ
+
+abbrev pub gameOf : List ℕ → List ℕ → List ℕ → Game
+gameOf targets starts words = record { targets = targets; starts = starts; words = words }
+
+-- is v below 512, and does its row end within the array of targets?
+abbrev pub fits : List ℕ → ℕ → Bool
+fits starts v = ltb v 512 && leb (getD starts (suc v) 0) 2048
+
+-- the row of v; one that does not fit counts as empty
+unfoldable pub rowIn : List ℕ → List ℕ → ℕ → List ℕ
+rowIn targets starts v = choose (fits starts v) (rowAt targets starts v) []
+
+-- The steps read a game through these two alone: the targets of the edges that leave v, oldest first; and whether v is accepting.
+abbrev pub rowOf : Game → ℕ → List ℕ
+rowOf g v = rowIn (g .targets) (g .starts) v
+
+abbrev pub acceptsAt : Game → ℕ → Bool
+acceptsAt g v = accepts (g .words) v
+
+-- ---- the arrays
 
 pub record Core : Type 0 where
   -- by state: discovery number, parent, index of the edge in the parent's row, probes made by then
@@ -29,7 +63,7 @@ pub record Core : Type 0 where
   pub walk : List ℕ
   -- by state: its place on the open path
   pub depth : List ℕ
-  -- by place: the next edge of a state on the path of the nested search
+  -- by place: the edge that was taken last from a state on the path of the nested search
   pub cursor : List ℕ
   -- the probes made since the search was begun or resumed
   pub spent : ℕ
@@ -61,12 +95,11 @@ pub record Sized (s : Core) : Type 0 where
   pub cursor-size : length (s .cursor) ≡ 512
 
 -- the arrays that the outer search is lent
-pub record Recorded (number parent index probes stamp walk depth : List ℕ) : Type 0 where
+pub record Recorded (number parent index probes walk depth : List ℕ) : Type 0 where
   pub number-size : length number ≡ 512
   pub parent-size : length parent ≡ 512
   pub index-size : length index ≡ 512
   pub probes-size : length probes ≡ 512
-  pub stamp-size : length stamp ≡ 512
   pub walk-size : length walk ≡ 512
   pub depth-size : length depth ≡ 512
 
@@ -80,7 +113,7 @@ pub record Trailed (parent index stamp walk depth cursor : List ℕ) : Type 0 wh
   pub cursor-size : length cursor ≡ 512
 
 -- those that outlive a search
-pub record Kept (number parent index probes stamp walk : List ℕ) : Type 0 where
+pub record Lengths (number parent index probes stamp walk : List ℕ) : Type 0 where
   pub number-size : length number ≡ 512
   pub parent-size : length parent ≡ 512
   pub index-size : length index ≡ 512
@@ -88,73 +121,92 @@ pub record Kept (number parent index probes stamp walk : List ℕ) : Type 0 wher
   pub stamp-size : length stamp ≡ 512
   pub walk-size : length walk ≡ 512
 
+-- those of the game's rows
 pub record Tabled (targets starts : List ℕ) : Type 0 where
   pub targets-size : length targets ≡ 2048
   pub starts-size : length starts ≡ 513
 
-abbrev pub choose : {A : Type 0} → Bool → A → A → A
-choose true a b = a
-choose false a b = b
+-- ---- numbers of 16 bits
 
--- one more, at most 65535
-unfoldable pub up : ℕ → ℕ
-up x = choose (ltb x 65535) (x + 1) x
-
--- a sum, at most 65535
+-- a sum, and one more, modulo 65,536
 unfoldable pub plus : ℕ → ℕ → ℕ
-plus a b = choose (leb (a + b) 65535) (a + b) 65535
+plus a b = (a + b) % 65536
+
+unfoldable pub up : ℕ → ℕ
+up x = (x + 1) % 65536
+
+-- one more, at most 65,535
+unfoldable pub further : ℕ → ℕ
+further x = choose (ltb x 65535) (x + 1) x
+
+-- one more, n times
+unfoldable pub raised : ℕ → ℕ → ℕ
+raised zero x = x
+raised (suc n) x = raised n (up x)
 
 -- ---- one step, by its ways
 
--- the walker with another place in the row
+-- the walker at another edge of its state
 abbrev pub placed : Walker → ℕ → Walker
-placed w next = record { phase = w .phase; cur = w .cur; next = next; height = w .height; top = w .top; met = w .met; kept = w .kept }
+placed w next = record { phase = w .phase; cur = w .cur; next = next; height = w .height; top = w .top; stem = w .stem; met = w .met; kept = w .kept }
 
+-- at the edge behind
 abbrev pub skipped : Walker → Walker
-skipped w = placed w (up (w .next))
+skipped w = placed w (suc (w .next))
 
 -- t is discovered, by edge `next` of `cur`
 abbrev pub entered : Walker → ℕ → Walker
-entered w t = record { phase = Outer; cur = t; next = 0; height = up (w .height); top = up (w .height); met = up (w .met); kept = w .kept }
+entered w t = record { phase = Outer; cur = t; next = 0; height = up (w .height); top = up (w .height); stem = 0; met = up (w .met); kept = w .kept }
 
 -- `cur` leaves the open path
 abbrev pub left : List ℕ → List ℕ → Walker → Walker
 left parent index w = record {
   phase = Outer;
   cur = getD parent (w .cur) 0;
-  next = up (getD index (w .cur) 0);
+  next = further (getD index (w .cur) 0);
   height = w .height - 1;
   top = w .height - 1;
+  stem = 0;
   met = w .met;
   kept = w .kept;
 }
 
 -- a nested search starts from `cur`
 abbrev pub nesting : Walker → Walker
-nesting w = record { phase = Nested; cur = w .cur; next = 0; height = w .height; top = w .height; met = w .met; kept = w .kept }
+nesting w = record { phase = Nested; cur = w .cur; next = 0; height = w .height; top = w .height; stem = 0; met = w .met; kept = w .kept }
+
+-- after the last edge of `cur`: is it accepting?
+unfoldable pub finished : Bool → List ℕ → List ℕ → Walker → Walker
+finished accepting parent index w = choose accepting (nesting w) (left parent index w)
 
 -- the nested search goes on to t
 abbrev pub deepened : Walker → ℕ → Walker
-deepened w t = record { phase = Nested; cur = t; next = 0; height = w .height; top = up (w .top); met = w .met; kept = w .kept }
+deepened w t = record { phase = Nested; cur = t; next = 0; height = w .height; top = further (w .top); stem = 0; met = w .met; kept = w .kept }
 
--- the nested search goes back
+-- the nested search goes back to the state below, behind the edge that was taken there
 abbrev pub returned : List ℕ → List ℕ → Walker → Walker
 returned walk cursor w = record {
   phase = Nested;
-  cur = choose (ltb (w .top - 1) (w .height)) (w .cur) (getD walk (w .top - 1 - 1) 0);
-  next = choose (ltb (w .top - 1) (w .height)) (w .next) (getD cursor (w .top - 1 - 1) 0);
+  cur = getD walk (w .top - 1 - 1) 0;
+  next = further (getD cursor (w .top - 1 - 1) 0);
   height = w .height;
   top = w .top - 1;
+  stem = 0;
   met = w .met;
   kept = w .kept;
 }
 
--- the search is over; a found cycle is entered at place h of the open path
-abbrev pub exhausted : Walker → Walker
-exhausted w = record { phase = Exhausted; cur = w .cur; next = w .next; height = w .height; top = w .top; met = w .met; kept = w .kept }
+-- the nested search goes back out of its first state: its path is empty
+abbrev pub emptied : Walker → Walker
+emptied w = record { phase = Nested; cur = w .cur; next = w .next; height = w .height; top = w .top - 1; stem = 0; met = w .met; kept = w .kept }
 
+-- the search is over, and no cycle was found
+abbrev pub exhausted : Walker → Walker
+exhausted w = record { phase = Exhausted; cur = w .cur; next = w .next; height = 0; top = w .top; stem = 0; met = w .met; kept = w .kept }
+
+-- a cycle is found; it is entered at place h of the open path
 abbrev pub closed : Walker → ℕ → Walker
-closed w h = record { phase = Found; cur = w .cur; next = w .next; height = h; top = w .top; met = w .met; kept = w .kept }
+closed w h = record { phase = Found; cur = w .cur; next = 0; height = w .height; top = w .top; stem = h; met = w .met; kept = w .kept }
 
 abbrev pub withWalker : Core → Walker → Core
 withWalker s w = coreOf w (s .spent) (s .number) (s .parent) (s .index) (s .probes) (s .stamp) (s .walk) (s .depth) (s .cursor)
@@ -163,6 +215,7 @@ withWalker s w = coreOf w (s .spent) (s .number) (s .parent) (s .index) (s .prob
 abbrev pub probed : Core → Core
 probed s = coreOf (s .walker) (up (s .spent)) (s .number) (s .parent) (s .index) (s .probes) (s .stamp) (s .walk) (s .depth) (s .cursor)
 
+-- t is discovered
 unfoldable pub discover : Core → ℕ → Core
 discover s t = coreOf (entered (s .walker) t) (s .spent)
     (set (s .number) t (s .walker .met))
@@ -174,27 +227,26 @@ discover s t = coreOf (entered (s .walker) t) (s .spent)
     (set (s .depth) t (s .walker .height))
     (s .cursor)
 
-unfoldable pub leave : Core → Core
-leave s = withWalker s (left (s .parent) (s .index) (s .walker))
-
-unfoldable pub nest : Core → Core
-nest s = coreOf (nesting (s .walker)) (s .spent) (s .number) (s .parent) (s .index) (s .probes)
-    (set (s .stamp) (s .walker .cur) (s .walker .met)) (s .walk) (s .depth) (s .cursor)
-
+-- the nested search goes on to t, and marks it
 unfoldable pub deepen : Core → ℕ → Core
 deepen s t = coreOf (deepened (s .walker) t) (s .spent) (s .number) (s .parent) (s .index) (s .probes)
     (set (s .stamp) t (s .walker .met))
     (set (s .walk) (s .walker .top) t)
     (s .depth)
-    (set (s .cursor) (s .walker .top - 1) (up (s .walker .next)))
+    (set (s .cursor) (s .walker .top - 1) (s .walker .next))
+
+-- the first state of a nested search is marked, and leaves the open path
+unfoldable pub leaveRoot : Core → Core
+leaveRoot s = coreOf (left (s .parent) (s .index) (s .walker)) (s .spent) (s .number) (s .parent) (s .index) (s .probes)
+    (set (s .stamp) (s .walker .cur) (s .walker .met)) (s .walk) (s .depth) (s .cursor)
+
+-- the nested search goes back: out of its first state it ends at once
+unfoldable pub goBack : Core → Core
+goBack s = choose (leb (s .walker .top) (s .walker .height)) (leaveRoot s) (withWalker s (returned (s .walk) (s .cursor) (s .walker)))
 
 -- is t on the open path of that height?
 abbrev pub onOpenPath : List ℕ → List ℕ → ℕ → ℕ → Bool
 onOpenPath walk depth height t = ltb (getD depth t 0) height && eqb (getD walk (getD depth t 0) 0) t
-
--- after the last edge: is the state accepting?
-unfoldable pub finish : List ℕ → Core → Core
-finish words s = choose (accepts words (s .walker .cur)) (nest s) (leave s)
 
 -- a step by the phase: none once the search is over
 abbrev pub byPhase : Phase → Core → Core → Core → Core
@@ -223,31 +275,39 @@ over Nested = false
 over Exhausted = true
 over Found = true
 
-module _ (targets starts words : List ℕ) where
+module _ (g : Game) where
   -- the target of the next edge
   abbrev pub targetOf : Core → ℕ
-  targetOf s = getD (rowAt targets starts (s .walker .cur)) (s .walker .next) 0
+  targetOf s = getD (rowOf g (s .walker .cur)) (s .walker .next) 0
 
   -- has the state an edge left?
   abbrev pub hasEdge : Core → Bool
-  hasEdge s = ltb (s .walker .next) (degreeAt starts (s .walker .cur))
+  hasEdge s = ltb (s .walker .next) (length (rowOf g (s .walker .cur)))
 
   -- a probe of the outer search: was the target discovered?
   unfoldable pub outerProbe : Core → Core
-  outerProbe s = choose (eqb (getD (s .number) (targetOf s) 0) none) (discover (probed s) (targetOf s)) (withWalker (probed s) (skipped (s .walker)))
+  outerProbe s = choose (eqb (getD (s .number) (targetOf s) 0) noNumber) (discover (probed s) (targetOf s)) (withWalker (probed s) (skipped (s .walker)))
+
+  -- after the last edge
+  unfoldable pub finish : Core → Core
+  finish s = withWalker s (finished (acceptsAt g (s .walker .cur)) (s .parent) (s .index) (s .walker))
 
   unfoldable pub outerStep : Core → Core
-  outerStep s = choose (eqb (s .walker .height) 0) (withWalker s (exhausted (s .walker))) (choose (hasEdge s) (outerProbe s) (finish words s))
+  outerStep s = choose (eqb (s .walker .height) 0) (withWalker s (exhausted (s .walker))) (choose (hasEdge s) (outerProbe s) (finish s))
 
-  -- a probe of the nested search: is the target on the open path? was it marked?
+  -- a probe of the nested search: is the target unmarked? on the open path? (The first state of the nested search is not marked yet.)
   unfoldable pub nestedProbe : Core → Core
-  nestedProbe s = choose (onOpenPath (s .walk) (s .depth) (s .walker .height) (targetOf s))
+  nestedProbe s = choose (eqb (getD (s .stamp) (targetOf s) 0) noNumber)
+      (choose (onOpenPath (s .walk) (s .depth) (s .walker .height) (targetOf s))
       (withWalker (probed s) (closed (s .walker) (getD (s .depth) (targetOf s) 0)))
-      (choose (eqb (getD (s .stamp) (targetOf s) 0) none) (deepen (probed s) (targetOf s)) (withWalker (probed s) (skipped (s .walker))))
+      (deepen (probed s) (targetOf s)))
+      (withWalker (probed s) (skipped (s .walker)))
 
+  -- where the path of the nested search is empty, its first state is left
   unfoldable pub nestedStep : Core → Core
-  nestedStep s = choose (ltb (s .walker .top) (s .walker .height)) (leave s)
-      (choose (hasEdge s) (nestedProbe s) (withWalker s (returned (s .walk) (s .cursor) (s .walker))))
+  nestedStep s = choose (ltb (s .walker .top) (s .walker .height)) (leaveRoot s)
+      (choose (hasEdge s) (nestedProbe s)
+      (withWalker s (choose (leb (s .walker .top) (s .walker .height)) (emptied (s .walker)) (returned (s .walk) (s .cursor) (s .walker)))))
 
   unfoldable pub step : Core → Core
   step s = byPhase (s .walker .phase) (outerStep s) (nestedStep s) s
@@ -257,89 +317,51 @@ module _ (targets starts words : List ℕ) where
   runFor zero s = s
   runFor (suc n) s = runFor n (step s)
 
+-- ---- what a scan leaves
+
+-- the places of the row of v: none where it does not fit
+pub record Spans (starts : List ℕ) (v : ℕ) (r : Row) : Type 0 where
+  pub whole : fits starts v ≡ true → (r .from ≡ getD starts v 0) × (r .stop ≡ getD starts (suc v) 0)
+  pub empty : fits starts v ≡ false → (r .from ≡ 0) × (r .stop ≡ 0)
+  pub from-small : r .from < 65536
+  pub stop-small : r .stop ≤ 2048
+
+-- a place of the row of v, or behind it; the array of starts has the length of its type
+pub record Places (starts : List ℕ) (v at : ℕ) : Type 0 where
+  pub starts-size : length starts ≡ 513
+  pub first : getD starts v 0 ≤ at
+  pub near : at < getD starts v 0 + 65536
+
+-- each of n edges of the row, from edge k on, leads to a state that has a number in the array
+abbrev pub Skips : List ℕ → List ℕ → ℕ → ℕ → Type 0
+Skips row array k n = (i : ℕ) → i < n → (k + i < length row) × (getD array (getD row (k + i) 0) 0 ≡ noNumber → ⊥)
+
+-- a look at edge k of the row: it leads to a state that has no number in the array; first: the place of the row's first edge
+pub record Hits (row : List ℕ) (first : ℕ) (array : List ℕ) (k : ℕ) (r : Scanned) : Type 0 where
+  pub edge : k < length row
+  pub place-is : r .at ≡ first + k
+  pub target-is : r .target ≡ getD row k 0
+  pub new : getD array (r .target) 0 ≡ noNumber
+
+-- What a scan from edge k of a row on leaves: some edges are passed over, and one more is looked at, or none is left. Each look was counted.
+pub record Swept (row : List ℕ) (first : ℕ) (array : List ℕ) (k spent : ℕ) (r : Scanned) (spent′ : ℕ) : Type 0 where
+  pub passed : ℕ
+  pub skips : Skips row array k passed
+  pub looked : r .found ≡ true → Hits row first array (k + passed) r × (spent′ ≡ up (raised passed spent))
+  pub ended : r .found ≡ false → (length row ≤ k + passed) × (spent′ ≡ raised passed spent)
+
 -- ---- several steps at once
 
+-- a nested search has a state on the open path, and one on its own path
+pub record Deep (w : Walker) : Type 0 where
+  pub high : w .phase ≡ Nested → 0 < w .height
+  pub above : w .phase ≡ Nested → w .height ≤ w .top
+
 -- some steps more, at least one
-pub record Advanced (targets starts words : List ℕ) (s s′ : Core) : Type 0 where
+pub record Advanced (g : Game) (s s′ : Core) : Type 0 where
   pub more : ℕ
-  pub reached : s′ ≡ runFor targets starts words (suc more) s
-
--- at least so many steps
-pub record Ran (targets starts words : List ℕ) (budget : ℕ) (s s′ : Core) : Type 0 where
-  pub steps : ℕ
-  pub enough : budget ≤ steps
-  pub reached : s′ ≡ runFor targets starts words steps s
-
--- where a scan for an undiscovered state stands
-pub record Outwards (number : List ℕ) (s : Core) : Type 0 where
-  pub phase-is : s .walker .phase ≡ Outer
-  pub high : s .walker .height ≡ 0 → ⊥
-  pub number-is : s .number ≡ number
-
--- where a scan for a state on the open path, or an unmarked one, stands
-pub record Inwards (stamp walk depth : List ℕ) (height : ℕ) (s : Core) : Type 0 where
-  pub phase-is : s .walker .phase ≡ Nested
-  pub high : s .walker .height ≤ s .walker .top
-  pub height-is : s .walker .height ≡ height
-  pub stamp-is : s .stamp ≡ stamp
-  pub walk-is : s .walk ≡ walk
-  pub depth-is : s .depth ≡ depth
-
--- the same at another edge, with another count of probes
-abbrev pub standing : Core → ℕ → ℕ → Core
-standing s next spent = coreOf (placed (s .walker) next) spent (s .number) (s .parent) (s .index) (s .probes) (s .stamp) (s .walk) (s .depth) (s .cursor)
-
--- the steps from edge k of v up to another edge are skips: from any search that stands there they lead to the same at that edge
-abbrev pub Skips : (Core → Type 0) → List ℕ → List ℕ → ℕ → ℕ → ℕ → ℕ → ℕ → Type 0
-Skips Stands targets starts v k spent next spent′ = (words : List ℕ) (s : Core) → Stands s → s .walker .cur ≡ v → s .walker .next ≡ k → s .spent ≡ spent
-    → runFor targets starts words (next - k) s ≡ standing s next spent′
-
--- t is the target of every edge whose place that is
-abbrev pub Hands : List ℕ → ℕ → ℕ → Type 0
-Hands targets at t = (starts : List ℕ) (v k : ℕ) → k < degreeAt starts v → at ≡ getD starts v 0 + k → t ≡ getD (rowAt targets starts v) k 0
-
--- what a look at a place of a row leaves; the row stands from place `from` up to place `stop`
-pub record Edge (targets : List ℕ) (from stop at spent : ℕ) (r : Scanned) (spent′ : ℕ) : Type 0 where
-  pub next-is : r .next ≡ at - from
-  pub looked : r .found ≡ true → (at < stop) × Hands targets at (r .target) × (spent′ ≡ up spent)
-  pub ended : r .found ≡ false → (stop ≤ at) × (spent′ ≡ spent)
-
--- what a scan leaves: skips, and then the look at an edge, or no edge left
-pub record Swept (Stands : Core → Type 0) (targets starts : List ℕ) (v k spent : ℕ) (r : Scanned) (spent′ : ℕ) : Type 0 where
-  -- the count before that look
-  pub before : ℕ
-  pub skips : Skips Stands targets starts v k spent (r .next) before
-  pub looked : r .found ≡ true → (r .next < degreeAt starts v) × (r .target ≡ getD (rowAt targets starts v) (r .next) 0) × (spent′ ≡ up before)
-  pub ended : r .found ≡ false → (degreeAt starts v ≤ r .next) × (spent′ ≡ before)
-
--- ---- resuming
-
--- what is numbered up to the limit stays
-unfoldable pub upTo : ℕ → ℕ → ℕ
-upTo limit x = choose (leb x limit) x none
-
--- the count of states from x up to the start state, at most n
-unfoldable pub climb : List ℕ → ℕ → ℕ → ℕ → ℕ
-climb parent start zero x = 0
-climb parent start (suc n) x = choose (eqb x start) 1 (suc (climb parent start n (getD parent x 0)))
-
--- the chain of parents of x on the first n places of the walk
-unfoldable pub retraceWalk : List ℕ → ℕ → ℕ → List ℕ → List ℕ
-retraceWalk parent zero x walk = walk
-retraceWalk parent (suc n) x walk = retraceWalk parent n (getD parent x 0) (set walk n x)
-
-unfoldable pub retraceDepth : List ℕ → ℕ → ℕ → List ℕ → List ℕ
-retraceDepth parent zero x depth = depth
-retraceDepth parent (suc n) x depth = retraceDepth parent n (getD parent x 0) (set depth x n)
-
--- the search as it stands when s was discovered
-unfoldable pub rewound : ℕ → ℕ → ℕ → List ℕ → List ℕ → List ℕ → List ℕ → List ℕ → List ℕ → Core
-rewound start s spent number parent index probes stamp walk =
-    let limit = getD number s 0 in
-    let height = climb parent start 512 s in
-    coreOf (record { phase = Outer; cur = s; next = 0; height = height; top = height; met = up limit; kept = getD probes s 0 }) spent
-    (map (upTo limit) number) parent index probes (map (upTo limit) stamp)
-    (retraceWalk parent height s walk) (retraceDepth parent height s (replicate 512 0)) (replicate 512 0)
+  pub reached : s′ ≡ runFor g (suc more) s
+  pub deep : Deep (s′ .walker)
 
 -- what outlives a search
 pub record Result : Type 0 where
@@ -366,3 +388,53 @@ resultOf w spent number parent index probes stamp walk = record {
 
 abbrev pub result : Core → Result
 result s = resultOf (s .walker) (s .spent) (s .number) (s .parent) (s .index) (s .probes) (s .stamp) (s .walk)
+
+-- What a search from s leaves. Where it is over after as many steps as phases were asked for, that is what those steps leave. Where not, as only a
+-- forged session's is not, how many steps were made stays open: at least one for each phase.
+pub record Ran (g : Game) (phases : ℕ) (s : Core) (r : Result) : Type 0 where
+  pub ends : over (runFor g phases s .walker .phase) ≡ true → r ≡ result (runFor g phases s)
+  pub steps : ℕ
+  pub enough : phases ≤ steps
+  pub reached : r ≡ result (runFor g steps s)
+
+-- ---- resuming
+
+-- a number up to the limit stays
+unfoldable pub upTo : ℕ → ℕ → ℕ
+upTo limit x = choose (leb x limit) x noNumber
+
+-- of the first `size` entries, those up to the limit stay
+unfoldable pub forgetAbove : ℕ → ℕ → List ℕ → List ℕ
+forgetAbove limit size xs = map (upTo limit) (take size xs) ++ drop size xs
+
+-- the count of states from x up to the start state, at most n
+unfoldable pub climb : List ℕ → ℕ → ℕ → ℕ → ℕ
+climb parent start zero x = 0
+climb parent start (suc n) x = choose (eqb x start) 1 (suc (climb parent start n (getD parent x 0)))
+
+-- the chain of parents of x on the first n places of the walk
+unfoldable pub retraceWalk : List ℕ → ℕ → ℕ → List ℕ → List ℕ
+retraceWalk parent zero x walk = walk
+retraceWalk parent (suc n) x walk = retraceWalk parent n (getD parent x 0) (set walk n x)
+
+-- and the places of its states
+unfoldable pub retraceDepth : List ℕ → ℕ → ℕ → List ℕ → List ℕ
+retraceDepth parent zero x depth = depth
+retraceDepth parent (suc n) x depth = retraceDepth parent n (getD parent x 0) (set depth x n)
+
+-- the search as it stood when s was discovered; no state is `size` or more
+unfoldable pub rewound : ℕ → ℕ → ℕ → ℕ → List ℕ → List ℕ → List ℕ → List ℕ → List ℕ → List ℕ → Core
+rewound size start s spent number parent index probes stamp walk =
+    let limit = getD number s 0 in
+    let height = climb parent start 512 s in
+    coreOf (record { phase = Outer; cur = s; next = 0; height = height; top = height; stem = 0; met = up limit; kept = getD probes s 0 }) spent
+    (forgetAbove limit size number) parent index probes (forgetAbove limit size stamp)
+    (retraceWalk parent height s walk) (retraceDepth parent height s (replicate 512 0)) (replicate 512 0)
+
+-- the arrays of a search that has discovered only the start state, and marked none
+pub record Fresh (start : ℕ) (number parent index probes stamp : List ℕ) : Type 0 where
+  pub number-is : number ≡ set (replicate 512 noNumber) start 0
+  pub parent-is : parent ≡ replicate 512 start
+  pub index-is : index ≡ replicate 512 0
+  pub probes-is : probes ≡ replicate 512 0
+  pub stamp-is : stamp ≡ replicate 512 noNumber

@@ -13,7 +13,7 @@ use Rattle.rows.specs.Change.{Rows, inserted, removed}
 use Rattle.search.specs.declared.Phase.{Phase}
 use Rattle.search.specs.declared.Phase.the-variants.{Outer, Nested, Exhausted, Found}
 use Rattle.search.specs.declared.Walker.{Walker}
-use Rattle.search.specs.Core.{Core, none, Ran, rewound}
+use Rattle.search.specs.Core.{noNumber, Game, gameOf, Core, Result, Ran, rewound}
 use Rattle.session.specs.declared.Op.{Op}
 use Rattle.session.specs.declared.Op.the-variants.{Add, Cut}
 use Rattle.session.specs.declared.Resumption.{Resumption}
@@ -131,6 +131,7 @@ sessionOf size start words rows a v total = record {
   walk = a .walk;
   stem = v .stem;
   length = v .length;
+  height = v .height;
   total = total;
 }
 
@@ -150,6 +151,7 @@ noGame = record {
   walk = replicate 512 0;
   stem = 0;
   length = 0;
+  height = 0;
   total = 0;
 }
 
@@ -175,7 +177,7 @@ pickResumption true a b = a
 pickResumption false a b = b
 
 unfoldable pub resumptionAt : List ℕ → ℕ → Resumption
-resumptionAt number s = pickResumption (eqb (getD number s 0) none) Nowhere (At s)
+resumptionAt number s = pickResumption (eqb (getD number s 0) noNumber) Nowhere (At s)
 
 -- has the search found a cycle?
 abbrev pub isFound : Phase → Bool
@@ -184,40 +186,39 @@ isFound Nested = false
 isFound Exhausted = false
 isFound Found = true
 
--- what a search that is over has come to: the lengths of stem and walk, 0 where there is none
+-- what a search that is over has come to: the lengths of stem and walk and the height of the open path, 0 where there is none
 abbrev pub pickVerdict : Bool → Verdict → Verdict → Verdict
 pickVerdict true a b = a
 pickVerdict false a b = b
 
 unfoldable pub verdictOf : Walker → ℕ → Verdict
 verdictOf w spent = pickVerdict (isFound (w .phase))
-    (record { stem = w .height; length = w .top; spent = spent; kept = w .kept })
-    (record { stem = 0; length = 0; spent = spent; kept = w .kept })
+    (record { stem = w .stem; length = w .top; height = w .height; spent = spent; kept = w .kept })
+    (record { stem = 0; length = 0; height = 0; spent = spent; kept = w .kept })
 
 -- before the first search
 abbrev pub noVerdict : Verdict
-noVerdict = record { stem = 0; length = 0; spent = 0; kept = 0 }
+noVerdict = record { stem = 0; length = 0; height = 0; spent = 0; kept = 0 }
 
 -- the largest table's bound on the steps of a search
 abbrev pub bound : ℕ
 bound = 5634
 
-abbrev pub recordsIn : Core → Records
+abbrev pub recordsIn : Result → Records
 recordsIn c = recordsOf (c .number) (c .parent) (c .index) (c .probes) (c .stamp) (c .walk)
 
 -- the search as it stood when s was discovered, with no probe spent
 abbrev pub backAt : ℕ → ℕ → ℕ → Records → Core
-backAt size start s a = rewound start s 0 (a .number) (a .parent) (a .index) (a .probes) (a .stamp) (a .walk)
+backAt size start s a = rewound size start s 0 (a .number) (a .parent) (a .index) (a .probes) (a .stamp) (a .walk)
 
 -- What a search leaves that is taken up: nowhere, and all is as it was; or where s was discovered, and it is run for `bound` phases.
-abbrev pub Sought : (targets starts words : List ℕ) → ℕ → ℕ → Resumption → Verdict → Records → Verdict → Records → Type 0
-Sought targets starts words size start Nowhere old a r a′ = (r ≡ old) × (a′ ≡ a)
-Sought targets starts words size start (At s) old a r a′ =
-    (c : Core) × Ran targets starts words bound (backAt size start s a) c × (r ≡ verdictOf (c .walker) (c .spent)) × (a′ ≡ recordsIn c)
+abbrev pub Sought : Game → ℕ → ℕ → Resumption → Verdict → Records → Verdict → Records → Type 0
+Sought g size start Nowhere old a r a′ = (r ≡ old) × (a′ ≡ a)
+Sought g size start (At s) old a r a′ = (c : Result) × Ran g bound (backAt size start s a) c × (r ≡ verdictOf (c .walker) (c .spent)) × (a′ ≡ recordsIn c)
 
 -- What searching and answering leaves: the search, its answer, and the walk at the head of the lent list.
-pub record Settles (targets starts words : List ℕ) (size start : ℕ) (from : Resumption) (old : Verdict) (a : Records) (lent : List ℕ) (r : Settled) (a′ : Records) (lent′ : List ℕ) : Type 0 where
-  pub sought : Sought targets starts words size start from old a (r .verdict) a′
+pub record Settles (g : Game) (size start : ℕ) (from : Resumption) (old : Verdict) (a : Records) (lent : List ℕ) (r : Settled) (a′ : Records) (lent′ : List ℕ) : Type 0 where
+  pub sought : Sought g size start from old a (r .verdict) a′
   pub answer-is : r .answer ≡ answerIs (r .verdict)
   pub wrote : r .verdict .stem ≤ r .verdict .length → r .verdict .length ≤ 512 → r .verdict .length ≤ length lent → lent′ ≡ shownWalk (r .verdict .length) (a′ .walk) lent
 
@@ -226,5 +227,5 @@ pub record ChangedIn (op : Op) (words : List ℕ) (size start : ℕ) (old : Verd
   pub on-refusal : (n : ℕ) → trialIn op size (rows .targets) (rows .starts) (length lent) ≡ refused n
       → (r ≡ record { answer = refusing n; verdict = old }) × (rows′ ≡ rows) × (a′ ≡ a) × (lent′ ≡ lent)
   pub on-acceptance : trialIn op size (rows .targets) (rows .starts) (length lent) ≡ accepted
-      → (rows′ ≡ filedIn op size rows) × Settles (rows′ .targets) (rows′ .starts) words size start (resumptionAt (a .number) (sourceOf op)) old a lent r a′ lent′
+      → (rows′ ≡ filedIn op size rows) × Settles (gameOf (rows′ .targets) (rows′ .starts) words) size start (resumptionAt (a .number) (sourceOf op)) old a lent r a′ lent′
 

@@ -1,17 +1,16 @@
 -- What load and the changes promise, in terms of the plain table. Assumes nothing.
-use Prim.Native.Nat.{ℕ, _+_, _<_}
+use Prim.Native.Nat.{ℕ, suc, _+_, _<_}
 use mathlib.Core.Path.{_≡_}
 use mathlib.Core.Logic.{_≢_}
 use mathlib.Core.List.{List, [], _∷_, _++_, map}
 use lib.ListN.{length, take}
-use Rattle.plain.specs.Search.{Verdict, none, lasso, unfinished, verdict, count, run}
+use Rattle.plain.specs.Search.{Config, outer, nested, exhausted, found, Verdict, none, lasso, unfinished, verdict, count, run}
 use Rattle.plain.specs.Table.{Table, row, searched, final}
 use Rattle.plain.specs.Refusals.{Load, accepted, refused, loadTrial}
 use Rattle.plain.specs.Machine.{Change, add, cut, numbered, loadAnswer, tableOf, Call, answerTo, tableAfter, answers, written, Line, roundLine, noneLine, noLine, answerLine, answerLines}
 use Rattle.plain.specs.Claims.{Arises, LineTrue, LineCounted}
 use Rattle.rows.specs.Rows.{rowAt, edgeCount, Compressed}
-use Rattle.search.proofs.Represents.{Begins}
-use Rattle.search.proofs.Resumed.{Archived}
+use Rattle.search.specs.Archive.{Begins, Archived}
 use Rattle.session.specs.declared.Answer.{Answer}
 use Rattle.session.specs.declared.Answer.the-variants.{Refused, Clear, Round}
 use Rattle.session.specs.declared.Refusal.{Refusal}
@@ -48,6 +47,13 @@ Tells stemLength walkLength walk none = (stemLength ≡ 0) × (walkLength ≡ 0)
 Tells stemLength walkLength walk (lasso stem cycle) = (stemLength ≡ length stem) × (walkLength ≡ length stem + length cycle) × Begins (stem ++ cycle) walk × (0 < length cycle)
 Tells stemLength walkLength walk unfinished = ⊥
 
+-- how many states are on the open path
+abbrev pub heightOf : Config → ℕ
+heightOf (outer p d k l) = length p
+heightOf (nested s p q d k l) = suc (length p)
+heightOf (exhausted d k l) = 0
+heightOf (found h p q d k l) = length p
+
 -- The session holds the plain table t: its rows are the table's, and its records are those of the plain search on it, at its end.
 pub record Holds (s : Session) (t : Table) : Type 0 where
   pub arises : Arises t
@@ -61,6 +67,7 @@ pub record Holds (s : Session) (t : Table) : Type 0 where
   pub ended : verdict (run (searched t) steps) ≢ unfinished
   pub archived : Archived (searched t) steps (s .number) (s .parent) (s .index) (s .probes) (s .stamp) (s .walk)
   pub told : Tells (s .stem) (s .length) (s .walk) (verdict (final t))
+  pub height-is : s .height ≡ heightOf (final t)
   pub total-is : s .total ≡ count (final t)
 
 -- A LOAD: its answer and the lent list are those of the plain table, and the session of an accepted one holds that table.

@@ -7,7 +7,7 @@ ghost use lib.ListN.{length, take, drop};
 ghost use Rattle.plain.specs.Lists.{any};
 ghost use Rattle.plain.specs.Refusals.{badMarks, outside, selfLoop, pairs};
 ghost use Rattle.rows.specs.Change.{rowsOf};
-ghost use Rattle.search.specs.Core.{Tabled, Kept, plus};
+ghost use Rattle.search.specs.Core.{gameOf, Tabled, Lengths, plus};
 ghost use Rattle.session.specs.Model.{tried, earlyTrial, there, addTrialIn, cutTrialIn, trialIn, sourceOf, filedIn, Attempted, FiledAll, Tried, resumptionAt, isFound, verdictOf, noVerdict, recordsOf, Sought, answerIs, refusing, noGame, shownWalk, Settles, ChangedIn};
 ghost use Rattle.session.specs.Promises.{Loads, Changes};
 
@@ -47,6 +47,7 @@ enum Trial {
 struct Verdict {
     stem: u16,
     length: u16,
+    height: u16,
     spent: u16,
     kept: u16,
 }
@@ -77,6 +78,7 @@ pub struct Session {
     // by state: discovery number, parent, index of the edge in the parent's row, probes by then
     number: [u16; 512],
     parent: [u16; 512],
+    height: u16,
     total: u16,
     index: [u16; 512],
     probes: [u16; 512],
@@ -97,9 +99,6 @@ const STATES: u16 = 512;
 const MOVES: u16 = 2048;
 
 const NUMBERS: usize = 4096;
-
-// What stands in an array for "no number".
-const NO_NUMBER: u16 = 65535;
 
 // 2 × 2,048 + 3 × 512 + 2: no search takes more steps, and a phase of it is one step or more.
 const PHASES: u16 = 5634;
@@ -370,7 +369,7 @@ fn where_to_resume(number: &[u16; 512], s: u16) -> Resumption
     ensures { λ r. ⌜ r ≡ resumptionAt (now (number .entry)) s ⌝ }
 {
     if s < STATES {
-        if number[wide(s)] == NO_NUMBER {
+        if number[wide(s)] == search::NO_NUMBER {
             return Resumption::Nowhere;
         }
     }
@@ -396,8 +395,9 @@ fn verdict_of(w: search::Walker, spent: u16) -> Verdict
     let phase = w.phase;
     if is_found(phase) {
         return Verdict {
-            stem: w.height,
+            stem: w.stem,
             length: w.top,
+            height: w.height,
             spent: spent,
             kept: w.kept,
         };
@@ -405,6 +405,7 @@ fn verdict_of(w: search::Walker, spent: u16) -> Verdict
     Verdict {
         stem: 0,
         length: 0,
+        height: 0,
         spent: spent,
         kept: w.kept,
     }
@@ -426,8 +427,8 @@ fn seek(
     from: Resumption,
     old: Verdict,
 ) -> Verdict
-    requires { ⌜ Tabled (now targets) (now starts) × Kept (now number) (now parent) (now index) (now probes) (now stamp) (now walk) ⌝ }
-    ensures { λ r. ⌜ Sought (now (targets .entry)) (now (starts .entry)) (now (words .entry)) size start from old (recordsOf (now (number .entry)) (now (parent .entry)) (now (index .entry)) (now (probes .entry)) (now (stamp .entry)) (now (walk .entry))) r (recordsOf (now (number .exit)) (now (parent .exit)) (now (index .exit)) (now (probes .exit)) (now (stamp .exit)) (now (walk .exit))) ⌝ }
+    requires { ⌜ Tabled (now targets) (now starts) × Lengths (now number) (now parent) (now index) (now probes) (now stamp) (now walk) ⌝ }
+    ensures { λ r. ⌜ Sought (gameOf (now (targets .entry)) (now (starts .entry)) (now (words .entry))) size start from old (recordsOf (now (number .entry)) (now (parent .entry)) (now (index .entry)) (now (probes .entry)) (now (stamp .entry)) (now (walk .entry))) r (recordsOf (now (number .exit)) (now (parent .exit)) (now (index .exit)) (now (probes .exit)) (now (stamp .exit)) (now (walk .exit))) ⌝ }
     ensures { λ r. ⌜ length (now (walk .exit)) ≡ 512 ⌝ }
 {
     match from {
@@ -445,6 +446,7 @@ fn seek(
                 stamp,
                 walk,
                 &mut spent,
+                size,
                 start,
                 s,
                 PHASES,
@@ -534,6 +536,7 @@ fn no_game() -> Session
         walk: [0; 512],
         stem: 0,
         length: 0,
+        height: 0,
         total: 0,
     }
 }
@@ -545,6 +548,7 @@ fn no_verdict() -> Verdict
     Verdict {
         stem: 0,
         length: 0,
+        height: 0,
         spent: 0,
         kept: 0,
     }
@@ -574,8 +578,8 @@ fn settle(
     old: Verdict,
     lent: &mut [u16],
 ) -> Settled
-    requires { ⌜ Tabled (now targets) (now starts) × Kept (now number) (now parent) (now index) (now probes) (now stamp) (now walk) ⌝ }
-    ensures { λ r. ⌜ Settles (now (targets .entry)) (now (starts .entry)) (now (words .entry)) size start from old (recordsOf (now (number .entry)) (now (parent .entry)) (now (index .entry)) (now (probes .entry)) (now (stamp .entry)) (now (walk .entry))) (now (lent .entry)) r (recordsOf (now (number .exit)) (now (parent .exit)) (now (index .exit)) (now (probes .exit)) (now (stamp .exit)) (now (walk .exit))) (now (lent .exit)) ⌝ }
+    requires { ⌜ Tabled (now targets) (now starts) × Lengths (now number) (now parent) (now index) (now probes) (now stamp) (now walk) ⌝ }
+    ensures { λ r. ⌜ Settles (gameOf (now (targets .entry)) (now (starts .entry)) (now (words .entry))) size start from old (recordsOf (now (number .entry)) (now (parent .entry)) (now (index .entry)) (now (probes .entry)) (now (stamp .entry)) (now (walk .entry))) (now (lent .entry)) r (recordsOf (now (number .exit)) (now (parent .exit)) (now (index .exit)) (now (probes .exit)) (now (stamp .exit)) (now (walk .exit))) (now (lent .exit)) ⌝ }
 {
     let v = seek(
         targets,
@@ -620,16 +624,20 @@ pub fn load(size: u16, start: u16, words: [u64; 8], numbers: &[u16], lent: &mut 
             session: no_game(),
         };
     }
-    let mut number: [u16; 512] = [NO_NUMBER; 512];
-    let at = wide(start);
-    if at < 512 {
-        number[at] = 0;
-    }
-    let mut parent: [u16; 512] = [start; 512];
+    let mut number: [u16; 512] = [0; 512];
+    let mut parent: [u16; 512] = [0; 512];
     let mut index: [u16; 512] = [0; 512];
     let mut probes: [u16; 512] = [0; 512];
-    let mut stamp: [u16; 512] = [NO_NUMBER; 512];
+    let mut stamp: [u16; 512] = [0; 512];
     let mut walk: [u16; 512] = [0; 512];
+    search::begin(
+        &mut number,
+        &mut parent,
+        &mut index,
+        &mut probes,
+        &mut stamp,
+        start,
+    );
     let r = settle(
         &targets,
         &starts,
@@ -664,6 +672,7 @@ pub fn load(size: u16, start: u16, words: [u64; 8], numbers: &[u16], lent: &mut 
             walk,
             stem: v.stem,
             length: v.length,
+            height: v.height,
             total: total_of(v),
         },
     }
@@ -686,7 +695,7 @@ fn change_in(
     old: Verdict,
     lent: &mut [u16],
 ) -> Settled
-    requires { ⌜ Tabled (now targets) (now starts) × Kept (now number) (now parent) (now index) (now probes) (now stamp) (now walk) ⌝ }
+    requires { ⌜ Tabled (now targets) (now starts) × Lengths (now number) (now parent) (now index) (now probes) (now stamp) (now walk) ⌝ }
     ensures { λ r. ⌜ ChangedIn op (now (words .entry)) size start old (rowsOf (now (targets .entry)) (now (starts .entry))) (recordsOf (now (number .entry)) (now (parent .entry)) (now (index .entry)) (now (probes .entry)) (now (stamp .entry)) (now (walk .entry))) (now (lent .entry)) r (rowsOf (now (targets .exit)) (now (starts .exit))) (recordsOf (now (number .exit)) (now (parent .exit)) (now (index .exit)) (now (probes .exit)) (now (stamp .exit)) (now (walk .exit))) (now (lent .exit)) ⌝ }
 {
     let trial = attempt(op, size, targets, starts, lent.len());
@@ -731,6 +740,7 @@ pub fn change(s: Session, op: Op, lent: &mut [u16]) -> Outcome
     let old = Verdict {
         stem: s.stem,
         length: s.length,
+        height: s.height,
         spent: 0,
         kept: s.total,
     };
@@ -768,6 +778,7 @@ pub fn change(s: Session, op: Op, lent: &mut [u16]) -> Outcome
             walk,
             stem: v.stem,
             length: v.length,
+            height: v.height,
             total: total_of(v),
         },
     }

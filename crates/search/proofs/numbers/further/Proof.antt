@@ -1,0 +1,20 @@
+-- `further` meets its contract. Assumes nothing.
+use borrow.Author.Tests.{lt-ltb, le-ltb}
+use Rattle.search.specs.Core.{further}
+use borrow.Author.Needs.{needs}
+use Rattle.search.proofs.numbers.further.Statement.{statement}
+use Rattle.search.proofs.numbers.further.Tie as tie
+
+add-result : tie.Need-add-result
+add-result c = search needs
+
+returns : tie.Need-returns
+unfolding further
+returns c = rw (lt-ltb _ _ (c .if1 .taken))
+
+returns-2 : tie.Need-returns-2
+unfolding further
+returns-2 c = rw (le-ltb _ _ (c .if1 .left))
+
+pub further-spec : {M : Type 1} → statement M
+further-spec = tie.close (tie.spec add-result returns returns-2)

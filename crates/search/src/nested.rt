@@ -1,0 +1,179 @@
+// Steps of the nested search.
+use crate::Phase;
+use crate::Walker;
+use crate::look::edge_of;
+use crate::look::scan;
+use crate::numbers::down;
+use crate::numbers::further;
+use crate::numbers::get;
+use crate::numbers::put;
+use crate::outer::leave;
+ghost use mathlib.Core.Path.{_≡_};
+ghost use mathlib.Core.List.{List};
+ghost use Prim.Native.Nat.{ℕ, _-_};
+ghost use lib.ListN.{length, getD};
+ghost use Rattle.search.specs.declared.Phase.the-variants.{Nested};
+ghost use Rattle.search.specs.Core.{gameOf, Tabled, Trailed, Places, Deep, coreOf, placed, goBack, deepen as deepens, onOpenPath, Advanced, nestedStopped};
+
+// The turns of a loop that ends by itself long before: it makes its end plain.
+const TURNS: u16 = 65535;
+
+// Is t on the open path of that height?
+fn on_path(walk: &[u16; 512], depth: &[u16; 512], height: u16, t: u16) -> bool
+    requires { ⌜ (length (now walk) ≡ 512) × (length (now depth) ≡ 512) ⌝ }
+    ensures { λ r. ⌜ r ≡ onOpenPath (now (walk .entry)) (now (depth .entry)) height t ⌝ }
+{
+    let at = get(depth, t);
+    if at < height {
+        get(walk, at) == t
+    } else {
+        false
+    }
+}
+
+// The nested search goes on to t, by the edge at a place of the current state's row.
+fn deepen(
+    starts: &[u16; 513],
+    stamp: &mut [u16; 512],
+    walk: &mut [u16; 512],
+    cursor: &mut [u16; 512],
+    w: Walker,
+    at: usize,
+    t: u16,
+) -> Walker
+    requires { ⌜ (length (now stamp) ≡ 512) × (length (now walk) ≡ 512) × (length (now cursor) ≡ 512) × Places (now starts) (w .cur) at ⌝ }
+    ensures { λ r. ⌜ ((spent : ℕ) (number parent index probes depth : List ℕ) → coreOf r spent number parent index probes (now (stamp .exit)) (now (walk .exit)) depth (now (cursor .exit)) ≡ deepens (coreOf (placed w (at - getD (now (starts .entry)) (w .cur) 0)) spent number parent index probes (now (stamp .entry)) (now (walk .entry)) depth (now (cursor .entry))) t) ⌝ }
+{
+    put(stamp, t, w.met);
+    put(walk, w.top, t);
+    put(cursor, down(w.top), edge_of(starts, w.cur, at));
+    Walker {
+        phase: Phase::Nested,
+        cur: t,
+        next: 0,
+        height: w.height,
+        top: further(w.top),
+        stem: 0,
+        met: w.met,
+        kept: w.kept,
+    }
+}
+
+// The nested search goes back, from a state whose edges are all taken. From its first state it ends: that state is marked, and leaves the open path.
+// (While it is on the open path, a probe that leads to it has to find it unmarked.)
+fn go_back(
+    parent: &[u16; 512],
+    index: &[u16; 512],
+    stamp: &mut [u16; 512],
+    walk: &[u16; 512],
+    cursor: &[u16; 512],
+    w: Walker,
+) -> Walker
+    requires { ⌜ (length (now parent) ≡ 512) × (length (now index) ≡ 512) × (length (now stamp) ≡ 512) × (length (now walk) ≡ 512) × (length (now cursor) ≡ 512) ⌝ }
+    ensures { λ r. ⌜ ((spent : ℕ) (number probes depth : List ℕ) → coreOf r spent number (now (parent .entry)) (now (index .entry)) probes (now (stamp .exit)) (now (walk .entry)) depth (now (cursor .entry)) ≡ goBack (coreOf w spent number (now (parent .entry)) (now (index .entry)) probes (now (stamp .entry)) (now (walk .entry)) depth (now (cursor .entry)))) ⌝ }
+{
+    if w.top <= w.height {
+        put(stamp, w.cur, w.met);
+        return leave(parent, index, w);
+    }
+    let top = down(w.top);
+    let at = down(top);
+    Walker {
+        phase: Phase::Nested,
+        cur: get(walk, at),
+        next: further(get(cursor, at)),
+        height: w.height,
+        top: top,
+        stem: 0,
+        met: w.met,
+        kept: w.kept,
+    }
+}
+
+// Steps of the nested search: over the edges that lead to marked states, and one or two more.
+fn nested_step(
+    targets: &[u16; 2048],
+    starts: &[u16; 513],
+    parent: &[u16; 512],
+    index: &[u16; 512],
+    stamp: &mut [u16; 512],
+    walk: &mut [u16; 512],
+    depth: &[u16; 512],
+    cursor: &mut [u16; 512],
+    spent: &mut u16,
+    w: Walker,
+) -> Walker
+    requires { ⌜ (w .phase ≡ Nested) × Deep w × Tabled (now targets) (now starts) × Trailed (now parent) (now index) (now stamp) (now walk) (now depth) (now cursor) ⌝ }
+    ensures { λ r. ⌜ ((words number probes : List ℕ) → Advanced (gameOf (now (targets .entry)) (now (starts .entry)) words) (coreOf w (now (spent .entry)) number (now (parent .entry)) (now (index .entry)) probes (now (stamp .entry)) (now (walk .entry)) (now (depth .entry)) (now (cursor .entry))) (coreOf r (now (spent .exit)) number (now (parent .entry)) (now (index .entry)) probes (now (stamp .exit)) (now (walk .exit)) (now (depth .entry)) (now (cursor .exit)))) ⌝ }
+{
+    let r = scan(targets, starts, stamp, spent, w.cur, w.next);
+    if r.found {
+        let u = r.target;
+        if on_path(walk, depth, w.height, u) {
+            return Walker {
+                phase: Phase::Found,
+                cur: w.cur,
+                next: 0,
+                height: w.height,
+                top: w.top,
+                stem: get(depth, u),
+                met: w.met,
+                kept: w.kept,
+            };
+        }
+        return deepen(starts, stamp, walk, cursor, w, r.at, u);
+    }
+    go_back(parent, index, stamp, walk, cursor, w)
+}
+
+// Has the nested search stopped?
+fn nested_stopped(phase: Phase) -> bool
+    ensures { λ r. ⌜ r ≡ nestedStopped phase ⌝ }
+{
+    match phase {
+        Phase::Outer => true,
+        Phase::Nested => false,
+        Phase::Exhausted => true,
+        Phase::Found => true,
+    }
+}
+
+// Steps of the nested search until it stops, in a loop of their own.
+pub fn nested_steps(
+    targets: &[u16; 2048],
+    starts: &[u16; 513],
+    parent: &[u16; 512],
+    index: &[u16; 512],
+    stamp: &mut [u16; 512],
+    walk: &mut [u16; 512],
+    depth: &[u16; 512],
+    cursor: &mut [u16; 512],
+    spent: &mut u16,
+    w: Walker,
+) -> Walker
+    requires { ⌜ (w .phase ≡ Nested) × Deep w × Tabled (now targets) (now starts) × Trailed (now parent) (now index) (now stamp) (now walk) (now depth) (now cursor) ⌝ }
+    ensures { λ r. ⌜ ((words number probes : List ℕ) → Advanced (gameOf (now (targets .entry)) (now (starts .entry)) words) (coreOf w (now (spent .entry)) number (now (parent .entry)) (now (index .entry)) probes (now (stamp .entry)) (now (walk .entry)) (now (depth .entry)) (now (cursor .entry))) (coreOf r (now (spent .exit)) number (now (parent .entry)) (now (index .entry)) probes (now (stamp .exit)) (now (walk .exit)) (now (depth .entry)) (now (cursor .exit)))) ⌝ }
+{
+    let mut q = w;
+    let mut left = TURNS;
+    while 0 < left {
+        q = nested_step(
+            targets,
+            starts,
+            parent,
+            index,
+            stamp,
+            walk,
+            depth,
+            cursor,
+            spent,
+            q,
+        );
+        let phase = q.phase;
+        if nested_stopped(phase) {
+            return q;
+        }
+        left -= 1;
+    }
+    q
+}

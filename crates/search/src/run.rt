@@ -1,0 +1,179 @@
+// The search, resumed, to its end.
+use crate::Phase;
+use crate::Walker;
+use crate::nested::nested_steps;
+use crate::numbers::get;
+use crate::numbers::up;
+use crate::outer::outer_steps;
+use crate::rewind::climb;
+use crate::rewind::forget_above;
+use crate::rewind::retrace;
+ghost use mathlib.Core.Path.{_≡_};
+ghost use Rattle.search.specs.Core.{gameOf, Sized, Tabled, Lengths, Deep, coreOf, Advanced, Ran, over as isOver, rewound, resultOf};
+
+// Steps of the outer or of the nested search, until that stops; none once the search is over.
+fn one_phase(
+    targets: &[u16; 2048],
+    starts: &[u16; 513],
+    words: &[u64; 8],
+    number: &mut [u16; 512],
+    parent: &mut [u16; 512],
+    index: &mut [u16; 512],
+    probes: &mut [u16; 512],
+    stamp: &mut [u16; 512],
+    walk: &mut [u16; 512],
+    depth: &mut [u16; 512],
+    cursor: &mut [u16; 512],
+    spent: &mut u16,
+    w: Walker,
+) -> Walker
+    requires { ⌜ Tabled (now targets) (now starts) × Sized (coreOf w (now spent) (now number) (now parent) (now index) (now probes) (now stamp) (now walk) (now depth) (now cursor)) × Deep w ⌝ }
+    ensures { λ r. ⌜ Advanced (gameOf (now (targets .entry)) (now (starts .entry)) (now (words .entry))) (coreOf w (now (spent .entry)) (now (number .entry)) (now (parent .entry)) (now (index .entry)) (now (probes .entry)) (now (stamp .entry)) (now (walk .entry)) (now (depth .entry)) (now (cursor .entry))) (coreOf r (now (spent .exit)) (now (number .exit)) (now (parent .exit)) (now (index .exit)) (now (probes .exit)) (now (stamp .exit)) (now (walk .exit)) (now (depth .exit)) (now (cursor .exit))) ⌝ }
+{
+    let phase = w.phase;
+    match phase {
+        Phase::Outer => outer_steps(
+            targets,
+            starts,
+            words,
+            number,
+            parent,
+            index,
+            probes,
+            walk,
+            depth,
+            spent,
+            w,
+        ),
+        Phase::Nested => nested_steps(
+            targets,
+            starts,
+            parent,
+            index,
+            stamp,
+            walk,
+            depth,
+            cursor,
+            spent,
+            w,
+        ),
+        Phase::Exhausted => w,
+        Phase::Found => w,
+    }
+}
+
+// Is the search over?
+fn over(phase: Phase) -> bool
+    ensures { λ r. ⌜ r ≡ isOver phase ⌝ }
+{
+    match phase {
+        Phase::Outer => false,
+        Phase::Nested => false,
+        Phase::Exhausted => true,
+        Phase::Found => true,
+    }
+}
+
+// So many phases, unless the search is over before. A phase is a step or more, so that steps for each phase are enough.
+fn run(
+    targets: &[u16; 2048],
+    starts: &[u16; 513],
+    words: &[u64; 8],
+    number: &mut [u16; 512],
+    parent: &mut [u16; 512],
+    index: &mut [u16; 512],
+    probes: &mut [u16; 512],
+    stamp: &mut [u16; 512],
+    walk: &mut [u16; 512],
+    depth: &mut [u16; 512],
+    cursor: &mut [u16; 512],
+    spent: &mut u16,
+    w: Walker,
+    phases: u16,
+) -> Walker
+    requires { ⌜ Tabled (now targets) (now starts) × Sized (coreOf w (now spent) (now number) (now parent) (now index) (now probes) (now stamp) (now walk) (now depth) (now cursor)) × Deep w ⌝ }
+    ensures { λ r. ⌜ Ran (gameOf (now (targets .entry)) (now (starts .entry)) (now (words .entry))) phases (coreOf w (now (spent .entry)) (now (number .entry)) (now (parent .entry)) (now (index .entry)) (now (probes .entry)) (now (stamp .entry)) (now (walk .entry)) (now (depth .entry)) (now (cursor .entry))) (resultOf r (now (spent .exit)) (now (number .exit)) (now (parent .exit)) (now (index .exit)) (now (probes .exit)) (now (stamp .exit)) (now (walk .exit))) ⌝ }
+{
+    let mut q = w;
+    let mut left = phases;
+    while 0 < left {
+        let phase = q.phase;
+        if over(phase) {
+            return q;
+        }
+        q = one_phase(
+            targets,
+            starts,
+            words,
+            number,
+            parent,
+            index,
+            probes,
+            stamp,
+            walk,
+            depth,
+            cursor,
+            spent,
+            q,
+        );
+        left -= 1;
+    }
+    q
+}
+
+// The search from the discovery of s on, for so many phases: what was discovered or marked later is forgotten, and the open path is the chain of
+// parents of s. No state is `size` or more. What stays open, where the search is not over by then, as only that of a forged session is: how many
+// steps are made. At least one is made for each phase.
+pub fn resume(
+    targets: &[u16; 2048],
+    starts: &[u16; 513],
+    words: &[u64; 8],
+    number: &mut [u16; 512],
+    parent: &mut [u16; 512],
+    index: &mut [u16; 512],
+    probes: &mut [u16; 512],
+    stamp: &mut [u16; 512],
+    walk: &mut [u16; 512],
+    spent: &mut u16,
+    size: u16,
+    start: u16,
+    s: u16,
+    phases: u16,
+) -> Walker
+    requires { ⌜ Tabled (now targets) (now starts) × Lengths (now number) (now parent) (now index) (now probes) (now stamp) (now walk) ⌝ }
+    ensures { λ r. ⌜ Ran (gameOf (now (targets .entry)) (now (starts .entry)) (now (words .entry))) phases (rewound size start s (now (spent .entry)) (now (number .entry)) (now (parent .entry)) (now (index .entry)) (now (probes .entry)) (now (stamp .entry)) (now (walk .entry))) (resultOf r (now (spent .exit)) (now (number .exit)) (now (parent .exit)) (now (index .exit)) (now (probes .exit)) (now (stamp .exit)) (now (walk .exit))) ⌝ }
+{
+    let limit = get(number, s);
+    forget_above(number, size, limit);
+    forget_above(stamp, size, limit);
+    let height = climb(parent, start, s);
+    let mut depth: [u16; 512] = [0; 512];
+    let mut cursor: [u16; 512] = [0; 512];
+    retrace(parent, walk, &mut depth, s, height);
+    let w = Walker {
+        phase: Phase::Outer,
+        cur: s,
+        next: 0,
+        height: height,
+        top: height,
+        stem: 0,
+        met: up(limit),
+        kept: get(probes, s),
+    };
+    run(
+        targets,
+        starts,
+        words,
+        number,
+        parent,
+        index,
+        probes,
+        stamp,
+        walk,
+        &mut depth,
+        &mut cursor,
+        spent,
+        w,
+        phases,
+    )
+}
