@@ -1,6 +1,7 @@
 -- One row is changed and those behind it move with their starts: an edge is put in, an edge is taken out. Assumes nothing.
 use Prim.Native.Nat.{ℕ, zero, suc, _+_, _-_, _≤_, _<_}
 use native.Mathlib.Decide.{ℕ-discrete, decLt}
+use native.Mathlib.Decide.{decLe}
 use native.Mathlib.Omega.{arith}
 use mathlib.Core.Path.{_≡_, refl, sym, ap, ap₂, _∙_}
 use mathlib.Core.Bool.{Bool, true, false}
@@ -31,6 +32,13 @@ module _ (size : ℕ) (xs ss : List ℕ) (good : Compressed size xs ss) where
 
   row-end : (v : ℕ) → v < size → getD ss (suc v) 0 ≤ edgeCount ss size
   row-end v h = starts-rise (suc v) size h (omega arith)
+
+  -- every row ends within the targets
+  pub starts-within : (v : ℕ) → getD ss v 0 ≤ 2048
+  starts-within v = elim (decLe v size) [
+    | yes h ↦ omega (arith, starts-rise v size h (omega arith), good .within)
+    | no h ↦ omega (arith, good .behind v (omega arith))
+  ]
 
 -- The starts behind v are more and less than before, the entries behind its row moved with them.
 record Shifted (size : ℕ) (xs ss : List ℕ) (v more less : ℕ) (xs′ ss′ : List ℕ) : Type 0 where

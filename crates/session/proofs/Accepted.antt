@@ -9,28 +9,27 @@ use native.Mathlib.Omega.{arith}
 use lib.ListN.{length, getD}
 use borrow.Author.Tests.{ltb-false}
 use Rattle.plain.specs.Lists.{elem, In}
-use Rattle.plain.specs.Search.{Graph, discoveredOf, meets, run, Verdict as PlainVerdict, unfinished, verdict, count}
+use Rattle.plain.specs.Search.{Graph, Config, discoveredOf, meets, run, Verdict as PlainVerdict, unfinished, verdict, count}
 use Rattle.rows.specs.Rows.{edgeCount, Compressed}
 use Rattle.rows.specs.Change.{Rows, rowsOf}
 use Rattle.plain.specs.Table.{Table, searched, final, firstMeeting}
 use Rattle.plain.specs.Refusals.{Trial, accepted, refused, addTrial, cutTrial, shortRoom}
 use Rattle.plain.specs.Machine.{Change, named, apply, kept, Answer as PlainAnswer, refusal, numbered, answer, changeTrial, trialOf, answerTo, tableAfter, changeAnswer, after, written, answerLine}
-use Rattle.plain.specs.Notes.{Note, Notes}
+use Rattle.plain.specs.Notes.{Note, Notes, Faithful}
 use Rattle.plain.specs.Claims.{changed}
 use Rattle.plain.proofs.Tests.{either, in-one}
 use Rattle.plain.proofs.Restore.{noted-run}
 use Rattle.plain.proofs.Prefix.{meets-one, unmet-one}
-use Rattle.plain.proofs.Resume.{Holds as Searched}
 use Rattle.plain.proofs.Trials.{passed}
 use Rattle.plain.proofs.Rows.{agree}
 use Rattle.plain.proofs.Tables.{Valid, valid, valid-change}
 use Rattle.plain.proofs.Demands.{run-final, verdict-right, change-unmet, change-met}
-use Rattle.search.specs.Core.{Core, none, plus}
-use Rattle.search.proofs.Represents.{plus-more}
+use Rattle.search.specs.Core.{noNumber, gameOf, Result, plus}
+use Rattle.search.specs.Archive.{notesOf, Archived}
+use Rattle.search.proofs.Counting.{plus-more}
 use Rattle.search.proofs.Scans.{ran-from}
-use Rattle.search.proofs.Rewind.{notesOf}
 use Rattle.search.proofs.Ended.{rewound-spent}
-use Rattle.search.proofs.Resumed.{Archived, resume-fits, limits}
+use Rattle.search.proofs.Resumed.{Small, resume-fits, limits}
 use Rattle.session.specs.declared.Answer.{Answer}
 use Rattle.session.specs.declared.Op.{Op}
 use Rattle.session.specs.declared.Op.the-variants.{Add, Cut}
@@ -39,12 +38,12 @@ use Rattle.session.specs.declared.Settled.{Settled}
 use Rattle.session.specs.declared.Resumption.{Resumption}
 use Rattle.session.specs.declared.Verdict.{Verdict}
 use Rattle.session.specs.Model.{addTrialIn, cutTrialIn, trialIn, sourceOf, filedIn, Records, recordsOf, recordsIn, resumptionAt, backAt, Sought, verdictOf, sessionOf, refusing, answerIs, shownWalk, Settles, ChangedIn}
-use Rattle.session.specs.Promises.{shown, changeOf, Tells, Holds, Changes}
+use Rattle.session.specs.Promises.{shown, changeOf, Tells, heightOf, Holds, Changes}
 use Rattle.session.proofs.Pairs.{outside-from}
 use Rattle.session.proofs.Trying.{tried-refused, stop}
 use Rattle.session.proofs.Held.{size-few, small, trial-same, source-below, Refiled, refiled}
 use Rattle.session.proofs.Told.{tells-answer, tells-written, tells-fits, never-refused}
-use Rattle.session.proofs.Sought.{matches, verdict-kept, Reached, reached, taken-nowhere, taken-at}
+use Rattle.session.proofs.Sought.{matches, Reached, reached, taken-nowhere, taken-at}
 
 named-one : (op : Op) → named (changeOf op) ≡ sourceOf op ∷ []
 unfolding named
@@ -79,29 +78,32 @@ record Worth (c : Change) (t : Table) (v : Verdict) (a : Records) : Type 0 where
   ended : verdict (run (searched (apply c t)) steps) ≢ unfinished
   archive : Archived (searched (apply c t)) steps (a .number) (a .parent) (a .index) (a .probes) (a .stamp) (a .walk)
   tells : Tells (v .stem) (v .length) (a .walk) (verdict (final (apply c t)))
+  height-is : v .height ≡ heightOf (final (apply c t))
   kept-is : v .kept ≡ kept c t
   adds-up : v .kept + v .spent ≡ count (final (apply c t))
   total-is : plus (v .kept) (v .spent) ≡ count (final (apply c t))
 
 -- the same run on another graph
-archive-moved : (g h : Graph) (n : ℕ) (number parent index probes stamp walk : List ℕ) → Archived g n number parent index probes stamp walk
-    → Searched h (notesOf number parent index probes stamp) n → run h n ≡ run g n → Archived h n number parent index probes stamp walk
-archive-moved g h n number parent index probes stamp walk a w e = record {
-  sizes = a .sizes;
-  holds = w;
-  undiscovered = λ x b o. a .undiscovered x b (rw e at o);
-  unmarked = λ x b o. a .unmarked x b (rw e at o);
+archive-moved : (g h : Graph) (n : ℕ) (a : Records) → Archived g n (a .number) (a .parent) (a .index) (a .probes) (a .stamp) (a .walk)
+    → Faithful h (notesOf (run g n) (a .number) (a .parent) (a .index) (a .probes) (a .stamp)) n → run h n ≡ run g n
+    → Archived h n (a .number) (a .parent) (a .index) (a .probes) (a .stamp) (a .walk)
+archive-moved g h n a f w e = record {
+  sizes = f .sizes;
+  holds = subst⁻¹ (λ (c : Config). Faithful h (notesOf c (a .number) (a .parent) (a .index) (a .probes) (a .stamp)) n) e w;
+  undiscovered = λ x b o. f .undiscovered x b (rw e at o);
+  unmarked = λ x b o. f .unmarked x b (rw e at o);
+  root-unmarked = λ x i. f .root-unmarked x (rw e at i);
 }
 
 -- what a session holds of its last search
 abbrev oldOf : Session → Verdict
-oldOf s = record { stem = s .stem; length = s .length; spent = 0; kept = s .total }
+oldOf s = record { stem = s .stem; length = s .length; height = s .height; spent = 0; kept = s .total }
 
 abbrev recordsHeld : Session → Records
 recordsHeld s = recordsOf (s .number) (s .parent) (s .index) (s .probes) (s .stamp) (s .walk)
 
 module _ (op : Op) (s : Session) (rows : Rows) (a : Records) (v : Verdict) (new : rows ≡ filedIn op (s .size) (rowsOf (s .targets) (s .starts)))
-    (sought : Sought (rows .targets) (rows .starts) (s .words) (s .size) (s .start) (resumptionAt (s .number) (sourceOf op)) (oldOf s) (recordsHeld s) v a)
+    (sought : Sought (gameOf (rows .targets) (rows .starts) (s .words)) (s .size) (s .start) (resumptionAt (s .number) (sourceOf op)) (oldOf s) (recordsHeld s) v a)
     (t : Table) (h : Holds s t) (room : ℕ) (yes-it-is : changeTrial (changeOf op) t room ≡ accepted) where
   abbrev from : ℕ
   from = sourceOf op
@@ -119,60 +121,62 @@ module _ (op : Op) (s : Session) (rows : Rows) (a : Records) (v : Verdict) (new 
   ok′ = valid-change c t room ok yes-it-is
 
   r : Notes
-  r = notesOf (s .number) (s .parent) (s .index) (s .probes) (s .stamp)
+  r = notesOf (run (searched t) (h .steps)) (s .number) (s .parent) (s .index) (s .probes) (s .stamp)
 
   rows-new : Refiled rows t′
   rows-new = refiled s t h rows op room yes-it-is (new ∙ ap (λ (n : ℕ). filedIn op n (rowsOf (s .targets) (s .starts))) (h .size-is))
 
   -- the named state was never met: nothing is to be done
-  worth-unmet : getD (s .number) from 0 ≡ none → elem from (discoveredOf (run (searched t) (h .steps))) ≡ false → Worth c t v a
+  worth-unmet : getD (s .number) from 0 ≡ noNumber → elem from (discoveredOf (run (searched t) (h .steps))) ≡ false → Worth c t v a
   unfolding r kept
   worth-unmet e f =
-      let q = subst (λ (x : Resumption). Sought (rows .targets) (rows .starts) (s .words) (s .size) (s .start) x (oldOf s) (recordsHeld s) v a) (taken-nowhere (s .number) from e) sought in
+      let q = subst (λ (x : Resumption). Sought (gameOf (rows .targets) (rows .starts) (s .words)) (s .size) (s .start) x (oldOf s) (recordsHeld s) v a) (taken-nowhere (s .number) from e) sought in
       let m : meets (named c) (run (searched t) (h .steps)) ≡ false = subst (λ (l : List ℕ). meets l (run (searched t) (h .steps)) ≡ false) (sym (named-one op)) (unmet-one (searched t) from (run (searched t) (h .steps)) f) in
       let u = change-unmet c t ok ok′ (h .steps) (h .ended) r m (h .archived .holds) in
       let z : s .total + 0 ≡ count (final t′) = omega (arith, h .total-is, ap count (u .same-final)) in
       subst⁻¹ (λ (x : Verdict). Worth c t x a) (q .0) (subst⁻¹ (λ (x : Records). Worth c t (oldOf s) x) (q .1) (record {
         steps = h .steps;
         ended = u .still-ended;
-        archive = archive-moved (searched t) (searched t′) (h .steps) (s .number) (s .parent) (s .index) (s .probes) (s .stamp) (s .walk) (h .archived) (u .holds) (u .same-run);
+        archive = archive-moved (searched t) (searched t′) (h .steps) (recordsHeld s) (h .archived) (u .holds) (u .same-run);
         tells = subst⁻¹ (λ (w : PlainVerdict). Tells (s .stem) (s .length) (s .walk) w) (ap verdict (u .same-final)) (h .told);
+        height-is = h .height-is ∙ sym (ap heightOf (u .same-final));
         kept-is = h .total-is ∙ sym (ap count (u .all-kept));
         adds-up = z;
-        total-is = plus-more (s .total) 0 (omega (arith, z, limits (searched t′) (small t′ ok′) (h .steps) .probes-few, ap count (run-final t′ ok′ (h .steps) (u .still-ended)))) ∙ z;
+        total-is = plus-more (s .total) 0 (omega (arith, z, limits (searched t′) (t′ .size) (small t′ ok′) (h .steps) .probes-few, ap count (run-final t′ ok′ (h .steps) (u .still-ended)))) ∙ z;
       }))
 
   -- the named state was met: the search is resumed there
-  worth-met : (getD (s .number) from 0 ≡ none → ⊥) → In from (discoveredOf (run (searched t) (h .steps))) → Worth c t v a
+  worth-met : (getD (s .number) from 0 ≡ noNumber → ⊥) → In from (discoveredOf (run (searched t) (h .steps))) → Worth c t v a
   unfolding r kept
   worth-met e i =
-      let q = subst (λ (x : Resumption). Sought (rows .targets) (rows .starts) (s .words) (s .size) (s .start) x (oldOf s) (recordsHeld s) v a) (taken-at (s .number) from e) sought in
+      let q = subst (λ (x : Resumption). Sought (gameOf (rows .targets) (rows .starts) (s .words)) (s .size) (s .start) x (oldOf s) (recordsHeld s) v a) (taken-at (s .number) from e) sought in
       let m : meets (named c) (run (searched t) (h .steps)) ≡ true = subst (λ (l : List ℕ). meets l (run (searched t) (h .steps)) ≡ true) (sym (named-one op)) (meets-one (searched t) from (run (searched t) (h .steps)) i) in
       let u = change-met c t ok ok′ (h .steps) (h .ended) r m (h .archived .holds) in
       let w = u .meeting in
       let here : w .meeting .state ≡ from = in-one (w .meeting .state) from (subst (λ (l : List ℕ). In (w .meeting .state) l) (named-one op) (w .meeting .is-named)) in
-      let fit = resume-fits (named c) (searched t) (searched t′) (agree c t) (small t′ ok′) (h .steps) (s .number) (s .parent) (s .index) (s .probes) (s .stamp) (s .walk) (h .archived) w in
-      let back = backAt (s .size) (t′ .start) (w .meeting .state) (recordsHeld s) in
-      let ran = ran-from (rows .targets) (rows .starts) (s .words) (same-start (h .start-is ∙ sym (changed-start op t)) (sym here)) (q .1) in
-      let g = reached t′ ok′ (rows .targets) (rows .starts) (s .words) (matches t′ rows (s .words) rows-new (h .words-are ∙ sym (changed-words op t)))
-      (w .at) back (q .0) (rewound-spent (t′ .start) (w .meeting .state) 0 (s .number) (s .parent) (s .index) (s .probes) (s .stamp) (s .walk)) fit ran in
+      let same : t′ .size ≡ t .size = changed-size op t in
+      let n : s .size ≡ t .size = h .size-is in
+      let fit = resume-fits (t .size) (named c) (searched t) (searched t′) (agree c t) (small t ok) (subst (Small (searched t′)) same (small t′ ok′)) (h .steps) (s .number) (s .parent) (s .index) (s .probes) (s .stamp) (s .walk) (h .archived) w in
+      let ran = ran-from (gameOf (rows .targets) (rows .starts) (s .words)) (same-start n (h .start-is ∙ sym (changed-start op t)) (sym here)) (q .1) in
+      let g = reached t′ ok′ (gameOf (rows .targets) (rows .starts) (s .words)) (matches t′ rows (s .words) rows-new (h .words-are ∙ sym (changed-words op t)))
+      (w .at) (backAt (t .size) (t′ .start) (w .meeting .state) (recordsHeld s)) (q .0)
+      (rewound-spent (t .size) (t′ .start) (w .meeting .state) 0 (s .number) (s .parent) (s .index) (s .probes) (s .stamp) (s .walk)) fit ran in
       subst⁻¹ (λ (x : Verdict). Worth c t x a) (q .2) (subst⁻¹ (λ (x : Records). Worth c t (verdictOf (q .0 .walker) (q .0 .spent)) x) (q .3) (settled-by (q .0) (w .at) g (ap count (u .kept-here))))
     where
-      same-start : {x y z w : ℕ} → x ≡ y → z ≡ w → backAt (s .size) x z (recordsHeld s) ≡ backAt (s .size) y w (recordsHeld s)
-      same-start p z = λ j. backAt (s .size) (p j) (z j) (recordsHeld s)
+      same-start : {m m₂ x y z w : ℕ} → m ≡ m₂ → x ≡ y → z ≡ w → backAt m x z (recordsHeld s) ≡ backAt m₂ y w (recordsHeld s)
+      same-start l p z = λ j. backAt (l j) (p j) (z j) (recordsHeld s)
 
-      settled-by : (x : Core) (n : ℕ) → Reached t′ n x → count (firstMeeting (named c) t′) ≡ count (run (searched t′) n) → Worth c t (verdictOf (x .walker) (x .spent)) (recordsIn x)
-      settled-by x n g z =
-          let k = verdict-kept (x .walker) (x .spent) in
-          record {
-            steps = g .steps;
-            ended = g .ended;
-            archive = g .kept-archive;
-            tells = g .tells;
-            kept-is = k .0 ∙ g .kept-is ∙ sym z;
-            adds-up = (λ j. k .0 j + k .1 j) ∙ g .adds-up;
-            total-is = (λ j. plus (k .0 j) (k .1 j)) ∙ g .total-is;
-          }
+      settled-by : (x : Result) (n : ℕ) → Reached t′ n x → count (firstMeeting (named c) t′) ≡ count (run (searched t′) n) → Worth c t (verdictOf (x .walker) (x .spent)) (recordsIn x)
+      settled-by x n g z = record {
+        steps = g .steps;
+        ended = g .ended;
+        archive = g .archive;
+        tells = g .tells;
+        height-is = g .height-is;
+        kept-is = g .kept-is ∙ sym z;
+        adds-up = g .adds-up;
+        total-is = g .total-is;
+      }
 
   -- the records are those of the changed table, either way
   worth : Worth c t v a
@@ -181,14 +185,14 @@ module _ (op : Op) (s : Session) (rows : Rows) (a : Records) (v : Verdict) (new 
       (λ f. worth-unmet (h .archived .undiscovered from (omega (arith, source-below op t room yes-it-is, size-few (t .size) (ok .size-ok))) f) f)
       (either (elem from (discoveredOf (run (searched t) (h .steps)))))
     where
-      met-number : In from (discoveredOf (run (searched t) (h .steps))) → getD (s .number) from 0 ≡ none → ⊥
+      met-number : In from (discoveredOf (run (searched t) (h .steps))) → getD (s .number) from 0 ≡ noNumber → ⊥
       met-number i e =
           let n = noted-run (searched t) (h .steps) in
           omega (
             arith,
             ap (λ (x : Note). x .number) (h .archived .holds .notes-right from i),
             n .counted .0 from i,
-            limits (searched t) (small t ok) (h .steps) .few,
+            limits (searched t) (t .size) (small t ok) (h .steps) .few,
           )
 
   -- the session that is returned
@@ -213,6 +217,7 @@ module _ (op : Op) (s : Session) (rows : Rows) (a : Records) (v : Verdict) (new 
         ended = w .ended;
         archived = w .archive;
         told = w .tells;
+        height-is = w .height-is;
         total-is = w .total-is;
       }
 
@@ -275,6 +280,7 @@ same-session s h = λ i. record {
   walk = s .walk;
   stem = s .stem;
   length = s .length;
+  height = s .height;
   total = (plus-more (s .total) 0 (omega arith) ∙ add-zero (s .total)) i;
 }
 
@@ -297,7 +303,7 @@ module _ (op : Op) (s : Session) (lent : List ℕ) where
 
   change-accepted : (lent′ : List ℕ) (rows : Rows) (a : Records) (r : Settled) → trialIn op (s .size) (s .targets) (s .starts) (length lent) ≡ accepted
       → rows ≡ filedIn op (s .size) (rowsOf (s .targets) (s .starts))
-      → Settles (rows .targets) (rows .starts) (s .words) (s .size) (s .start) (resumptionAt (s .number) (sourceOf op)) (oldOf s) (recordsHeld s) lent r a lent′
+      → Settles (gameOf (rows .targets) (rows .starts) (s .words)) (s .size) (s .start) (resumptionAt (s .number) (sourceOf op)) (oldOf s) (recordsHeld s) lent r a lent′
       → Changes op s lent (record { answer = r .answer; session = sessionOf (s .size) (s .start) (s .words) rows a (r .verdict) (plus (r .verdict .kept) (r .verdict .spent)) }) lent′
   change-accepted lent′ rows a r e new w = rw (w .answer-is) (record {
     answers = λ t h. ap answerLine (answer-accepted (changeOf op) (length lent) t (is t h))

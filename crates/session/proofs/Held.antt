@@ -42,12 +42,13 @@ unfolding budget
 budget-bound t v = omega (arith, v .count-ok, size-few (t .size) (v .size-ok))
 
 -- a table of a session is a small graph
-pub small : (t : Table) → Valid t → Small (searched t)
+pub small : (t : Table) → Valid t → Small (searched t) (t .size)
 small t v = record {
   us = upto (t .size);
   start-in = start-in t v;
   stays = target-in t v;
-  below = λ x i. omega (arith, in-upto x (t .size) i, size-few (t .size) (v .size-ok));
+  below = λ x i. in-upto x (t .size) i;
+  size-few = size-few (t .size) (v .size-ok);
   few = omega (arith, length-upto (t .size), size-few (t .size) (v .size-ok));
   rows-short = λ x. omega (arith, row-short (t .edges) x, v .count-ok);
   edges-few = omega (arith, total-le (t .edges) (upto (t .size)) (once-upto (t .size)), v .count-ok);

@@ -1,9 +1,9 @@
 -- A load: the session of an accepted one holds its table, and the answer and the walk are the plain table's. Assumes nothing.
-use mathlib.Core.Path.{_≡_, refl, sym, ap, _∙_}
+use mathlib.Core.Path.{_≡_, refl, sym, ap, subst, _∙_}
 use mathlib.Core.List.{List, [], _∷_}
-use Prim.Native.Nat.{ℕ, _+_, _≤_, _<_}
+use Prim.Native.Nat.{ℕ, zero, _+_, _≤_}
 use native.Mathlib.Omega.{arith}
-use lib.ListN.{length, set, replicate}
+use lib.ListN.{length, set, replicate, length-set, length-replicate}
 use borrow.Author.Tests.{ltb-false}
 use Rattle.plain.specs.Search.{steps, verdict, count}
 use Rattle.plain.specs.Table.{Table, searched, final}
@@ -14,7 +14,7 @@ use Rattle.plain.proofs.Trials.{passed}
 use Rattle.plain.proofs.Tables.{Valid, valid}
 use Rattle.plain.proofs.Demands.{verdict-right}
 use Rattle.rows.specs.Change.{Rows}
-use Rattle.search.specs.Core.{Core, none, plus}
+use Rattle.search.specs.Core.{noNumber, Game, gameOf, Result, Lengths, Fresh, plus}
 use Rattle.search.proofs.Ended.{rewound-spent}
 use Rattle.search.proofs.Resumed.{begin-fits}
 use Rattle.session.specs.declared.Answer.{Answer}
@@ -22,13 +22,14 @@ use Rattle.session.specs.declared.Session.{Session}
 use Rattle.session.specs.declared.Trial.the-variants.{Refused}
 use Rattle.session.specs.declared.Verdict.{Verdict}
 use Rattle.session.specs.declared.Settled.{Settled}
+use Rattle.session.specs.declared.Resumption.{Resumption}
 use Rattle.session.specs.declared.Resumption.the-variants.{At}
 use Rattle.session.specs.Model.{tried, Filed, Records, recordsOf, recordsIn, backAt, verdictOf, noVerdict, sessionOf, noGame, refusing, answerIs, Settles}
 use Rattle.session.specs.Promises.{shown, Tells, Holds, Loads}
 use Rattle.session.proofs.Held.{size-few, small, Refiled}
 use Rattle.session.proofs.Trying.{tried-refused}
 use Rattle.session.proofs.Told.{tells-answer, tells-written, tells-fits}
-use Rattle.session.proofs.Sought.{matches, verdict-kept, Reached, reached}
+use Rattle.session.proofs.Sought.{matches, Reached, reached}
 
 module _ (l : Load) (lent : List ℕ) where
   answer-accepted : loadTrial l (length lent) ≡ accepted → loadAnswer (loadTrial l (length lent)) (tableOf l) ≡ answer (verdict (final (tableOf l))) (count (final (tableOf l))) 0
@@ -58,11 +59,28 @@ room-enough l room e =
 
 -- the records of a search that has met the start state alone
 abbrev pub freshFrom : ℕ → List ℕ → Records
-freshFrom start blank-walk = recordsOf (set (replicate 512 none) start 0) (replicate 512 start) (replicate 512 0) (replicate 512 0) (replicate 512 none) blank-walk
+freshFrom start blank-walk = recordsOf (set (replicate 512 noNumber) start 0) (replicate 512 start) (replicate 512 0) (replicate 512 0) (replicate 512 noNumber) blank-walk
+
+pub fresh-lengths : {start : ℕ} {number parent index probes stamp walk : List ℕ} → Fresh start number parent index probes stamp → length walk ≡ 512 → Lengths number parent index probes stamp walk
+fresh-lengths {start = start} f w = record {
+  number-size = ap length (f .number-is) ∙ length-set (replicate 512 noNumber) start 0 ∙ length-replicate 512 noNumber;
+  parent-size = ap length (f .parent-is) ∙ length-replicate 512 start;
+  index-size = ap length (f .index-is) ∙ length-replicate 512 zero;
+  probes-size = ap length (f .probes-is) ∙ length-replicate 512 zero;
+  stamp-size = ap length (f .stamp-is) ∙ length-replicate 512 noNumber;
+  walk-size = w;
+}
+
+-- what settling leaves, from fresh records
+pub settles-fresh : {g : Game} {size start : ℕ} {from : Resumption} {old : Verdict} {number parent index probes stamp walk lent : List ℕ} {r : Settled} {a : Records} {lent′ : List ℕ} → Fresh start number parent index probes stamp → old ≡ noVerdict
+    → Settles g size start from old (recordsOf number parent index probes stamp walk) lent r a lent′ → Settles g size start from noVerdict (freshFrom start walk) lent r a lent′
+settles-fresh {g = g} {size = size} {start = start} {from = from} {walk = walk} {lent = lent} {r = r} {a = a} {lent′ = lent′} f e w =
+    subst (λ (x : Verdict × Records). Settles g size start from (x .0) (x .1) lent r a lent′)
+    (λ i. (e i, recordsOf (f .number-is i) (f .parent-is i) (f .index-is i) (f .probes-is i) (f .stamp-is i) walk)) w
 
 module _ (l : Load) (lent lent′ : List ℕ) (rows : Rows) (a : Records) (r : Settled) (blank-walk : List ℕ)
     (yes-it-is : loadTrial l (length lent) ≡ accepted) (filed : Filed (l .numbers) (l .size) (rows .targets) (rows .starts)) (blank-size : length blank-walk ≡ 512)
-    (settles : Settles (rows .targets) (rows .starts) (l .words) (l .size) (l .start) (At (l .start)) noVerdict (freshFrom (l .start) blank-walk) lent r a lent′) where
+    (settles : Settles (gameOf (rows .targets) (rows .starts) (l .words)) (l .size) (l .start) (At (l .start)) noVerdict (freshFrom (l .start) blank-walk) lent r a lent′) where
   abbrev t : Table
   t = tableOf l
 
@@ -80,30 +98,27 @@ module _ (l : Load) (lent lent′ : List ℕ) (rows : Rows) (a : Records) (r : S
   refiled = record { compressed = filed .compressed; rows-are = filed .rows; count-is = filed .count }
 
   -- what the search has come to
-  begun : (c : Core) × Reached t 0 c × (v ≡ verdictOf (c .walker) (c .spent)) × (a ≡ recordsIn c)
+  begun : (c : Result) × Reached t 0 c × (v ≡ verdictOf (c .walker) (c .spent)) × (a ≡ recordsIn c)
   unfolding tableOf steps
   begun =
       let q = settles .sought in
       let fresh = freshFrom (l .start) blank-walk in
-      let g = reached t ok (rows .targets) (rows .starts) (l .words) (matches t rows (l .words) refiled refl) 0 (backAt (l .size) (l .start) (l .start) fresh) (q .0)
-      (rewound-spent (l .start) (l .start) 0 (fresh .number) (fresh .parent) (fresh .index) (fresh .probes) (fresh .stamp) (fresh .walk))
-      (begin-fits (searched t) (small t ok) blank-walk blank-size) (q .1) in
+      let g = reached t ok (gameOf (rows .targets) (rows .starts) (l .words)) (matches t rows (l .words) refiled refl) 0 (backAt (l .size) (l .start) (l .start) fresh) (q .0)
+      (rewound-spent (l .size) (l .start) (l .start) 0 (fresh .number) (fresh .parent) (fresh .index) (fresh .probes) (fresh .stamp) (fresh .walk))
+      (begin-fits (l .size) (searched t) (small t ok) blank-walk blank-size) (q .1) in
       (q .0, g, q .2, q .3)
 
   abbrev plain : PlainAnswer
   plain = answer (verdict (final t)) (count (final t)) 0
 
   -- what the records of a core are, the records are
-  made-as : (c : Core) → Reached t 0 c → v ≡ verdictOf (c .walker) (c .spent) → a ≡ recordsIn c
+  made-as : (c : Result) → Reached t 0 c → v ≡ verdictOf (c .walker) (c .spent) → a ≡ recordsIn c
       → Holds (sessionOf (l .size) (l .start) (l .words) rows a v (plus (v .kept) (v .spent))) t × (answerLine plain ≡ shown (answerIs v) lent′ ∷ []) × (lent′ ≡ written plain lent)
   unfolding tableOf steps
   made-as c g e f =
-      let k = verdict-kept (c .walker) (c .spent) in
-      let kept-now : v .kept ≡ c .walker .kept = ap (λ (x : Verdict). x .kept) e ∙ k .0 in
-      let spent-now : v .spent ≡ c .spent = ap (λ (x : Verdict). x .spent) e ∙ k .1 in
-      let none-kept : v .kept ≡ 0 = kept-now ∙ g .kept-is in
+      let none-kept : v .kept ≡ 0 = ap (λ (x : Verdict). x .kept) e ∙ g .kept-is in
       let told : Tells (v .stem) (v .length) (a .walk) (verdict (final t)) = rw (e, f) (g .tells) in
-      let sum : v .kept + v .spent ≡ count (final t) = (λ i. kept-now i + spent-now i) ∙ g .adds-up in
+      let sum : v .kept + v .spent ≡ count (final t) = rw e (g .adds-up) in
       let fit = tells-fits v (verdict (final t)) (a .walk) (l .size) told (verdict-right t ok .short) in
       let wrote-it : lent′ ≡ written plain lent =
       settles .wrote (fit .0) (omega (arith, fit .1, size-few (l .size) (ok .size-ok))) (omega (arith, fit .1, room-enough l (length lent) yes-it-is))
@@ -118,9 +133,10 @@ module _ (l : Load) (lent lent′ : List ℕ) (rows : Rows) (a : Records) (r : S
           count-is = filed .count;
           steps = g .steps;
           ended = g .ended;
-          archived = rw f (g .kept-archive);
+          archived = rw f (g .archive);
           told = told;
-          total-is = (λ i. plus (kept-now i) (spent-now i)) ∙ g .total-is;
+          height-is = ap (λ (x : Verdict). x .height) e ∙ g .height-is;
+          total-is = rw e (g .total-is);
         },
         tells-answer v (verdict (final t)) (a .walk) lent (count (final t)) 0 told (omega arith) none-kept ∙ ap (λ (x : List ℕ). shown (answerIs v) x ∷ []) (sym wrote-it),
         wrote-it,

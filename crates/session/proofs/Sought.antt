@@ -3,86 +3,107 @@ use mathlib.Core.Path.{_≡_, refl, sym, ap, subst, subst⁻¹, _∙_}
 use mathlib.Core.Logic.{_≢_}
 use mathlib.Core.Bool.{Bool, true, false}
 use mathlib.Core.List.{List}
-use Prim.Native.Nat.{ℕ, _+_, _≤_, _<_}
+use Prim.Native.Nat.{ℕ, suc, _+_, _≤_, _<_}
 use native.Mathlib.Omega.{arith}
+use lib.Dec.{leb}
 use lib.ListN.{length, getD, List·getD-eq-default}
 use borrow.Author.Tests.{eq-eqb, ne-eqb}
-use Rattle.plain.specs.Search.{Graph, Config, run, Verdict as PlainVerdict, none, lasso, unfinished, verdict, count}
-use Rattle.session.specs.declared.Verdict.{Verdict}
-use Rattle.session.specs.declared.Resumption.{Resumption}
-use Rattle.session.specs.declared.Resumption.the-variants.{Nowhere, At}
-use Rattle.rows.specs.Change.{Rows}
+use Rattle.plain.specs.Search.{Graph, Config, outer, nested, exhausted, found, run, Verdict as PlainVerdict, none, lasso, unfinished, verdict, count}
 use Rattle.plain.specs.Table.{Table, searched, final, accepts}
 use Rattle.plain.specs.Notes.{notes}
 use Rattle.plain.proofs.Tables.{Valid}
 use Rattle.plain.proofs.Demands.{ended-within, run-final, verdict-right}
+use Rattle.rows.specs.Rows.{edgeCount, Compressed}
+use Rattle.rows.specs.Change.{Rows}
+use Rattle.rows.proofs.Entries.{no-row}
+use Rattle.rows.proofs.Change.{starts-within}
 use Rattle.search.specs.declared.Walker.{Walker}
-use Rattle.search.specs.Core.{Core, none as noNumber, runFor, Ran, rewound, plus, Result, resultOf, result, Kept}
-use Rattle.search.proofs.Represents.{Matches, plus-more}
+use Rattle.search.specs.Core.{noNumber, Game, gameOf, Core, Result, result, resultOf, runFor, Ran, plus, Lengths}
+use Rattle.search.specs.Archive.{Archived}
+use Rattle.search.proofs.Counting.{plus-more}
+use Rattle.search.proofs.Represents.{Matches, Stands}
 use Rattle.search.proofs.Ways.{run-sized, rewound-sized}
+use Rattle.search.proofs.Scans.{row-fits}
 use Rattle.search.proofs.OneStep.{Fits}
-use Rattle.search.proofs.Resumed.{limits, at-run, Archived, archived}
-use Rattle.search.proofs.Ended.{Spoken, spoken, run-kept}
-use Rattle.session.specs.Model.{Records, recordsOf, isFound, pickVerdict, verdictOf, bound, pickResumption, resumptionAt, backAt, Sought}
-use Rattle.session.specs.Promises.{Tells}
+use Rattle.search.proofs.Resumed.{limits, at-run, archived}
+use Rattle.search.proofs.Ended.{run-kept}
+use Rattle.session.specs.declared.Verdict.{Verdict}
+use Rattle.session.specs.declared.Resumption.{Resumption}
+use Rattle.session.specs.declared.Resumption.the-variants.{Nowhere, At}
+use Rattle.session.specs.Model.{Records, recordsOf, recordsIn, isFound, pickVerdict, verdictOf, bound, pickResumption, resumptionAt, backAt, Sought}
+use Rattle.session.specs.Promises.{Tells, heightOf}
 use Rattle.session.proofs.Held.{small, budget-bound, Refiled}
 
 -- the rows and words are those of the table's graph
-pub matches : (t : Table) (rows : Rows) (words : List ℕ) → Refiled rows t → words ≡ t .words → Matches (searched t) (rows .targets) (rows .starts) words
-matches t rows words r e = record { rows = λ v. sym (r .rows-are v); acceptance = λ v. ap (λ (w : List ℕ). accepts w v) (sym e) }
+pub matches : (t : Table) (rows : Rows) (words : List ℕ) → Refiled rows t → words ≡ t .words → Matches (searched t) (gameOf (rows .targets) (rows .starts) words)
+matches t rows words r e = record {
+  rows = λ v. sym (row-fits (rows .targets) (rows .starts) v
+      (λ h. starts-within (t .size) (rows .targets) (rows .starts) (r .compressed) (suc v))
+      (λ h. no-row (rows .targets) (rows .starts) (t .size) (r .compressed) v (omega (arith, r .compressed .states))) ∙ r .rows-are v);
+  acceptance = λ v. ap (λ (w : List ℕ). accepts w v) (sym e);
+}
 
-spoken-tells : (g : Graph) (c : Core) (w : PlainVerdict) → Spoken g c w → ((stem cycle : List ℕ) → w ≡ lasso stem cycle → 0 < length cycle)
-    → Tells (verdictOf (c .walker) (c .spent) .stem) (verdictOf (c .walker) (c .spent) .length) (c .walk) w
-unfolding verdictOf
-spoken-tells g c none s p = rw s (refl, refl)
-spoken-tells g c (lasso stem cycle) s p = rw (s .phase-is) (s .stem-is, s .top-is, s .walk-is, p stem cycle refl)
-spoken-tells g c unfinished s p = absurd s
+-- ---- what a search that is over has come to
 
--- the verdict of a search that is over tells its looks
+-- it tells the walk and the height of the open path
+stands-tells : (g : Graph) (s : Core) (c : Config) (spent : ℕ) → Stands g s c → verdict c ≢ unfinished → ((stem cycle : List ℕ) → verdict c ≡ lasso stem cycle → 0 < length cycle)
+    → Tells (verdictOf (s .walker) spent .stem) (verdictOf (s .walker) spent .length) (s .walk) (verdict c) × (verdictOf (s .walker) spent .height ≡ heightOf c)
+unfolding verdict verdictOf
+stands-tells g s (outer p d k l) spent a n f = absurd (n refl)
+stands-tells g s (nested b p q d k l) spent a n f = absurd (n refl)
+stands-tells g s (exhausted d k l) spent a n f = rw (a .0) ((refl, refl), refl)
+stands-tells g s (found h p q d k l) spent a n f = rw (a .phase-is) ((a .stem-is, a .top-is, a .walk-is, f _ _ refl), a .height-is)
+
+-- it tells its looks
 pub verdict-kept : (w : Walker) (spent : ℕ) → (verdictOf w spent .kept ≡ w .kept) × (verdictOf w spent .spent ≡ spent)
 unfolding verdictOf
-verdict-kept w spent = by-test (isFound (w .phase)) (record { stem = w .height; length = w .top; spent = spent; kept = w .kept }) (record { stem = 0; length = 0; spent = spent; kept = w .kept }) (refl, refl) (refl, refl)
+verdict-kept w spent = by-test (isFound (w .phase)) (record { stem = w .stem; length = w .top; height = w .height; spent = spent; kept = w .kept })
+    (record { stem = 0; length = 0; height = 0; spent = spent; kept = w .kept }) (refl, refl) (refl, refl)
   where
     by-test : (f : Bool) (a b : Verdict) → (a .kept ≡ w .kept) × (a .spent ≡ spent) → (b .kept ≡ w .kept) × (b .spent ≡ spent) → (pickVerdict f a b .kept ≡ w .kept) × (pickVerdict f a b .spent ≡ spent)
     by-test true a b x y = x
     by-test false a b x y = y
 
 -- what a search that stood at a step and took `bound` steps more, or still more, has come to
-pub record Reached (t : Table) (start-at : ℕ) (c : Core) : Type 0 where
+pub record Reached (t : Table) (start-at : ℕ) (r : Result) : Type 0 where
   pub steps : ℕ
   pub ended : verdict (run (searched t) steps) ≢ unfinished
-  pub kept-archive : Archived (searched t) steps (c .number) (c .parent) (c .index) (c .probes) (c .stamp) (c .walk)
-  pub tells : Tells (verdictOf (c .walker) (c .spent) .stem) (verdictOf (c .walker) (c .spent) .length) (c .walk) (verdict (final t))
-  pub kept-is : c .walker .kept ≡ count (run (searched t) start-at)
-  pub adds-up : c .walker .kept + c .spent ≡ count (final t)
-  pub total-is : plus (c .walker .kept) (c .spent) ≡ count (final t)
+  pub archive : Archived (searched t) steps (r .number) (r .parent) (r .index) (r .probes) (r .stamp) (r .walk)
+  pub tells : Tells (verdictOf (r .walker) (r .spent) .stem) (verdictOf (r .walker) (r .spent) .length) (r .walk) (verdict (final t))
+  pub height-is : verdictOf (r .walker) (r .spent) .height ≡ heightOf (final t)
+  pub kept-is : verdictOf (r .walker) (r .spent) .kept ≡ count (run (searched t) start-at)
+  pub adds-up : verdictOf (r .walker) (r .spent) .kept + verdictOf (r .walker) (r .spent) .spent ≡ count (final t)
+  pub total-is : plus (verdictOf (r .walker) (r .spent) .kept) (verdictOf (r .walker) (r .spent) .spent) ≡ count (final t)
 
-module _ (t : Table) (v : Valid t) (targets starts words : List ℕ) (m : Matches (searched t) targets starts words) where
-  reached-by : (more : ℕ) → bound ≤ more → (n : ℕ) (s : Core) → s .spent ≡ 0 → Fits (searched t) s (notes (searched t) n) (run (searched t) n) → Reached t n (runFor targets starts words more s)
+module _ (t : Table) (v : Valid t) (game : Game) (m : Matches (searched t) game) where
+  reached-by : (more : ℕ) → bound ≤ more → (n : ℕ) (s : Core) → s .spent ≡ 0 → Fits (searched t) s (notes (searched t) n) (run (searched t) n) → Reached t n (result (runFor game more s))
   reached-by more enough n s unspent a =
       let g = searched t in
-      let c = runFor targets starts words more s in
-      let f = at-run g (small t v) targets starts words m more n s a in
+      let c = runFor game more s in
+      let f = at-run g (t .size) (small t v) game m more n s a in
       let e : verdict (run g (n + more)) ≢ unfinished = ended-within t v (n + more) (omega (arith, enough, budget-bound t v)) in
       let z : run g (n + more) ≡ final t = run-final t v (n + more) e in
-      let k : c .walker .kept ≡ count (run g n) = run-kept targets starts words more s ∙ omega (arith, a .0 .probes-right) in
+      let k = verdict-kept (c .walker) (c .spent) in
+      let first : c .walker .kept ≡ count (run g n) = run-kept game more s ∙ omega (arith, a .0 .probes-right) in
       let sum : c .walker .kept + c .spent ≡ count (final t) = f .0 .probes-right ∙ ap count z in
-      let few : count (final t) ≤ 4096 = omega (arith, ap count z, limits g (small t v) (n + more) .probes-few) in
+      let few : count (final t) ≤ 4096 = omega (arith, ap count z, limits g (t .size) (small t v) (n + more) .probes-few) in
+      let told = stands-tells g c (final t) (c .spent) (subst (λ (x : Config). Stands g c x) z (f .1)) (subst (λ (x : Config). verdict x ≢ unfinished) z e) nonempty in
       record {
         steps = n + more;
         ended = e;
-        kept-archive = archived g (n + more) c f;
-        tells = spoken-tells g c (verdict (final t)) (subst (λ (x : Config). Spoken g c (verdict x)) z (spoken g c (run g (n + more)) (f .1) e)) nonempty;
-        kept-is = k;
-        adds-up = sum;
-        total-is = plus-more (c .walker .kept) (c .spent) (omega arith) ∙ sum;
+        archive = archived g (n + more) c f;
+        tells = told .0;
+        height-is = told .1;
+        kept-is = k .0 ∙ first;
+        adds-up = (λ i. k .0 i + k .1 i) ∙ sum;
+        total-is = (λ i. plus (k .0 i) (k .1 i)) ∙ plus-more (c .walker .kept) (c .spent) (omega arith) ∙ sum;
       }
     where
       nonempty : (stem cycle : List ℕ) → verdict (final t) ≡ lasso stem cycle → 0 < length cycle
       nonempty stem cycle e = let w = verdict-right t v .walk stem cycle e in omega (arith, ap length (w .cycle-is))
 
-  pub reached : (n : ℕ) (s c : Core) → s .spent ≡ 0 → Fits (searched t) s (notes (searched t) n) (run (searched t) n) → Ran targets starts words bound s c → Reached t n c
-  reached n s c unspent a r = subst (Reached t n) (sym (r .reached)) (reached-by (r .steps) (r .enough) n s unspent a)
+  pub reached : (n : ℕ) (s : Core) (r : Result) → s .spent ≡ 0 → Fits (searched t) s (notes (searched t) n) (run (searched t) n) → Ran game bound s r → Reached t n r
+  reached n s r unspent a ran = subst⁻¹ (Reached t n) (ran .reached) (reached-by (ran .steps) (ran .enough) n s unspent a)
 
 -- ---- where the search is taken up
 
@@ -100,26 +121,16 @@ past-end number s h e = let z : getD number s 0 ≡ 0 = List·getD-eq-default nu
 
 -- ---- what `seek` leaves
 
-pub sought-at : (targets starts words : List ℕ) (size start s : ℕ) (from : Resumption) (old : Verdict) (a : Records) (w : Walker) (spent : ℕ) (number parent index probes stamp walk : List ℕ) (v : Verdict)
-    → from ≡ At s → v ≡ verdictOf w spent
-    → (c : Core) × Ran targets starts words bound (backAt size start s a) c × (resultOf w spent number parent index probes stamp walk ≡ result c)
-    → Sought targets starts words size start from old a v (recordsOf number parent index probes stamp walk)
-sought-at targets starts words size start s from old a w spent number parent index probes stamp walk v f e (c, r, q) =
-    subst⁻¹ (λ (x : Resumption). Sought targets starts words size start x old a v (recordsOf number parent index probes stamp walk)) f (
-      c,
-      r,
-      e ∙ (λ i. verdictOf (q i .walker) (q i .spent)),
-      ap {B = Records} (λ (x : Result). recordsOf (x .number) (x .parent) (x .index) (x .probes) (x .stamp) (x .walk)) q,
-    )
+pub sought-nowhere : (g : Game) (size start : ℕ) (from : Resumption) (old : Verdict) (a : Records) → from ≡ Nowhere → Sought g size start from old a old a
+sought-nowhere g size start from old a f = subst⁻¹ (λ (x : Resumption). Sought g size start x old a old a) f (refl, refl)
 
-pub sought-nowhere : (targets starts words : List ℕ) (size start : ℕ) (from : Resumption) (old : Verdict) (a : Records) → from ≡ Nowhere → Sought targets starts words size start from old a old a
-sought-nowhere targets starts words size start from old a f = subst⁻¹ (λ (x : Resumption). Sought targets starts words size start x old a old a) f (refl, refl)
+pub sought-at : (g : Game) (size start s : ℕ) (from : Resumption) (old : Verdict) (a : Records) (r : Result) (v : Verdict) → from ≡ At s → v ≡ verdictOf (r .walker) (r .spent)
+    → Ran g bound (backAt size start s a) r → Sought g size start from old a v (recordsIn r)
+sought-at g size start s from old a r v f e ran = subst⁻¹ (λ (x : Resumption). Sought g size start x old a v (recordsIn r)) f (r, ran, e, refl)
 
 -- the walk's array keeps its size
-pub walk-sized : (targets starts words : List ℕ) (size start s : ℕ) (a : Records) (w : Walker) (spent : ℕ) (number parent index probes stamp walk : List ℕ)
-    → Kept (a .number) (a .parent) (a .index) (a .probes) (a .stamp) (a .walk)
-    → (c : Core) × Ran targets starts words bound (backAt size start s a) c × (resultOf w spent number parent index probes stamp walk ≡ result c)
-    → length walk ≡ 512
-walk-sized targets starts words size start s a w spent number parent index probes stamp walk k (c, r, q) =
-    ap (λ (x : Result). length (x .walk)) q ∙ ap (λ (x : Core). length (x .walk)) (r .reached)
-    ∙ run-sized targets starts words (r .steps) (backAt size start s a) (rewound-sized start s 0 (a .number) (a .parent) (a .index) (a .probes) (a .stamp) (a .walk) k) .walk-size
+pub walk-sized : (g : Game) (size start s : ℕ) (a : Records) (r : Result) → Lengths (a .number) (a .parent) (a .index) (a .probes) (a .stamp) (a .walk) → Ran g bound (backAt size start s a) r
+    → length (r .walk) ≡ 512
+walk-sized g size start s a r k ran =
+    ap (λ (x : Result). length (x .walk)) (ran .reached)
+    ∙ run-sized g (ran .steps) (backAt size start s a) (rewound-sized size start s 0 (a .number) (a .parent) (a .index) (a .probes) (a .stamp) (a .walk) k) .walk-size

@@ -1,3 +1,11 @@
+-- `load` meets its contract: a refusal, or the table filed and its search begun. Assumes nothing.
+use mathlib.Core.Path.{_≡_, refl, sym, _∙_}
+use Prim.Native.Nat.{ℕ, zero}
+use denote.Ref.{now}
+use lib.ListN.{length, replicate, length-replicate}
+use Rattle.plain.specs.Refusals.{Load, loadTrial}
+use Rattle.session.proofs.Trying.{tried-accepted}
+use Rattle.session.proofs.Loaded.{load-refused, load-accepted, fresh-lengths, settles-fresh}
 use borrow.Author.Needs.{needs}
 use Rattle.session.proofs.load.Statement.{statement}
 use Rattle.session.proofs.load.Tie as tie
@@ -15,25 +23,35 @@ no-game-requires : tie.Need-no-game-requires
 no-game-requires c κs = search needs
 
 returns : tie.Need-returns
-returns c = ?
+returns c =
+    let r = c .before in
+    let k = r .before .before in
+    let e = k .before .before in
+    let a = e .before .before .before .before .before .before .args in
+    load-refused (record { size = a .size; start = a .start; words = a .t3; numbers = now (a .numbers) }) (now (a .lent)) (r .refused .result) (c .no-game .result) (k .trial .given .0 .0)
+    (r .refused .ensures) (c .no-game .ensures) (sym (k .trial .given .1) ∙ e .load-trial .ensures .0 .trial-is refl refl)
 
 enum-told : tie.Need-enum-told
 enum-told c = search needs
 
-wide-requires : tie.Need-wide-requires
-wide-requires c κs = search needs
-
-mul-number : tie.Need-mul-number
-mul-number c = search needs
-
-array-write-number : tie.Need-array-write-number
-array-write-number c = search needs
+begin-requires : tie.Need-begin-requires
+begin-requires c κs = search needs
 
 no-verdict-requires : tie.Need-no-verdict-requires
 no-verdict-requires c κs = search needs
 
+-- the places before settling
+abbrev fresh : tie.After-settle-arg → tie.After-begin
+fresh c = c .before .before .before .before .before .before .before .before .before .before .before
+
+abbrev tried-at : tie.After-settle-arg → tie.After-enum-told
+tried-at c = fresh c .before .before .before .before .before .before
+
+abbrev begun : tie.After-settle-arg → tie.Start
+begun c = tried-at c .before .before .before .before .before .before .before .before
+
 settle-requires : tie.Need-settle-requires
-settle-requires c κs = ?
+settle-requires c κs = (tried-at c .before .before .load-trial .ensures .1, fresh-lengths (fresh c .begin .ensures) (length-replicate 512 zero))
 
 total-of-requires : tie.Need-total-of-requires
 total-of-requires c κs = search needs
@@ -42,7 +60,16 @@ same-length : tie.Need-same-length
 same-length c = search needs
 
 returns-2 : tie.Need-returns-2
-returns-2 c = ?
+returns-2 c =
+    let w = c .before .before .before .before in
+    let g = w .before in
+    let e = tried-at g in
+    let n = e .before .before .load-trial in
+    let a = begun g .args in
+    let l : Load = record { size = a .size; start = a .start; words = a .t3; numbers = now (a .numbers) } in
+    load-accepted l (now (a .lent)) _ _ _ (w .settle .result) (replicate 512 zero)
+    (tried-accepted (loadTrial l (length (now (a .lent)))) (sym (n .ensures .0 .trial-is refl refl) ∙ e .enum-told .given .1)) (n .ensures .0 .filed refl refl (e .enum-told .given .1)) (length-replicate 512 zero)
+    (settles-fresh (fresh g .begin .ensures) (g .before .no-verdict .ensures) (w .settle .ensures)) (c .total-of .result) (c .total-of .ensures)
 
 pub load-spec : {M : Type 1} → statement M
 load-spec =
@@ -54,9 +81,7 @@ load-spec =
     no-game-requires
     returns
     enum-told
-    wide-requires
-    mul-number
-    array-write-number
+    begin-requires
     no-verdict-requires
     settle-requires
     total-of-requires

@@ -1,3 +1,5 @@
+-- `seek` meets its contract: nothing is done, or the search is resumed. Assumes nothing.
+use Rattle.session.proofs.Sought.{sought-nowhere, sought-at, walk-sized}
 use borrow.Author.Needs.{needs}
 use Rattle.session.proofs.seek.Statement.{statement}
 use Rattle.session.proofs.seek.Tie as tie
@@ -15,10 +17,15 @@ verdict-of-requires : tie.Need-verdict-of-requires
 verdict-of-requires c κs = search needs
 
 returns : tie.Need-returns
-returns c = ?
+returns c = (sought-nowhere _ _ _ _ _ _ (c .enum-told .given .1), c .before .before .pre .1 .walk-size)
 
 returns-2 : tie.Need-returns-2
-returns-2 c = ?
+returns-2 c =
+    let w = c .before in
+    let f = w .before .before .before .before .before .before .before .before .before in (
+      sought-at _ _ _ (f .from .given .0 .0) _ _ _ _ _ (f .from .given .1) (c .verdict-of .ensures) (w .resume .ensures),
+      walk-sized _ _ _ (f .from .given .0 .0) _ _ (f .before .before .pre .1) (w .resume .ensures),
+    )
 
 pub seek-spec : {M : Type 1} → statement M
 seek-spec =

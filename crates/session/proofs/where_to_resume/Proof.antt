@@ -4,8 +4,8 @@ use Prim.Native.Nat.{ℕ}
 use native.Mathlib.Omega.{arith}
 use lib.ListN.{getD}
 use denote.Ref.{now}
-use Rattle.session.proofs.Sought.{taken-nowhere, taken-at, past-end}
 use borrow.Author.Needs.{needs}
+use Rattle.session.proofs.Sought.{taken-nowhere, taken-at, past-end}
 use Rattle.session.proofs.where_to_resume.Statement.{statement}
 use Rattle.session.proofs.where_to_resume.Tie as tie
 
@@ -25,11 +25,23 @@ returns c =
     sym (taken-nowhere (now (a .number)) (a .s) (ap (λ (i : ℕ). getD (now (a .number)) i 0) (sym (w .wide .ensures .0)) ∙ c .if2 .taken))
 
 returns-2 : tie.Need-returns-2
-returns-2 c = ?
+returns-2 c =
+    let w = c .before .before in
+    let a = w .before .before .args in
+    sym (taken-at (now (a .number)) (a .s) (λ e. c .if2 .left (ap (λ (i : ℕ). getD (now (a .number)) i 0) (w .wide .ensures .0) ∙ e)))
 
 returns-3 : tie.Need-returns-3
-returns-3 c = ?
+returns-3 c =
+    let b = c .before in
+    sym (taken-at (now (b .args .number)) (b .args .s) (past-end (now (b .args .number)) (b .args .s) (omega (arith, b .pre, c .if1 .left))))
 
 pub where-to-resume-spec : {M : Type 1} → statement M
 where-to-resume-spec =
-    tie.close (tie.spec wide-requires mul-if2 element-copy-out-if2 returns returns-2 returns-3)
+    tie.close
+    (tie.spec
+    wide-requires
+    mul-if2
+    element-copy-out-if2
+    returns
+    returns-2
+    returns-3)
