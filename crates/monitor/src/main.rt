@@ -1,12 +1,12 @@
 // The box program: lines from standard input, answers on standard output, each as soon as its line is read.
 use libc::STDIN_FILENO;
 use libc::STDOUT_FILENO;
+use session::Answer;
+use watch::Lead;
+use watch::Task;
 ghost use mathlib.Core.Path.{_≡_};
 ghost use lib.ListN.{length};
 ghost use Rattle.monitor.specs.Lines.{Within, Took, Next, isMore, hasLine, isLine, endOf, Printed};
-
-// "An input of more than 4,294,967,295 bytes counts as ending behind the last newline among these."
-const LIMIT: u64 = 4294967295;
 
 // What the bytes so far come to: the line goes on, a line is held whole, it is the last one, or there is none to come.
 enum Status {
@@ -22,11 +22,11 @@ struct Reader {
     at: usize,
     end: usize,
     len: usize,
-    left: u64,
+    left: usize,
     status: Status,
 }
 
-fn standing(at: usize, end: usize, len: usize, left: u64, status: Status) -> Reader
+fn standing(at: usize, end: usize, len: usize, left: usize, status: Status) -> Reader
     ensures { λ r. ⌜ r ≡ record { at = at; end = end; len = len; left = left; status = status } ⌝ }
 {
     Reader {
@@ -106,8 +106,8 @@ fn next_line(buf: &mut [u8; 512], held: &mut [u8; 33], r: Reader) -> Reader
 }
 
 // Writes the lines of an answer, as often as it takes: false where a write takes nothing or fails. Only this function writes.
-fn write_whole(bytes: &[u8]) -> bool
-    requires { ⌜ Printed (now bytes) ⌝ }
+fn print(line: &[u8], lead: Lead, answer: Answer, walk: &[u16], bytes: &[u8]) -> bool
+    requires { ⌜ Printed (now line) (now bytes) ⌝ }
 {
     let mut at: usize = 0;
     while at < bytes.len() {
@@ -147,14 +147,14 @@ fn is_line(r: Reader) -> bool
 }
 
 fn main() {
-    let mut numbers: [u16; 4096] = [0; 4096];
-    let mut walk: [u16; 512] = [0; 512];
-    let mut lines: [u8; 3200] = [0; 3200];
+    let mut numbers: [u16; watch::NUMBERS] = [0; watch::NUMBERS];
+    let mut walk: [u16; watch::WALK] = [0; watch::WALK];
+    let mut lines: [u8; watch::LINES] = [0; watch::LINES];
     let mut buf: [u8; 512] = [0; 512];
     let mut held: [u8; 33] = [0; 33];
     let mut lead = watch::first_lead();
     let mut c = watch::no_session();
-    let mut r = standing(0, 0, 0, LIMIT, Status::More);
+    let mut r = standing(0, 0, 0, watch::LIMIT, Status::More);
     loop {
         r = next_line(&mut buf, &mut held, r);
         if !has_line(r) {
@@ -162,11 +162,14 @@ fn main() {
         }
         let len = r.len;
         let plan = watch::read(lead, &mut numbers, &held[..len]);
-        c = watch::serve(c.session, plan, &numbers, &mut walk);
+        let task = plan.task;
+        if let Task::Ask(ask) = task {
+            c = watch::serve(c.session, lead, ask, &numbers, &mut walk);
+        }
         let answer = c.answer;
         let w = watch::write(plan, answer, &walk, &mut lines);
         let n = w.len;
-        if !write_whole(&lines[..n]) {
+        if !print(&held[..len], lead, answer, &walk, &lines[..n]) {
             return;
         }
         lead = w.lead;
