@@ -105,14 +105,6 @@ module _ (d₀ : List ℕ) (space : ℕ) (all : List (List ℕ)) where
 
 -- ---- lines at the head of a buffer
 
-module _ (ls : List Line) (d d′ : List ℕ) (first len : ℕ) (laid : Laid ls d d′ first len) where
-  pub laid-bytes : take len d′ ≡ rendered ls
-  laid-bytes = take-put d (rendered ls) d′ len (record { next = omega (arith, laid .ends); made = laid .made })
-
-  pub laid-within : len ≤ length d′
-  unfolding overwritten
-  laid-within = omega (arith, laid .ends, ap length (laid .made), length-append (rendered ls) (drop (0 + length (rendered ls)) d))
-
 -- the bytes of all lines but the first
 abbrev restOf : List Line → List ℕ
 restOf [] = []
@@ -122,6 +114,17 @@ in-two : (ls : List Line) → rendered ls ≡ firstOf ls ++ restOf ls
 unfolding rendered
 in-two [] = refl
 in-two (l ∷ ls) = refl
+
+module _ (ls : List Line) (d d′ : List ℕ) (first len : ℕ) (laid : Laid ls d d′ first len) where
+  pub laid-bytes : take len d′ ≡ rendered ls
+  laid-bytes = take-put d (rendered ls) d′ len (record { next = omega (arith, laid .ends); made = laid .made })
+
+  pub laid-within : len ≤ length d′
+  unfolding overwritten
+  laid-within = omega (arith, laid .ends, ap length (laid .made), length-append (rendered ls) (drop (0 + length (rendered ls)) d))
+
+  pub laid-first : first ≤ len
+  laid-first = omega (arith, laid .split, laid .ends, ap length (in-two ls), length-append (firstOf ls) (restOf ls))
 
 -- ---- at most two lines
 

@@ -2,8 +2,11 @@
 use Prim.Native.Nat.{ℕ, _+_, _-_, _≤_, _<_}
 use mathlib.Core.Path.{_≡_, refl, sym, ap, subst, subst⁻¹, _∙_}
 use mathlib.Core.Bool.{Bool, true, false}
+use mathlib.Core.Logic.{⊎-elim}
 use mathlib.Core.List.{List, [], _∷_, _++_, map, map-append}
 use native.Mathlib.Omega.{arith}
+use denote.Enum.Declared.{tagOf}
+use types.Run.{OneOf}
 use lib.ListN.{length, take, drop}
 use Rattle.plain.specs.Machine.{Line}
 use Rattle.line.specs.Fields.{upTo, linesOf}
@@ -16,12 +19,14 @@ use Rattle.session.specs.declared.Session.{Session}
 use Rattle.session.specs.declared.Outcome.{Outcome}
 use Rattle.watch.specs.declared.Lead.{Lead}
 use Rattle.watch.specs.declared.Task.{Task}
+use Rattle.watch.specs.declared.Ask.{Ask}
 use Rattle.watch.specs.declared.Ask.the-variants.{Load as AskLoad, Change}
 use Rattle.watch.specs.declared.Task.the-variants.{Nothing, Refuse, Ask as Asks}
 use Rattle.watch.specs.Text.{Held, waiting, gathering, playing, ended, room, step, printed}
 use Rattle.watch.specs.declared.Plan.{Plan}
 use Rattle.watch.specs.declared.Written.{Written}
-use Rattle.watch.specs.Model.{asked, withMove, isRefused, bufferMost, pickLines, linesFor, linesTold, leadFor, Laid, Told, isOver}
+use Rattle.watch.specs.Model.{asked, withMove, isRefused, Serves, bufferMost, pickLines, linesFor, linesTold, leadFor, Laid, Told, isOver}
+use Rattle.watch.proofs.Task.{the-type}
 use Rattle.watch.proofs.Output.{Short}
 use Rattle.watch.proofs.Steps.{Tracks, Follows, stepped}
 use Rattle.watch.proofs.Writing.{told-lines}
@@ -71,6 +76,24 @@ short (Refuse n) l answer walk = tt
 short (Asks AskLoad) l answer walk = short-pick (isRefused answer) _ _ _
 short (Asks (Change op)) l answer walk = tt
 
+-- ---- what is asked of the session
+
+-- What the task asks of the session is done, or nothing is, and the list of the walk keeps its length.
+pub record Done (task : Task) (l : Lead) (ns : List ℕ) (s : Session) (walk : List ℕ) (c : Outcome) (walk′ : List ℕ) : Type 0 where
+  pub follows : Follows task l ns s walk c walk′
+  pub size : length walk′ ≡ room
+
+module _ (l : Lead) (ns walk : List ℕ) (k : length walk ≡ room) (c : Outcome) (walk′ : List ℕ) where
+  pub done-asked : (task : Task) (ask : Ask) (s : Session) (r : Outcome) (w : List ℕ) → task ≡ Asks ask → walk′ ≡ w → c ≡ r → length w ≡ length walk
+      → Serves ask l ns s walk r w → Done task l ns s walk c walk′
+  done-asked task ask s r w e f g h v = rw (e, f, g) (record { follows = v; size = h ∙ k })
+
+  -- the tags of the tasks that ask nothing
+  pub done-not : (task : Task) (c₀ : Outcome) → OneOf (0 ∷ 1 ∷ []) (tagOf the-type task) → walk′ ≡ walk → c ≡ c₀ → Done task l ns (c₀ .session) walk c walk′
+  done-not Nothing c₀ o f g = record { follows = ap (λ (x : Outcome). x .session) g; size = ap length f ∙ k }
+  done-not (Refuse n) c₀ o f g = record { follows = ap (λ (x : Outcome). x .session) g; size = ap length f ∙ k }
+  done-not (Asks ask) c₀ o f g = absurd (⊎-elim (λ z. omega arith) (λ z. omega arith) o)
+
 -- ---- behind one line
 
 -- what is held, and the lines at the head of the buffer
@@ -81,11 +104,12 @@ pub record Behind (p : Held) (r : Record) (ns : List ℕ) (s : Session) (d d′ 
 
 -- the three functions of a line, one after the other
 module _ (l : Lead) (ns : List ℕ) (s : Session) (p : Held) (walk : List ℕ) (r : Record) (ns′ : List ℕ) (c : Outcome) (walk′ d d′ : List ℕ) (w : Written)
-    (n : length ns ≡ 4096) (k : length walk ≡ room) (k′ : length walk′ ≡ room) (b : length d ≡ bufferMost) (h : Tracks l ns s p) (f : ns′ ≡ withMove l r ns) where
-  behind-asked : Follows (asked l r .task) l ns′ s walk c walk′ → Told (asked l r) (c .answer) walk′ d d′ w → Behind p r ns′ (c .session) d d′ w
+    (n : length ns ≡ 4096) (k : length walk ≡ room) (b : length d ≡ bufferMost) (h : Tracks l ns s p) (f : ns′ ≡ withMove l r ns) where
+  behind-asked : Done (asked l r .task) l ns′ s walk c walk′ → Told (asked l r) (c .answer) walk′ d d′ w → Behind p r ns′ (c .session) d d′ w
   behind-asked v t =
       let q = asked l r in
-      let m = stepped l ns s p walk r ns′ c walk′ n k h f v in
+      let m = stepped l ns s p walk r ns′ c walk′ n k h f (v .follows) in
+      let k′ = v .size in
       let lines : linesTold q (c .answer) walk′ (length d) ≡ step p r .lines = sym (told-lines q (c .answer) walk′ (length d) (omega arith) (omega arith)) ∙ m .1 in
       record {
         tracks = subst⁻¹ (λ (x : Lead). Tracks x ns′ (c .session) (step p r .next)) (t .goes) (m .0);
@@ -93,5 +117,5 @@ module _ (l : Lead) (ns : List ℕ) (s : Session) (p : Held) (walk : List ℕ) (
         few = subst Short (m .1) (short (q .task) (q .lead) (c .answer) walk′);
       }
 
-  pub behind : (plan : Plan) → plan ≡ asked l r → Follows (plan .task) l ns′ s walk c walk′ → Told plan (c .answer) walk′ d d′ w → Behind p r ns′ (c .session) d d′ w
-  behind plan e v t = behind-asked (subst (λ (x : Plan). Follows (x .task) l ns′ s walk c walk′) e v) (subst (λ (x : Plan). Told x (c .answer) walk′ d d′ w) e t)
+  pub behind : (plan : Plan) → plan ≡ asked l r → Done (plan .task) l ns′ s walk c walk′ → Told plan (c .answer) walk′ d d′ w → Behind p r ns′ (c .session) d d′ w
+  behind plan e v t = behind-asked (subst (λ (x : Plan). Done (x .task) l ns′ s walk c walk′) e v) (subst (λ (x : Plan). Told x (c .answer) walk′ d d′ w) e t)

@@ -1,5 +1,5 @@
 -- Laws of the lines that tell an answer: how long they are, and where they lie in the buffer. Assumes nothing.
-use mathlib.Core.Path.{_≡_, refl, sym, ap, subst, _∙_}
+use mathlib.Core.Path.{_≡_, refl, sym, ap, _∙_}
 use mathlib.Core.Bool.{and-false}
 use mathlib.Core.List.{List, [], _∷_, _++_, append-nil}
 use Prim.Native.Nat.{ℕ, zero, suc, _+_, _≤_, _<_, min}
@@ -21,9 +21,9 @@ use Rattle.session.specs.declared.Answer.the-variants.{Refused, Clear, Round}
 use Rattle.session.specs.declared.Refusal.{Refusal}
 use Rattle.session.specs.Promises.{shown}
 use Rattle.watch.specs.declared.Plan.{Plan}
-use Rattle.watch.specs.declared.Written.{Written}
+use Rattle.watch.specs.declared.Lengths.{Lengths}
 use Rattle.watch.specs.Text.{room}
-use Rattle.watch.specs.Model.{bufferMost, pickLines, linesFor, linesTold, leadFor, Laid, Told}
+use Rattle.watch.specs.Model.{bufferMost, pickLines, linesFor, linesTold, Laid}
 
 -- ---- the walk, as far as it goes
 
@@ -101,9 +101,9 @@ two-lines l m d d1 d2 r s p q =
     let e : rendered (l ∷ m ∷ []) ≡ render l ++ render m = ap (λ (bs : List ℕ). render l ++ bs) (append-nil (render m)) in
     record { made = both .made ∙ ap (overwritten d 0) (sym e); split = omega (arith, p .next); ends = omega (arith, both .next, ap length e) }
 
--- the same lines by another name
-pub laid-as : (ls ms : List Line) (d d′ : List ℕ) (first len : ℕ) → ls ≡ ms → Laid ls d d′ first len → Laid ms d d′ first len
-laid-as ls ms d d′ first len e h = subst (λ (x : List Line). Laid x d d′ first len) e h
+-- the same lines, buffer and lengths by other names
+pub laid-as : (ls ms : List Line) (d d′ d″ : List ℕ) (n m : Lengths) → ls ≡ ms → d″ ≡ d′ → m ≡ n → Laid ls d d′ (n .first) (n .len) → Laid ms d d″ (m .first) (m .len)
+laid-as ls ms d d′ d″ n m e f g h = rw (← e, f, g) h
 
 -- ---- the paying states are at most 512
 

@@ -169,10 +169,14 @@ linesFor (Asks (Change op)) l answer walk = shown answer walk ∷ []
 unfoldable pub linesTold : Plan → Answer → List ℕ → ℕ → List Line
 linesTold p answer walk size = pickLines (leb (length walk) room && leb bufferMost size) (linesFor (p .task) (p .lead) answer walk) []
 
+-- "A refusal up to and with `go` .. ends the program"
+abbrev pub leadLoaded : Lead → Answer → Lead
+leadLoaded l answer = staged (pickStage (isRefused answer) Over Playing) l
+
 abbrev pub leadFor : Task → Lead → Answer → Lead
 leadFor Nothing l answer = l
 leadFor (Refuse refusal) l answer = l
-leadFor (Asks AskLoad) l answer = staged (pickStage (isRefused answer) Over Playing) l
+leadFor (Asks AskLoad) l answer = leadLoaded l answer
 leadFor (Asks (Change op)) l answer = l
 
 -- the first line's bytes

@@ -17,7 +17,7 @@ ghost use Rattle.answer.specs.Rendering.{render};
 ghost use Rattle.line.specs.Records.{recordOf};
 ghost use Rattle.session.specs.Promises.{shown};
 ghost use Rattle.session.specs.Model.{noGame};
-ghost use Rattle.watch.specs.Model.{firstLead, staged as Model·staged, noTask, refusing as Model·refusing, changing as Model·changing, isFull, askedFirst, askedMove, askedBefore, askedAfter, asked, takesMove, withMove, Serves, isRefused, gameMost, bufferMost, linesFor, linesOfLoad, leadFor, Laid, Told, isOver, fits};
+ghost use Rattle.watch.specs.Model.{firstLead, staged as Model·staged, noTask, refusing as Model·refusing, changing as Model·changing, isFull, askedFirst, askedMove, askedBefore, askedAfter, asked, takesMove, withMove, Serves, isRefused, gameMost, bufferMost, linesFor, linesOfLoad, leadLoaded, leadFor, Laid, Told, isOver, fits};
 ghost use Rattle.watch.specs.Text.{room, counted, outputOf, outputMost, Fitted, Watched};
 
 // "An input of more than 4,294,967,295 bytes counts as ending behind the last newline among these."
@@ -388,21 +388,30 @@ fn put_lines(plan: Plan, answer: Answer, walk: &[u16], out: &mut [u8]) -> Length
     }
 }
 
-// What is held behind a line: a load plays on, or ends the run where it is refused.
+// What is held behind a load: where it is refused, the run is over.
+fn lead_loaded(lead: Lead, answer: Answer) -> Lead
+    ensures { λ r. ⌜ r ≡ leadLoaded lead answer ⌝ }
+{
+    if is_refused(answer) {
+        return staged(Stage::Over, lead);
+    }
+    staged(Stage::Playing, lead)
+}
+
+// What is held behind a line.
 fn lead_behind(plan: Plan, answer: Answer) -> Lead
     ensures { λ r. ⌜ r ≡ leadFor (plan .task) (plan .lead) answer ⌝ }
 {
     let lead = plan.lead;
     let task = plan.task;
-    if let Task::Ask(ask) = task {
-        if let Ask::Load = ask {
-            if is_refused(answer) {
-                return staged(Stage::Over, lead);
-            }
-            return staged(Stage::Playing, lead);
-        }
+    match task {
+        Task::Nothing => lead,
+        Task::Refuse(refusal) => lead,
+        Task::Ask(ask) => match ask {
+            Ask::Load => lead_loaded(lead, answer),
+            Ask::Change(op) => lead,
+        },
     }
-    lead
 }
 
 // The lines that tell what came of a line, at the head of a buffer, and what is held behind it. Where the buffer is shorter than LINES bytes, or the walk

@@ -1,58 +1,46 @@
+-- `watch::file_move`: the two numbers are set where the `move` is taken and there is room for them; else nothing is.
+use mathlib.Core.Path.{sym, _∙_}
+use Rattle.watch.proofs.Filing.{filed-both, filed-not, filed-full}
 use borrow.Author.Needs.{needs}
 use Rattle.watch.proofs.file_move.Statement.{statement}
 use Rattle.watch.proofs.file_move.Tie as tie
-use Rattle.watch.proofs.file_move.Reads as reads
-use Rattle.watch.proofs.file_move.Lts as lts
-use Rattle.search.proofs.wide.Reads as wide-reads
-use Rattle.watch.proofs.takes_move.Reads as takes-move-reads
 
--- src/lib.rt:270:8
 takes-move-requires : tie.Need-takes-move-requires
 takes-move-requires c κs = search needs
 
--- src/lib.rt:271:13
 wide-requires : tie.Need-wide-requires
 wide-requires c κs = search needs
 
--- src/lib.rt:272:12
 add-if2 : tie.Need-add-if2
 add-if2 c = search needs
 
--- src/lib.rt:273:13
 mul-numbers : tie.Need-mul-numbers
 mul-numbers c = search needs
 
--- src/lib.rt:273:13
 slice-write-numbers : tie.Need-slice-write-numbers
 slice-write-numbers c = search needs
 
--- src/lib.rt:274:21
 add-numbers : tie.Need-add-numbers
 add-numbers c = search needs
 
--- src/lib.rt:274:13
 mul-numbers-2 : tie.Need-mul-numbers-2
 mul-numbers-2 c = search needs
 
--- src/lib.rt:274:13
 slice-write-numbers-2 : tie.Need-slice-write-numbers-2
 slice-write-numbers-2 c = search needs
 
--- src/lib.rt:267:1
 same-length : tie.Need-same-length
 same-length c = search needs
 
--- src/lib.rt:267:1
 returns : tie.Need-returns
-returns c = ?
+returns c = let w = c .before in
+    filed-both _ _ _ _ (sym (w .before .before .takes-move .ensures) ∙ w .before .if1 .taken) (w .wide .ensures .0) (c .if2 .taken)
 
--- src/lib.rt:267:1
 returns-2 : tie.Need-returns-2
-returns-2 c = ?
+returns-2 c = filed-full _ _ _ _ (c .before .wide .ensures .0) (c .if2 .left)
 
--- src/lib.rt:267:1
 returns-3 : tie.Need-returns-3
-returns-3 c = ?
+returns-3 c = filed-not _ _ _ (sym (c .before .takes-move .ensures) ∙ c .if1 .left)
 
 pub file-move-spec : {M : Type 1} → statement M
 file-move-spec =

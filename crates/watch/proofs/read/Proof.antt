@@ -1,86 +1,82 @@
+-- `watch::read`: the plan is that of the stage, and the list has the numbers of a `move` that is taken.
+use mathlib.Core.Path.{_≡_, ap, _∙_}
+use mathlib.Core.List.{List}
+use Prim.Native.Nat.{ℕ}
+use Rattle.line.specs.Records.{recordOf}
+use Rattle.line.specs.declared.Record.{Record}
+use Rattle.watch.specs.declared.Stage.the-variants.{Waiting, Gathering, Playing, Over}
+use Rattle.watch.specs.Model.{withMove}
+use Rattle.watch.proofs.Asking.{asked-at}
 use borrow.Author.Needs.{needs}
 use Rattle.watch.proofs.read.Statement.{statement}
 use Rattle.watch.proofs.read.Tie as tie
-use Rattle.watch.proofs.read.Reads as reads
-use Rattle.watch.proofs.read.Lts as lts
-use Rattle.line.proofs.read_record.Reads as read-record-reads
-use Rattle.watch.proofs.ask_after.Reads as ask-after-reads
-use Rattle.watch.proofs.ask_before.Reads as ask-before-reads
-use Rattle.watch.proofs.ask_first.Reads as ask-first-reads
-use Rattle.watch.proofs.file_move.Reads as file-move-reads
-use Rattle.watch.proofs.no_task.Reads as no-task-reads
 
--- src/lib.rt:284:9
 read-record-requires : tie.Need-read-record-requires
 read-record-requires c κs = search needs
 
--- src/lib.rt:285:5
 file-move-requires : tie.Need-file-move-requires
 file-move-requires c κs = search needs
 
--- src/lib.rt:288:27
 enum-told : tie.Need-enum-told
 enum-told c = search needs
 
--- src/lib.rt:288:27
 ask-first-requires : tie.Need-ask-first-requires
 ask-first-requires c κs = search needs
 
--- src/lib.rt:289:29
 enum-told-2 : tie.Need-enum-told-2
 enum-told-2 c = search needs
 
--- src/lib.rt:289:29
 ask-before-requires : tie.Need-ask-before-requires
 ask-before-requires c κs = search needs
 
--- src/lib.rt:290:27
 enum-told-3 : tie.Need-enum-told-3
 enum-told-3 c = search needs
 
--- src/lib.rt:290:27
 ask-after-requires : tie.Need-ask-after-requires
 ask-after-requires c κs = search needs
 
--- src/lib.rt:291:24
 enum-told-4 : tie.Need-enum-told-4
 enum-told-4 c = search needs
 
--- src/lib.rt:291:24
 no-task-requires : tie.Need-no-task-requires
 no-task-requires c κs = search needs
 
--- src/lib.rt:280:1
+-- the record at hand is the line's
+record-is : (c : tie.After-slice-known2) → c .before .before .before .before .read-record .result ≡ recordOf (c .before .before .before .before .before .before .before .args .bytes .now)
+record-is c = c .before .before .before .before .read-record .ensures
+
+filed : (c : tie.After-file-move) → c .file-move .last .1 .1 .0 ≡ withMove (c .before .before .before .before .before .args .lead) (recordOf (c .before .before .before .before .before .args .bytes .now)) (c .before .before .before .before .before .args .numbers .now)
+filed c =
+    let s = c .before .before .before .before .before in
+    c .file-move .ensures ∙ ap (λ (r : Record). withMove (s .args .lead) r (s .args .numbers .now)) (c .before .before .read-record .ensures)
+
 same-length : tie.Need-same-length
 same-length c = search needs
 
--- src/lib.rt:280:1
 returns : tie.Need-returns
-returns c = ?
+returns c = let k = c .before .before .before in
+    (c .ask-first .ensures ∙ asked-at Waiting _ _ _ (c .before .enum-told .given .1) (record-is k), filed (k .before .before))
 
--- src/lib.rt:280:1
 same-length-2 : tie.Need-same-length-2
 same-length-2 c = search needs
 
--- src/lib.rt:280:1
 returns-2 : tie.Need-returns-2
-returns-2 c = ?
+returns-2 c = let k = c .before .before .before in
+    (c .ask-before .ensures ∙ asked-at Gathering _ _ _ (c .before .enum-told2 .given .1) (record-is k), filed (k .before .before))
 
--- src/lib.rt:280:1
 same-length-3 : tie.Need-same-length-3
 same-length-3 c = search needs
 
--- src/lib.rt:280:1
 returns-3 : tie.Need-returns-3
-returns-3 c = ?
+returns-3 c = let k = c .before .before .before in
+    (c .ask-after .ensures ∙ asked-at Playing _ _ _ (c .before .enum-told3 .given .1) (record-is k), filed (k .before .before))
 
--- src/lib.rt:280:1
 same-length-4 : tie.Need-same-length-4
 same-length-4 c = search needs
 
--- src/lib.rt:280:1
 returns-4 : tie.Need-returns-4
-returns-4 c = ?
+returns-4 c = let k = c .before .before .before in
+    (c .no-task .ensures ∙ asked-at Over _ _ _ (c .before .enum-told4 .given .1) (record-is k), filed (k .before .before))
 
 pub read-spec : {M : Type 1} → statement M
 read-spec =

@@ -1,54 +1,48 @@
+-- `watch::takes_move`: by whether there is room for a move, and by the stage.
+use mathlib.Core.Path.{_≡_, sym, _∙_}
+use mathlib.Core.Bool.{false}
+use Rattle.watch.specs.declared.Stage.the-variants.{Waiting, Gathering, Playing, Over}
+use Rattle.watch.specs.Model.{isFull}
+use Rattle.watch.proofs.Asking.{none-taken, taken-at}
 use borrow.Author.Needs.{needs}
 use Rattle.watch.proofs.takes_move.Statement.{statement}
 use Rattle.watch.proofs.takes_move.Tie as tie
-use Rattle.watch.proofs.takes_move.Reads as reads
-use Rattle.watch.proofs.takes_move.Lts as lts
-use Rattle.line.proofs.is_word.Reads as is-word-reads
-use Rattle.watch.proofs.is_full.Reads as is-full-reads
 
--- src/lib.rt:253:8
 is-full-requires : tie.Need-is-full-requires
 is-full-requires c κs = search needs
 
--- src/lib.rt:254:9
 returns : tie.Need-returns
-returns c = ?
+returns c = none-taken _ _ (sym (c .before .is-full .ensures) ∙ c .if1 .taken)
 
--- src/lib.rt:259:27
 enum-told : tie.Need-enum-told
 enum-told c = search needs
 
--- src/lib.rt:260:43
 enum-told-2 : tie.Need-enum-told-2
 enum-told-2 c = search needs
 
--- src/lib.rt:260:29
 is-word-requires : tie.Need-is-word-requires
 is-word-requires c κs = search needs
 
--- src/lib.rt:261:27
 enum-told-3 : tie.Need-enum-told-3
 enum-told-3 c = search needs
 
--- src/lib.rt:262:24
 enum-told-4 : tie.Need-enum-told-4
 enum-told-4 c = search needs
 
--- src/lib.rt:250:1
+not-full : (c : tie.Else1) → isFull (c .before .before .args .lead) ≡ false
+not-full c = sym (c .before .is-full .ensures) ∙ c .if1 .left
+
 returns-2 : tie.Need-returns-2
-returns-2 c = ?
+returns-2 c = taken-at _ _ Waiting (not-full (c .before .before)) (c .enum-told .given .1)
 
--- src/lib.rt:250:1
 returns-3 : tie.Need-returns-3
-returns-3 c = ?
+returns-3 c = c .is-word .ensures ∙ taken-at _ _ Gathering (not-full (c .before .before .before)) (c .before .enum-told2 .given .1)
 
--- src/lib.rt:250:1
 returns-4 : tie.Need-returns-4
-returns-4 c = ?
+returns-4 c = taken-at _ _ Playing (not-full (c .before .before)) (c .enum-told3 .given .1)
 
--- src/lib.rt:250:1
 returns-5 : tie.Need-returns-5
-returns-5 c = ?
+returns-5 c = taken-at _ _ Over (not-full (c .before .before)) (c .enum-told4 .given .1)
 
 pub takes-move-spec : {M : Type 1} → statement M
 takes-move-spec =

@@ -1,26 +1,42 @@
+-- `watch::write`: where there is room, the lines of the plan; else none.
+use mathlib.Core.Path.{_≡_, ap, _∙_}
+use mathlib.Core.Logic.{⊎-elim}
+use lib.ListN.{length}
+use Rattle.watch.specs.declared.Lengths.{Lengths}
+use Rattle.watch.specs.Model.{linesTold, Laid}
+use Rattle.watch.proofs.Writing.{no-lines, laid-as, told-lines, long-walk, short-buffer}
 use borrow.Author.Needs.{needs}
 use Rattle.watch.proofs.write.Statement.{statement}
 use Rattle.watch.proofs.write.Tie as tie
-use Rattle.watch.proofs.write.Reads as reads
-use Rattle.watch.proofs.write.Lts as lts
-use Rattle.watch.proofs.lead_behind.Reads as lead-behind-reads
-use Rattle.watch.proofs.put_lines.Reads as put-lines-reads
 
--- src/lib.rt:416:13
 put-lines-requires : tie.Need-put-lines-requires
 put-lines-requires c κs = search needs
 
--- src/lib.rt:420:15
 lead-behind-requires : tie.Need-lead-behind-requires
 lead-behind-requires c κs = search needs
 
--- src/lib.rt:410:1
 same-length : tie.Need-same-length
-same-length c = ?
+same-length c = ⊎-elim (λ w. ap length (w .6) ∙ w .3 .kept .1 .1 .1 .0) (λ o. ⊎-elim (λ w. ap length (w .2)) (λ w. ap length (w .1)) o) (c .before .if1 .came)
 
--- src/lib.rt:410:1
+-- the lengths where no line is told
+abbrev nothing : Lengths
+nothing = record { first = 0; len = 0 }
+
+told : (c : tie.Joined1)
+    → let a = c .before .before .before .args in
+    Laid (linesTold (a .plan) (a .answer) (a .walk .now) (length (a .out .now))) (a .out .now) (c .if1 .out) (c .if1 .n .first) (c .if1 .n .len)
+told c =
+    let a = c .before .before .before .args in
+    ⊎-elim
+    (λ w. laid-as _ _ _ _ _ (w .3 .result) (c .if1 .n) (told-lines (a .plan) (a .answer) (a .walk .now) _ (w .0 .taken) (w .1 .taken)) (w .6) (w .7) (w .3 .ensures))
+    (λ o. ⊎-elim
+    (λ w. laid-as _ _ _ (a .out .now) _ nothing (c .if1 .n) (short-buffer (a .plan) (a .answer) (a .walk .now) _ (w .1 .left)) (w .2) (w .3) (no-lines (a .out .now)))
+    (λ w. laid-as _ _ _ (a .out .now) _ nothing (c .if1 .n) (long-walk (a .plan) (a .answer) (a .walk .now) _ (w .0 .left)) (w .1) (w .2) (no-lines (a .out .now)))
+    o)
+    (c .if1 .came)
+
 returns : tie.Need-returns
-returns c = ?
+returns c = record { goes = c .lead-behind .ensures; laid = told (c .before) }
 
 pub write-spec : {M : Type 1} → statement M
 write-spec = tie.close (tie.spec put-lines-requires lead-behind-requires same-length returns)
