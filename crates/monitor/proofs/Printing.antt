@@ -11,7 +11,7 @@ use Rattle.watch.specs.declared.Lead.{Lead}
 use Rattle.watch.specs.declared.Plan.{Plan}
 use Rattle.watch.specs.declared.Written.{Written}
 use Rattle.watch.specs.Text.{Held, waiting, step, limit}
-use Rattle.watch.specs.Model.{asked, bufferMost, linesTold, Laid, Told}
+use Rattle.watch.specs.Model.{asked, bufferMost, linesTold, Laid, Writes}
 use Rattle.watch.proofs.Output.{laid-bytes}
 use Rattle.monitor.specs.declared.Status.{Status}
 use Rattle.monitor.specs.declared.Status.the-variants.{More, Line, Last, Over}
@@ -81,7 +81,7 @@ printed r′ held′ buf′ seen ls d d′ first len c l = record {
 }
 
 pub told-bytes : (line : List ℕ) (lead : Lead) (plan : Plan) (answer : Answer) (walk d d′ : List ℕ) (w : Written) → length d ≡ bufferMost → plan ≡ asked lead (recordOf line)
-    → Told plan answer walk d d′ w → take (w .len) d′ ≡ bytesTold line lead answer walk
+    → Writes plan answer walk d d′ w → take (w .len) d′ ≡ bytesTold line lead answer walk
 unfolding bytesTold
 told-bytes line lead plan answer walk d d′ w e f t =
     laid-bytes _ d d′ (w .first) (w .len) (t .laid) ∙ rw (e, f)

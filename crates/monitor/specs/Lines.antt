@@ -86,13 +86,9 @@ isLine Line = true
 isLine Last = false
 isLine Over = false
 
-abbrev pub pickReader : Bool → Reader → Reader → Reader
-pickReader true a b = a
-pickReader false a b = b
-
 -- where the input ends
 unfoldable pub endOf : Reader → Reader
-endOf r = pickReader (eqb (r .len) 0)
+endOf r = cond (eqb (r .len) 0)
     (record { at = 0; end = 0; len = r .len; left = r .left; status = Over })
     (record { at = 0; end = 0; len = r .len; left = r .left; status = Last })
 

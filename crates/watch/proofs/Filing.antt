@@ -1,7 +1,7 @@
 -- The numbers of a `move` that is taken, put behind those of the moves before it. Assumes nothing.
 use Prim.Native.Nat.{ℕ, _+_, _≤_, _<_}
 use mathlib.Core.Path.{_≡_, refl, sym, ap, _∙_}
-use mathlib.Core.Bool.{Bool, true, false, _&&_, and-false}
+use mathlib.Core.Bool.{Bool, true, false, _&&_, and-false, cond}
 use mathlib.Core.List.{List, [], _∷_, _++_, append-assoc}
 use native.Mathlib.Omega.{arith}
 use borrow.Author.Tests.{le-leb, lt-leb, leb-true}
@@ -13,12 +13,12 @@ use Rattle.line.specs.declared.Record.{Record}
 use Rattle.answer.specs.Bytes.{overwritten, Put}
 use Rattle.answer.proofs.Laws.{put-set, put-then}
 use Rattle.watch.specs.declared.Lead.{Lead}
-use Rattle.watch.specs.Model.{pickList, takesMove, withMove}
+use Rattle.watch.specs.Model.{takesMove, filedMove}
 
 module _ (l : Lead) (r : Record) (ns : List ℕ) where
   -- two numbers set one behind the other
-  pub filed-both : (at : ℕ) → takesMove l r ≡ true → at ≡ l .count → at + 1 < length ns → set (set ns at (r .first)) (at + 1) (r .second) ≡ withMove l r ns
-  unfolding withMove
+  pub filed-both : (at : ℕ) → takesMove l r ≡ true → at ≡ l .count → at + 1 < length ns → set (set ns at (r .first)) (at + 1) (r .second) ≡ filedMove l r ns
+  unfolding filedMove
   filed-both at t e h =
       let k : l .count + 2 ≤ length ns = omega arith in
       let p = put-then ns at (r .first ∷ []) (set ns at (r .first)) (at + 1) (r .second ∷ []) (set (set ns at (r .first)) (at + 1) (r .second)) (at + 1 + 1) (omega arith)
@@ -26,12 +26,12 @@ module _ (l : Lead) (r : Record) (ns : List ℕ) where
       (put-set (set ns at (r .first)) (at + 1) (r .second) (omega (arith, length-set ns at (r .first)))) in
       rw (t, le-leb (l .count + 2) (length ns) k) (p .made ∙ ap (λ (n : ℕ). overwritten ns n (r .first ∷ r .second ∷ [])) e)
 
-  pub filed-not : takesMove l r ≡ false → ns ≡ withMove l r ns
-  unfolding withMove
+  pub filed-not : takesMove l r ≡ false → ns ≡ filedMove l r ns
+  unfolding filedMove
   filed-not t = rw t
 
-  pub filed-full : (at : ℕ) → at ≡ l .count → length ns ≤ at + 1 → ns ≡ withMove l r ns
-  unfolding withMove
+  pub filed-full : (at : ℕ) → at ≡ l .count → length ns ≤ at + 1 → ns ≡ filedMove l r ns
+  unfolding filedMove
   filed-full at e h =
       let k : length ns < l .count + 2 = omega arith in
       rw (lt-leb (l .count + 2) (length ns) k, and-false (takesMove l r))
@@ -50,18 +50,18 @@ front-put ns bs at n h e =
     rw (← append-assoc (take at ns) bs (drop (at + length bs) ns), k) (take-append-seam (take at ns ++ bs) (drop (at + length bs) ns))
 
 -- the moves before it stay
-pub moves-kept : (l : Lead) (r : Record) (ns : List ℕ) → take (l .count) (withMove l r ns) ≡ take (l .count) ns
-unfolding withMove
+pub moves-kept : (l : Lead) (r : Record) (ns : List ℕ) → take (l .count) (filedMove l r ns) ≡ take (l .count) ns
+unfolding filedMove
 moves-kept l r ns = by-room (takesMove l r && leb (l .count + 2) (length ns)) refl
   where
     by-room : (b : Bool) → takesMove l r && leb (l .count + 2) (length ns) ≡ b
-        → take (l .count) (pickList b (overwritten ns (l .count) (r .first ∷ r .second ∷ [])) ns) ≡ take (l .count) ns
+        → take (l .count) (cond b (overwritten ns (l .count) (r .first ∷ r .second ∷ [])) ns) ≡ take (l .count) ns
     by-room true e = front-kept ns (r .first ∷ r .second ∷ []) (l .count) (omega (arith, leb-true (l .count + 2) (length ns) (and-true (takesMove l r) _ e .1)))
     by-room false e = refl
 
 -- and its own stand behind them
 pub move-put : (l : Lead) (r : Record) (ns : List ℕ) → takesMove l r ≡ true → l .count + 2 ≤ length ns
-    → take (l .count + 2) (withMove l r ns) ≡ take (l .count) ns ++ (r .first ∷ r .second ∷ [])
-unfolding withMove
+    → take (l .count + 2) (filedMove l r ns) ≡ take (l .count) ns ++ (r .first ∷ r .second ∷ [])
+unfolding filedMove
 move-put l r ns t h =
     rw (t, le-leb (l .count + 2) (length ns) h) (front-put ns (r .first ∷ r .second ∷ []) (l .count) (l .count + 2) (omega arith) refl)

@@ -129,11 +129,11 @@ module _ (ls : List Line) (d d′ : List ℕ) (first len : ℕ) (laid : Laid ls 
 -- ---- at most two lines
 
 -- a list of at most two lines
-abbrev pub Short : List Line → Type 0
-Short [] = Unit {0}
-Short (a ∷ []) = Unit {0}
-Short (a ∷ b ∷ []) = Unit {0}
-Short (a ∷ b ∷ c ∷ ls) = ⊥
+abbrev pub AtMostTwo : List Line → Type 0
+AtMostTwo [] = Unit {0}
+AtMostTwo (a ∷ []) = Unit {0}
+AtMostTwo (a ∷ b ∷ []) = Unit {0}
+AtMostTwo (a ∷ b ∷ c ∷ ls) = ⊥
 
 skip-fitted : (space : ℕ) (left : List (List ℕ)) → fitted space ([] ∷ left) ≡ fitted space left
 skip-fitted space left =
@@ -159,7 +159,7 @@ unfolding stopped
 stopped-same space a xs ys h = rw (h (space - length a))
 
 module _ (d₀ : List ℕ) (space : ℕ) (all : List (List ℕ)) (d : List ℕ) (at : ℕ) where
-  padded : (ls : List Line) (left : List (List ℕ)) → Short ls → Rest d₀ space all d at (map render ls ++ left) → Rest d₀ space all d at (firstOf ls ∷ restOf ls ∷ left)
+  padded : (ls : List Line) (left : List (List ℕ)) → AtMostTwo ls → Rest d₀ space all d at (map render ls ++ left) → Rest d₀ space all d at (firstOf ls ∷ restOf ls ∷ left)
   unfolding rendered
   padded [] left s r = same-rest d₀ space all d at left ([] ∷ [] ∷ left) (sym (skip-fitted (space - at) ([] ∷ left) ∙ skip-fitted (space - at) left))
       (sym (skip-stopped (space - at) ([] ∷ left) ∙ skip-stopped (space - at) left)) r
@@ -170,7 +170,7 @@ module _ (d₀ : List ℕ) (space : ℕ) (all : List (List ℕ)) (d : List ℕ) 
   padded (a ∷ b ∷ c ∷ ls) left s r = absurd s
 
   -- Lines at the head of a buffer, and so many of its bytes put behind `at`.
-  module _ (ls : List Line) (left : List (List ℕ)) (short : Short ls) (buf : List ℕ) (first len : ℕ) (buf₀ : List ℕ) (laid : Laid ls buf₀ buf first len) (h : at ≤ space) (k : space ≤ length d)
+  module _ (ls : List Line) (left : List (List ℕ)) (short : AtMostTwo ls) (buf : List ℕ) (first len : ℕ) (buf₀ : List ℕ) (laid : Laid ls buf₀ buf first len) (h : at ≤ space) (k : space ≤ length d)
       (rest : Rest d₀ space all d at (map render ls ++ left)) where
     ends : len ≡ length (firstOf ls) + length (restOf ls)
     ends = laid .ends ∙ ap length (in-two ls) ∙ length-append (firstOf ls) (restOf ls)

@@ -1,7 +1,7 @@
 -- One line: what the functions of a line do, taken together, is the plain definition's step. Assumes nothing.
 use Prim.Native.Nat.{ℕ, _+_, _*_, _/_, _≤_, _<_}
 use mathlib.Core.Path.{_≡_, refl, sym, ap, subst, subst⁻¹, _∙_}
-use mathlib.Core.Bool.{Bool, true, false, _&&_}
+use mathlib.Core.Bool.{Bool, true, false, _&&_, cond}
 use mathlib.Core.List.{List, [], _∷_, _++_}
 use native.Mathlib.Omega.{arith}
 use native.Mathlib.Decide.{decLe}
@@ -31,8 +31,8 @@ use Rattle.watch.specs.declared.Ask.the-variants.{Load as AskLoad, Chang
 use Rattle.watch.specs.declared.Task.{Task}
 use Rattle.watch.specs.declared.Task.the-variants.{Nothing, Refuse, Ask as Asks}
 use Rattle.watch.specs.declared.Plan.{Plan}
-use Rattle.watch.specs.Text.{Draft, Play, Held, waiting, gathering, playing, ended, Step, quiet, noStep, pickStep, empty, room, flat, loadStep, loadOf, draftOf, withPay, plusMove, changeStep, atFirst, beforeGo, afterGo, step}
-use Rattle.watch.specs.Model.{pickPlan, staged, noTask, refusing, loading, changing, isFull, askedFirst, askedMove, askedBefore, askedAfter, askedAt, asked, takesMove, withMove, gathered, Serves, isRefused, pickLines, pickStage, linesFor, leadFor}
+use Rattle.watch.specs.Text.{Draft, Play, Held, waiting, gathering, playing, ended, Step, quiet, noStep, empty, room, flat, loadStep, loadOf, draftOf, withPay, withMove, changeStep, atFirst, beforeGo, afterGo, step}
+use Rattle.watch.specs.Model.{numbersMost, staged, noTask, refusing, loading, changing, isFull, askedFirst, askedMove, askedBefore, askedAfter, askedAt, asked, takesMove, filedMove, gathered, Serves, isRefused, linesFor, leadFor}
 use Rattle.watch.proofs.Asking.{taken-at}
 use Rattle.watch.proofs.Filing.{moves-kept, move-put}
 
@@ -115,9 +115,9 @@ module _ (ns walk : List ℕ) (s : Session) (c : Outcome) (walk′ : List ℕ) w
   Comes l₀ p u = Follows (p .task) l₀ ns s walk c walk′
       → Tracks (leadFor (p .task) (p .lead) (c .answer)) ns (c .session) (u .next) × (linesFor (p .task) (p .lead) (c .answer) walk′ ≡ u .lines)
 
-  comes-pick : (l₀ : Lead) (b : Bool) (p q : Plan) (u v : Step) → (b ≡ true → Comes l₀ p u) → (b ≡ false → Comes l₀ q v) → Comes l₀ (pickPlan b p q) (pickStep b u v)
-  comes-pick l₀ true p q u v h k = h refl
-  comes-pick l₀ false p q u v h k = k refl
+  comes-cond : (l₀ : Lead) (b : Bool) (p q : Plan) (u v : Step) → (b ≡ true → Comes l₀ p u) → (b ≡ false → Comes l₀ q v) → Comes l₀ (cond b p q) (cond b u v)
+  comes-cond l₀ true p q u v h k = h refl
+  comes-cond l₀ false p q u v h k = k refl
 
   comes-quiet : (l₀ l : Lead) (q : Held) → Tracks l ns s q → Comes l₀ (noTask l) (quiet q)
   comes-quiet l₀ l q h w = (rw w h, refl)
@@ -141,16 +141,16 @@ module _ (ns walk : List ℕ) (s : Session) (c : Outcome) (walk′ : List ℕ) w
       let told : answerLine (loadAnswer accepted t) ≡ shown (c .answer) walk′ ∷ [] = rw k at (lo .answers) in
       let yes : isRefused (c .answer) ≡ false = refused-as (loadAnswer accepted t) (c .answer) walk′ told ∙ verdict-yes (verdict (final t)) (count (final t)) 0 in
       let half : l .count / 2 ≡ length (d .moves) = omega (arith, g .count) in (
-        (ap (λ (b : Bool). pickStage b Over Playing) yes, lo .holds k),
-        ap (λ (b : Bool). pickLines b (shown (c .answer) walk′ ∷ []) (gameLine (l .size) (l .count / 2) (acceptingCount (l .words)) ∷ shown (c .answer) walk′ ∷ [])) yes
+        (ap (λ (b : Bool). cond b Over Playing) yes, lo .holds k),
+        ap (λ (b : Bool). cond b (shown (c .answer) walk′ ∷ []) (gameLine (l .size) (l .count / 2) (acceptingCount (l .words)) ∷ shown (c .answer) walk′ ∷ [])) yes
             ∙ rw (g .size, g .words, half) (ap (λ (ls : List Line). gameLine (d .size) (length (d .moves)) (acceptingCount (d .marks)) ∷ ls) (sym told)),
       )
   load-by (refused n) l d k g lo =
       let a = loadAnswer (refused n) (tableOf (loadOf d)) in
       let told : answerLine a ≡ shown (c .answer) walk′ ∷ [] = rw k at (lo .answers) in
       let no : isRefused (c .answer) ≡ true = refused-as a (c .answer) walk′ told in (
-        ap (λ (b : Bool). pickStage b Over Playing) no,
-        ap (λ (b : Bool). pickLines b (shown (c .answer) walk′ ∷ []) (gameLine (l .size) (l .count / 2) (acceptingCount (l .words)) ∷ shown (c .answer) walk′ ∷ [])) no ∙ sym told,
+        ap (λ (b : Bool). cond b Over Playing) no,
+        ap (λ (b : Bool). cond b (shown (c .answer) walk′ ∷ []) (gameLine (l .size) (l .count / 2) (acceptingCount (l .words)) ∷ shown (c .answer) walk′ ∷ [])) no ∙ sym told,
       )
 
   comes-load : (l : Lead) (d : Draft) → Gathers l ns d → length walk ≡ room → Comes l (loading l) (loadStep (loadTrial (loadOf d) room) d)
@@ -162,22 +162,22 @@ module _ (ns walk : List ℕ) (s : Session) (c : Outcome) (walk′ : List ℕ) w
 
   first-line : (l : Lead) (r : Record) → Comes l (askedFirst l r) (atFirst r)
   unfolding askedFirst atFirst flat
-  first-line l r = comes-pick l (isWord (r .word) Game) _ _ _ _
+  first-line l r = comes-cond l (isWord (r .word) Game) _ _ _ _
       (λ b. comes-quiet l _ (gathering (draftOf r)) (record { stage = refl; size = refl; start = refl; words = refl; count = refl; moves = refl }))
       (λ b. comes-refusing l Over l 1 ended refl)
 
   line-after-go : (l : Lead) (r : Record) (p : Play) → Tracks l ns s (playing p) → length walk ≡ room → Comes l (askedAfter l r) (afterGo p r)
   unfolding askedAfter afterGo
-  line-after-go l r p h e = comes-pick l (isWord (r .word) Word.Add) _ _ _ _ (λ b. comes-change (Add (r .first) (r .second)) l p (h .0) (h .1) e)
-      (λ b. comes-pick l (isWord (r .word) Word.Cut) _ _ _ _ (λ d. comes-change (Cut (r .first) (r .second)) l p (h .0) (h .1) e) (λ d. comes-refusing l Playing l 1 (playing p) (refl, h .1)))
+  line-after-go l r p h e = comes-cond l (isWord (r .word) Word.Add) _ _ _ _ (λ b. comes-change (Add (r .first) (r .second)) l p (h .0) (h .1) e)
+      (λ b. comes-cond l (isWord (r .word) Word.Cut) _ _ _ _ (λ d. comes-change (Cut (r .first) (r .second)) l p (h .0) (h .1) e) (λ d. comes-refusing l Playing l 1 (playing p) (refl, h .1)))
 
   -- before `go`: ns₀ is the list as the line finds it
-  module _ (ns₀ : List ℕ) (l : Lead) (r : Record) (d : Draft) (g : Gathers l ns₀ d) (f : ns ≡ withMove l r ns₀) (n : length ns₀ ≡ 4096) where
+  module _ (ns₀ : List ℕ) (l : Lead) (r : Record) (d : Draft) (g : Gathers l ns₀ d) (f : ns ≡ filedMove l r ns₀) (n : length ns₀ ≡ numbersMost) where
     moved : Gathers l ns d
     moved = record { stage = g .stage; size = g .size; start = g .start; words = g .words; count = g .count; moves = ap (take (l .count)) f ∙ moves-kept l r ns₀ ∙ g .moves }
 
     one-more : isFull l ≡ false → isWord (r .word) Move ≡ true
-        → Gathers (record { stage = Gathering; size = l .size; start = l .start; words = l .words; count = l .count + 2 }) ns (plusMove r d)
+        → Gathers (record { stage = Gathering; size = l .size; start = l .start; words = l .words; count = l .count + 2 }) ns (withMove r d)
     unfolding isFull
     one-more b m =
         let k : l .count < 4096 = leb-false 4096 (l .count) b in
@@ -194,13 +194,13 @@ module _ (ns walk : List ℕ) (s : Session) (c : Outcome) (walk′ : List ℕ) w
 
     line-before-go : length walk ≡ room → Comes l (askedBefore l r) (beforeGo d r)
     unfolding askedBefore askedMove beforeGo flat
-    line-before-go e = rw (count-empty (l .count) (d .moves) (g .count)) (comes-pick l (isWord (r .word) Pay && empty (d .moves)) _ _ _ _
+    line-before-go e = rw (count-empty (l .count) (d .moves) (g .count)) (comes-cond l (isWord (r .word) Pay && empty (d .moves)) _ _ _ _
         (λ b. let z : d .moves ≡ [] = no-moves (d .moves) (and-true (isWord (r .word) Pay) (empty (d .moves)) b .1) in
         comes-quiet l _ (gathering (withPay r d))
         (record { stage = refl; size = g .size; start = g .start; words = ap (λ (w : List ℕ). withMark w (r .first)) (g .words); count = omega (arith, ap length z); moves = ap flat (sym z) }))
-        (λ b. comes-pick l (isWord (r .word) Move) _ _ _ _
-        (λ m. rw (← count-full l (d .moves) (g .count)) (comes-pick l (isFull l) _ _ _ _ (λ x. comes-refusing l Over l 5 ended refl) (λ x. comes-quiet l _ (gathering (plusMove r d)) (one-more x m))))
-        (λ m. comes-pick l (isWord (r .word) Go) _ _ _ _ (λ x. comes-load l d moved e) (λ x. comes-refusing l Over l 1 ended refl))))
+        (λ b. comes-cond l (isWord (r .word) Move) _ _ _ _
+        (λ m. rw (← count-full l (d .moves) (g .count)) (comes-cond l (isFull l) _ _ _ _ (λ x. comes-refusing l Over l 5 ended refl) (λ x. comes-quiet l _ (gathering (withMove r d)) (one-more x m))))
+        (λ m. comes-cond l (isWord (r .word) Go) _ _ _ _ (λ x. comes-load l d moved e) (λ x. comes-refusing l Over l 1 ended refl))))
 
 by-stage : (l : Lead) (r : Record) (ns : List ℕ) (s : Session) (walk : List ℕ) (c : Outcome) (walk′ : List ℕ) (g : Stage) (u : Step) → l .stage ≡ g
     → Comes ns walk s c walk′ l (askedAt g l r) u → Comes ns walk s c walk′ l (asked l r) u
@@ -209,7 +209,7 @@ by-stage l r ns s walk c walk′ g u h k = subst⁻¹ (λ (x : Stage). Comes ns 
 
 -- One line: where the lead, the list and the session stand for what is held, they do so behind the line, and the lines told are the step's.
 pub stepped : (l : Lead) (ns : List ℕ) (s : Session) (p : Held) (walk : List ℕ) (r : Record) (ns′ : List ℕ) (c : Outcome) (walk′ : List ℕ)
-    → length ns ≡ 4096 → length walk ≡ room → Tracks l ns s p → ns′ ≡ withMove l r ns → Follows (asked l r .task) l ns′ s walk c walk′
+    → length ns ≡ numbersMost → length walk ≡ room → Tracks l ns s p → ns′ ≡ filedMove l r ns → Follows (asked l r .task) l ns′ s walk c walk′
     → Tracks (leadFor (asked l r .task) (asked l r .lead) (c .answer)) ns′ (c .session) (step p r .next)
     × (linesFor (asked l r .task) (asked l r .lead) (c .answer) walk′ ≡ step p r .lines)
 unfolding asked step

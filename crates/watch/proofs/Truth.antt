@@ -1,7 +1,7 @@
 -- DEMAND 2 for texts: every line that is printed is true of the table that is then present. Assumes nothing.
 use Prim.Native.Nat.{ℕ}
 use mathlib.Core.Path.{_≡_, refl}
-use mathlib.Core.Bool.{Bool, true, false, _&&_}
+use mathlib.Core.Bool.{Bool, true, false, _&&_, cond}
 use mathlib.Core.List.{List, [], _∷_, map}
 use Rattle.plain.specs.Search.{none, lasso, unfinished}
 use Rattle.plain.specs.Table.{Table}
@@ -14,7 +14,7 @@ use Rattle.line.specs.Records.{recordOf}
 use Rattle.line.specs.Words.{isWord}
 use Rattle.line.specs.declared.Word.the-variants.{Game, Pay, Move, Go, Add, Cut}
 use Rattle.line.specs.declared.Record.{Record}
-use Rattle.watch.specs.Text.{Draft, Play, playOf, Held, waiting, gathering, playing, ended, Step, pickStep, empty, room, loadStep, loadOf, changeStep, atFirst, beforeGo, afterGo, step, counted}
+use Rattle.watch.specs.Text.{Draft, Play, playOf, Held, waiting, gathering, playing, ended, Step, empty, room, loadStep, loadOf, changeStep, atFirst, beforeGo, afterGo, step, counted}
 use Rattle.watch.specs.Truth.{AllSay, True}
 
 -- the table that is held is one that a session can hold
@@ -28,9 +28,9 @@ Sound ended = Unit {0}
 abbrev Right : Step → Type 0
 Right u = AllSay (u .lines) (u .next) × Sound (u .next)
 
-pick-right : (b : Bool) (u v : Step) → Right u → Right v → Right (pickStep b u v)
-pick-right true u v h k = h
-pick-right false u v h k = k
+cond-right : (b : Bool) (u v : Step) → Right u → Right v → Right (cond b u v)
+cond-right true u v h k = h
+cond-right false u v h k = k
 
 -- ---- answers
 
@@ -60,12 +60,12 @@ change-right c p a =
 
 right : (p : Held) (r : Record) → Sound p → Right (step p r)
 unfolding step atFirst beforeGo afterGo
-right waiting r s = pick-right (isWord (r .word) Game) _ _ (tt, tt) ((tt, tt), tt)
+right waiting r s = cond-right (isWord (r .word) Game) _ _ (tt, tt) ((tt, tt), tt)
 right (gathering d) r s =
-    pick-right (isWord (r .word) Pay && empty (d .moves)) _ _ (tt, tt)
-    (pick-right (isWord (r .word) Move) _ _ (pick-right (full (d .moves)) _ _ ((tt, tt), tt) (tt, tt))
-    (pick-right (isWord (r .word) Go) _ _ (load-right (loadTrial (loadOf d) room) d refl) ((tt, tt), tt)))
-right (playing p) r s = pick-right (isWord (r .word) Add) _ _ (change-right _ p s) (pick-right (isWord (r .word) Cut) _ _ (change-right _ p s) ((tt, tt), s))
+    cond-right (isWord (r .word) Pay && empty (d .moves)) _ _ (tt, tt)
+    (cond-right (isWord (r .word) Move) _ _ (cond-right (full (d .moves)) _ _ ((tt, tt), tt) (tt, tt))
+    (cond-right (isWord (r .word) Go) _ _ (load-right (loadTrial (loadOf d) room) d refl) ((tt, tt), tt)))
+right (playing p) r s = cond-right (isWord (r .word) Add) _ _ (change-right _ p s) (cond-right (isWord (r .word) Cut) _ _ (change-right _ p s) ((tt, tt), s))
 right ended r s = (tt, tt)
 
 all-true : (p : Held) (rs : List Record) → Sound p → True p rs

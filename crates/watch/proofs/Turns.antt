@@ -1,7 +1,7 @@
 -- The lines of a text, one after the other. Assumes nothing.
 use Prim.Native.Nat.{ℕ, _+_, _-_, _≤_, _<_}
 use mathlib.Core.Path.{_≡_, refl, sym, ap, subst, subst⁻¹, _∙_}
-use mathlib.Core.Bool.{Bool, true, false}
+use mathlib.Core.Bool.{Bool, true, false, cond}
 use mathlib.Core.Logic.{⊎-elim}
 use mathlib.Core.List.{List, [], _∷_, _++_, map, map-append}
 use native.Mathlib.Omega.{arith}
@@ -25,9 +25,9 @@ use Rattle.watch.specs.declared.Task.the-variants.{Nothing, Refuse, Ask 
 use Rattle.watch.specs.Text.{Held, waiting, gathering, playing, ended, room, step, printed}
 use Rattle.watch.specs.declared.Plan.{Plan}
 use Rattle.watch.specs.declared.Written.{Written}
-use Rattle.watch.specs.Model.{asked, withMove, isRefused, Serves, bufferMost, pickLines, linesFor, linesTold, leadFor, Laid, Told, isOver}
+use Rattle.watch.specs.Model.{numbersMost, asked, filedMove, isRefused, Serves, bufferMost, linesFor, linesTold, leadFor, Laid, Writes, isOver}
 use Rattle.watch.proofs.Task.{the-type}
-use Rattle.watch.proofs.Output.{Short}
+use Rattle.watch.proofs.Output.{AtMostTwo}
 use Rattle.watch.proofs.Steps.{Tracks, Follows, stepped}
 use Rattle.watch.proofs.Writing.{told-lines}
 
@@ -66,14 +66,14 @@ over-told (playing q) l ns s text from o h = false-true (sym (ap isOver (h .0)) 
 over-told ended l ns s text from o h = ap (map render) (none-printed (map recordOf (linesOf (drop from text))))
 
 -- a line is told by at most two
-short-pick : (b : Bool) (x y z : Line) → Short (pickLines b (x ∷ []) (y ∷ z ∷ []))
-short-pick true x y z = tt
-short-pick false x y z = tt
+short-cond : (b : Bool) (x y z : Line) → AtMostTwo (cond b (x ∷ []) (y ∷ z ∷ []))
+short-cond true x y z = tt
+short-cond false x y z = tt
 
-pub short : (task : Task) (l : Lead) (answer : Answer) (walk : List ℕ) → Short (linesFor task l answer walk)
+pub short : (task : Task) (l : Lead) (answer : Answer) (walk : List ℕ) → AtMostTwo (linesFor task l answer walk)
 short Nothing l answer walk = tt
 short (Refuse n) l answer walk = tt
-short (Asks AskLoad) l answer walk = short-pick (isRefused answer) _ _ _
+short (Asks AskLoad) l answer walk = short-cond (isRefused answer) _ _ _
 short (Asks (Change op)) l answer walk = tt
 
 -- ---- what is asked of the session
@@ -100,12 +100,12 @@ module _ (l : Lead) (ns walk : List ℕ) (k : length walk ≡ room) (c : Outcome
 pub record Behind (p : Held) (r : Record) (ns : List ℕ) (s : Session) (d d′ : List ℕ) (w : Written) : Type 0 where
   pub tracks : Tracks (w .lead) ns s (step p r .next)
   pub laid : Laid (step p r .lines) d d′ (w .first) (w .len)
-  pub few : Short (step p r .lines)
+  pub few : AtMostTwo (step p r .lines)
 
 -- the three functions of a line, one after the other
 module _ (l : Lead) (ns : List ℕ) (s : Session) (p : Held) (walk : List ℕ) (r : Record) (ns′ : List ℕ) (c : Outcome) (walk′ d d′ : List ℕ) (w : Written)
-    (n : length ns ≡ 4096) (k : length walk ≡ room) (b : length d ≡ bufferMost) (h : Tracks l ns s p) (f : ns′ ≡ withMove l r ns) where
-  behind-asked : Done (asked l r .task) l ns′ s walk c walk′ → Told (asked l r) (c .answer) walk′ d d′ w → Behind p r ns′ (c .session) d d′ w
+    (n : length ns ≡ numbersMost) (k : length walk ≡ room) (b : length d ≡ bufferMost) (h : Tracks l ns s p) (f : ns′ ≡ filedMove l r ns) where
+  behind-asked : Done (asked l r .task) l ns′ s walk c walk′ → Writes (asked l r) (c .answer) walk′ d d′ w → Behind p r ns′ (c .session) d d′ w
   behind-asked v t =
       let q = asked l r in
       let m = stepped l ns s p walk r ns′ c walk′ n k h f (v .follows) in
@@ -114,8 +114,8 @@ module _ (l : Lead) (ns : List ℕ) (s : Session) (p : Held) (walk : List ℕ) (
       record {
         tracks = subst⁻¹ (λ (x : Lead). Tracks x ns′ (c .session) (step p r .next)) (t .goes) (m .0);
         laid = subst (λ (x : List Line). Laid x d d′ (w .first) (w .len)) lines (t .laid);
-        few = subst Short (m .1) (short (q .task) (q .lead) (c .answer) walk′);
+        few = subst AtMostTwo (m .1) (short (q .task) (q .lead) (c .answer) walk′);
       }
 
-  pub behind : (plan : Plan) → plan ≡ asked l r → Done (plan .task) l ns′ s walk c walk′ → Told plan (c .answer) walk′ d d′ w → Behind p r ns′ (c .session) d d′ w
-  behind plan e v t = behind-asked (subst (λ (x : Plan). Done (x .task) l ns′ s walk c walk′) e v) (subst (λ (x : Plan). Told x (c .answer) walk′ d d′ w) e t)
+  pub behind : (plan : Plan) → plan ≡ asked l r → Done (plan .task) l ns′ s walk c walk′ → Writes plan (c .answer) walk′ d d′ w → Behind p r ns′ (c .session) d d′ w
+  behind plan e v t = behind-asked (subst (λ (x : Plan). Done (x .task) l ns′ s walk c walk′) e v) (subst (λ (x : Plan). Writes x (c .answer) walk′ d d′ w) e t)

@@ -23,7 +23,7 @@ use Rattle.session.specs.Promises.{shown}
 use Rattle.watch.specs.declared.Plan.{Plan}
 use Rattle.watch.specs.declared.Lengths.{Lengths}
 use Rattle.watch.specs.Text.{room}
-use Rattle.watch.specs.Model.{bufferMost, pickLines, linesFor, linesTold, Laid}
+use Rattle.watch.specs.Model.{bufferMost, linesFor, linesTold, Laid}
 
 -- ---- the walk, as far as it goes
 

@@ -2,7 +2,7 @@
 -- Cited by contracts; proofs/Steps.antt ties it to the plain definitions. Assumes nothing.
 use Prim.Native.Nat.{ℕ, _+_, _/_}
 use mathlib.Core.Path.{_≡_}
-use mathlib.Core.Bool.{Bool, true, false, _&&_}
+use mathlib.Core.Bool.{Bool, true, false, _&&_, not, cond}
 use mathlib.Core.List.{List, [], _∷_}
 use lib.Dec.{eqb, leb}
 use lib.ListN.{length, take, replicate}
@@ -39,10 +39,6 @@ firstLead = record { stage = Waiting; size = 0; start = 0; words = replicate 8 0
 
 -- ---- what a line asks for
 
-abbrev pub pickPlan : Bool → Plan → Plan → Plan
-pickPlan true a b = a
-pickPlan false a b = b
-
 -- the lead at another stage
 abbrev pub staged : Stage → Lead → Lead
 staged stage l = record { stage = stage; size = l .size; start = l .start; words = l .words; count = l .count }
@@ -60,31 +56,35 @@ abbrev pub changing : Op → Lead → Plan
 changing op l = record { lead = l; task = Asks (Change op) }
 
 unfoldable pub askedFirst : Lead → Record → Plan
-askedFirst l r = pickPlan (isWord (r .word) Game)
+askedFirst l r = cond (isWord (r .word) Game)
     (noTask (record { stage = Gathering; size = r .first; start = r .second; words = replicate 8 0; count = 0 }))
     (refusing Over l 1)
 
--- are there 2,048 moves, two numbers for each?
+-- the numbers of 2,048 moves, two for each
+abbrev pub numbersMost : ℕ
+numbersMost = 4096
+
+-- are there 2,048 moves?
 unfoldable pub isFull : Lead → Bool
-isFull l = leb 4096 (l .count)
+isFull l = leb numbersMost (l .count)
 
 -- a `move` before `go`
 unfoldable pub askedMove : Lead → Plan
-askedMove l = pickPlan (isFull l) (refusing Over l 5)
+askedMove l = cond (isFull l) (refusing Over l 5)
     (noTask (record { stage = Gathering; size = l .size; start = l .start; words = l .words; count = l .count + 2 }))
 
 unfoldable pub askedBefore : Lead → Record → Plan
 askedBefore l r =
-    pickPlan (isWord (r .word) Pay && eqb (l .count) 0)
+    cond (isWord (r .word) Pay && eqb (l .count) 0)
     (noTask (record { stage = Gathering; size = l .size; start = l .start; words = withMark (l .words) (r .first); count = 0 }))
-    (pickPlan (isWord (r .word) Move) (askedMove l)
-    (pickPlan (isWord (r .word) Go) (loading l)
+    (cond (isWord (r .word) Move) (askedMove l)
+    (cond (isWord (r .word) Go) (loading l)
     (refusing Over l 1)))
 
 unfoldable pub askedAfter : Lead → Record → Plan
 askedAfter l r =
-    pickPlan (isWord (r .word) Word.Add) (changing (Add (r .first) (r .second)) l)
-    (pickPlan (isWord (r .word) Word.Cut) (changing (Cut (r .first) (r .second)) l)
+    cond (isWord (r .word) Word.Add) (changing (Add (r .first) (r .second)) l)
+    (cond (isWord (r .word) Word.Cut) (changing (Cut (r .first) (r .second)) l)
     (refusing Playing l 1))
 
 abbrev pub askedAt : Stage → Lead → Record → Plan
@@ -98,14 +98,6 @@ asked l r = askedAt (l .stage) l r
 
 -- ---- the moves' numbers
 
-abbrev pub pickFlag : Bool → Bool → Bool → Bool
-pickFlag true a b = a
-pickFlag false a b = b
-
-abbrev pub pickList : Bool → List ℕ → List ℕ → List ℕ
-pickList true a b = a
-pickList false a b = b
-
 abbrev pub moveAt : Stage → Record → Bool
 moveAt Waiting r = false
 moveAt Gathering r = isWord (r .word) Move
@@ -114,12 +106,12 @@ moveAt Over r = false
 
 -- is the line a `move` that is taken: before `go`, and fewer than 2,048 so far?
 unfoldable pub takesMove : Lead → Record → Bool
-takesMove l r = pickFlag (isFull l) false (moveAt (l .stage) r)
+takesMove l r = not (isFull l) && moveAt (l .stage) r
 
 -- The list of the moves' numbers behind a line: those of a `move` that is taken stand behind the others, where the list has room. Every other line leaves
 -- the list as it was.
-unfoldable pub withMove : Lead → Record → List ℕ → List ℕ
-withMove l r ns = pickList (takesMove l r && leb (l .count + 2) (length ns)) (overwritten ns (l .count) (r .first ∷ r .second ∷ [])) ns
+unfoldable pub filedMove : Lead → Record → List ℕ → List ℕ
+filedMove l r ns = cond (takesMove l r && leb (l .count + 2) (length ns)) (overwritten ns (l .count) (r .first ∷ r .second ∷ [])) ns
 
 -- ---- what the session is asked
 
@@ -145,16 +137,8 @@ isRefused (Refused refusal) = true
 isRefused (Clear spent kept) = false
 isRefused (Round spent kept stem cycle) = false
 
-abbrev pub pickLines : Bool → List Line → List Line → List Line
-pickLines true a b = a
-pickLines false a b = b
-
-abbrev pub pickStage : Bool → Stage → Stage → Stage
-pickStage true a b = a
-pickStage false a b = b
-
 abbrev pub linesOfLoad : Lead → Answer → List ℕ → List Line
-linesOfLoad l answer walk = pickLines (isRefused answer) (shown answer walk ∷ [])
+linesOfLoad l answer walk = cond (isRefused answer) (shown answer walk ∷ [])
     (gameLine (l .size) (l .count / 2) (acceptingCount (l .words)) ∷ shown answer walk ∷ [])
 
 -- a line that is refused as it is read is told by its plan alone
@@ -167,11 +151,11 @@ linesFor (Asks (Change op)) l answer walk = shown answer walk ∷ []
 -- the lines told of a line's plan and an answer, with the list of the walk, in a buffer of so many bytes: where the one is longer than the box's or the
 -- other shorter, none
 unfoldable pub linesTold : Plan → Answer → List ℕ → ℕ → List Line
-linesTold p answer walk size = pickLines (leb (length walk) room && leb bufferMost size) (linesFor (p .task) (p .lead) answer walk) []
+linesTold p answer walk size = cond (leb (length walk) room && leb bufferMost size) (linesFor (p .task) (p .lead) answer walk) []
 
 -- "A refusal up to and with `go` .. ends the program"
 abbrev pub leadLoaded : Lead → Answer → Lead
-leadLoaded l answer = staged (pickStage (isRefused answer) Over Playing) l
+leadLoaded l answer = staged (cond (isRefused answer) Over Playing) l
 
 abbrev pub leadFor : Task → Lead → Answer → Lead
 leadFor Nothing l answer = l
@@ -190,8 +174,8 @@ pub record Laid (ls : List Line) (out out′ : List ℕ) (first len : ℕ) : Typ
   pub split : first ≡ length (firstOf ls)
   pub ends : len ≡ length (rendered ls)
 
--- the lines told, and what is held behind the line
-pub record Told (p : Plan) (answer : Answer) (walk out out′ : List ℕ) (r : Written) : Type 0 where
+-- what `write` does: the lines told, and what is held behind the line
+pub record Writes (p : Plan) (answer : Answer) (walk out out′ : List ℕ) (r : Written) : Type 0 where
   pub goes : r .lead ≡ leadFor (p .task) (p .lead) answer
   pub laid : Laid (linesTold p answer walk (length out)) out out′ (r .first) (r .len)
 
@@ -201,10 +185,6 @@ isOver Gathering = false
 isOver Playing = false
 isOver Over = true
 
-abbrev pub pick : Bool → ℕ → ℕ → ℕ
-pick true a b = a
-pick false a b = b
-
 -- how many bytes of at most two lines fit whole
 unfoldable pub fits : ℕ → ℕ → ℕ → ℕ
-fits space first len = pick (leb len space) len (pick (leb first space) first 0)
+fits space first len = cond (leb len space) len (cond (leb first space) first 0)

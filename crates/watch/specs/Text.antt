@@ -56,10 +56,6 @@ noStep n next = record { lines = noLine (numbered n) ∷ []; next = next }
 abbrev pub stop : ℕ → Step
 stop n = noStep n ended
 
-abbrev pub pickStep : Bool → Step → Step → Step
-pickStep true a b = a
-pickStep false a b = b
-
 abbrev pub empty : List Edge → Bool
 empty [] = true
 empty (e ∷ es) = false
@@ -94,19 +90,19 @@ draftOf r = record { size = r .first; start = r .second; marks = replicate 8 0; 
 abbrev pub withPay : Record → Draft → Draft
 withPay r d = record { size = d .size; start = d .start; marks = withMark (d .marks) (r .first); moves = d .moves }
 
-abbrev pub plusMove : Record → Draft → Draft
-plusMove r d = record { size = d .size; start = d .start; marks = d .marks; moves = d .moves ++ ((r .first, r .second) ∷ []) }
+abbrev pub withMove : Record → Draft → Draft
+withMove r d = record { size = d .size; start = d .start; marks = d .marks; moves = d .moves ++ ((r .first, r .second) ∷ []) }
 
 -- "Order: one `game`": any other word is misplaced
 unfoldable pub atFirst : Record → Step
-atFirst r = pickStep (isWord (r .word) Game) (quiet (gathering (draftOf r))) (stop 1)
+atFirst r = cond (isWord (r .word) Game) (quiet (gathering (draftOf r))) (stop 1)
 
 -- ".. any `pay`, any `move`, one `go`": a `pay` behind a `move` is misplaced; "a 2,049th `move` line gets 5 as it is read"
 unfoldable pub beforeGo : Draft → Record → Step
 beforeGo d r =
-    pickStep (isWord (r .word) Pay && empty (d .moves)) (quiet (gathering (withPay r d)))
-    (pickStep (isWord (r .word) Move) (pickStep (full (d .moves)) (stop 5) (quiet (gathering (plusMove r d))))
-    (pickStep (isWord (r .word) Go) (loadStep (loadTrial (loadOf d) room) d)
+    cond (isWord (r .word) Pay && empty (d .moves)) (quiet (gathering (withPay r d)))
+    (cond (isWord (r .word) Move) (cond (full (d .moves)) (stop 5) (quiet (gathering (withMove r d))))
+    (cond (isWord (r .word) Go) (loadStep (loadTrial (loadOf d) room) d)
     (stop 1)))
 
 -- ".. and one line for each change"
@@ -119,8 +115,8 @@ changeStep c p = record {
 -- ".. then `add` and `cut`"; "after `go` the next line is read"
 unfoldable pub afterGo : Play → Record → Step
 afterGo p r =
-    pickStep (isWord (r .word) Add) (changeStep (add (r .first, r .second)) p)
-    (pickStep (isWord (r .word) Cut) (changeStep (cut (r .first, r .second)) p)
+    cond (isWord (r .word) Add) (changeStep (add (r .first, r .second)) p)
+    (cond (isWord (r .word) Cut) (changeStep (cut (r .first, r .second)) p)
     (noStep 1 (playing p)))
 
 unfoldable pub step : Held → Record → Step

@@ -17,7 +17,7 @@ ghost use Rattle.answer.specs.Rendering.{render};
 ghost use Rattle.line.specs.Records.{recordOf};
 ghost use Rattle.session.specs.Promises.{shown};
 ghost use Rattle.session.specs.Model.{noGame};
-ghost use Rattle.watch.specs.Model.{firstLead, staged as Model·staged, noTask, refusing as Model·refusing, changing as Model·changing, isFull, askedFirst, askedMove, askedBefore, askedAfter, asked, takesMove, withMove, Serves, isRefused, gameMost, bufferMost, linesFor, linesOfLoad, leadLoaded, leadFor, Laid, Told, isOver, fits};
+ghost use Rattle.watch.specs.Model.{firstLead, staged as Model·staged, noTask, refusing as Model·refusing, changing as Model·changing, isFull, askedFirst, askedMove, askedBefore, askedAfter, asked, takesMove, filedMove, Serves, isRefused, gameMost, bufferMost, linesFor, linesOfLoad, leadLoaded, leadFor, Laid, Writes, isOver, fits};
 ghost use Rattle.watch.specs.Text.{room, counted, outputOf, outputMost, Fitted, Watched};
 
 // "An input of more than 4,294,967,295 bytes counts as ending behind the last newline among these."
@@ -265,7 +265,7 @@ fn takes_move(lead: Lead, r: Record) -> bool
 
 // Files the numbers of a `move` that is taken behind those of the moves before it, where the list has room.
 fn file_move(lead: Lead, r: Record, numbers: &mut [u16])
-    ensures { λ p. ⌜ now (numbers .exit) ≡ withMove lead r (now (numbers .entry)) ⌝ }
+    ensures { λ p. ⌜ now (numbers .exit) ≡ filedMove lead r (now (numbers .entry)) ⌝ }
 {
     if takes_move(lead, r) {
         let at = wide(lead.count);
@@ -279,7 +279,7 @@ fn file_move(lead: Lead, r: Record, numbers: &mut [u16])
 // What a line asks for, and the moves' numbers behind it.
 pub fn read(lead: Lead, numbers: &mut [u16], bytes: &[u8]) -> Plan
     ensures { λ p. ⌜ p ≡ asked lead (recordOf (now (bytes .entry))) ⌝ }
-    ensures { λ p. ⌜ now (numbers .exit) ≡ withMove lead (recordOf (now (bytes .entry))) (now (numbers .entry)) ⌝ }
+    ensures { λ p. ⌜ now (numbers .exit) ≡ filedMove lead (recordOf (now (bytes .entry))) (now (numbers .entry)) ⌝ }
 {
     let r = line::read_record(bytes);
     file_move(lead, r, numbers);
@@ -417,7 +417,7 @@ fn lead_behind(plan: Plan, answer: Answer) -> Lead
 // The lines that tell what came of a line, at the head of a buffer, and what is held behind it. Where the buffer is shorter than LINES bytes, or the walk
 // longer than WALK entries, no line is told.
 pub fn write(plan: Plan, answer: Answer, walk: &[u16], out: &mut [u8]) -> Written
-    ensures { λ r. ⌜ Told plan answer (now (walk .entry)) (now (out .entry)) (now (out .exit)) r ⌝ }
+    ensures { λ r. ⌜ Writes plan answer (now (walk .entry)) (now (out .entry)) (now (out .exit)) r ⌝ }
 {
     let mut n = Lengths { first: 0, len: 0 };
     if walk.len() <= WALK {
@@ -503,10 +503,11 @@ fn counted_end(text: &[u8]) -> usize
     }
     let mut i: usize = LIMIT;
     while 0 < i {
-        if text[i - 1] == line::NEWLINE {
+        let last = i - 1;
+        if text[last] == line::NEWLINE {
             return i;
         }
-        i -= 1;
+        i = last;
     }
     0
 }

@@ -5,7 +5,7 @@ use Prim.Native.Nat.{ℕ}
 use Rattle.line.specs.Records.{recordOf}
 use Rattle.line.specs.declared.Record.{Record}
 use Rattle.watch.specs.declared.Stage.the-variants.{Waiting, Gathering, Playing, Over}
-use Rattle.watch.specs.Model.{withMove}
+use Rattle.watch.specs.Model.{filedMove}
 use Rattle.watch.proofs.Asking.{asked-at}
 use borrow.Author.Needs.{needs}
 use Rattle.watch.proofs.read.Statement.{statement}
@@ -45,10 +45,10 @@ no-task-requires c κs = search needs
 record-is : (c : tie.After-slice-known2) → c .before .before .before .before .read-record .result ≡ recordOf (c .before .before .before .before .before .before .before .args .bytes .now)
 record-is c = c .before .before .before .before .read-record .ensures
 
-filed : (c : tie.After-file-move) → c .file-move .last .1 .1 .0 ≡ withMove (c .before .before .before .before .before .args .lead) (recordOf (c .before .before .before .before .before .args .bytes .now)) (c .before .before .before .before .before .args .numbers .now)
+filed : (c : tie.After-file-move) → c .file-move .last .1 .1 .0 ≡ filedMove (c .before .before .before .before .before .args .lead) (recordOf (c .before .before .before .before .before .args .bytes .now)) (c .before .before .before .before .before .args .numbers .now)
 filed c =
     let s = c .before .before .before .before .before in
-    c .file-move .ensures ∙ ap (λ (r : Record). withMove (s .args .lead) r (s .args .numbers .now)) (c .before .before .read-record .ensures)
+    c .file-move .ensures ∙ ap (λ (r : Record). filedMove (s .args .lead) r (s .args .numbers .now)) (c .before .before .read-record .ensures)
 
 same-length : tie.Need-same-length
 same-length c = search needs
