@@ -225,23 +225,13 @@ fn ask_after(lead: Lead, r: Record) -> Plan
     ensures { λ p. ⌜ p ≡ askedAfter lead r ⌝ }
 {
     let word = r.word;
+    let from = r.first;
+    let to = r.second;
     if is_word(word, Word::Add) {
-        return changing(
-            lead,
-            Op::Add {
-                from: r.first,
-                to: r.second,
-            },
-        );
+        return changing(lead, Op::Add { from, to });
     }
     if is_word(word, Word::Cut) {
-        return changing(
-            lead,
-            Op::Cut {
-                from: r.first,
-                to: r.second,
-            },
-        );
+        return changing(lead, Op::Cut { from, to });
     }
     refusing(Stage::Playing, lead, 1)
 }
