@@ -12,7 +12,7 @@ use lib.Dec.{ltb}
 use lib.ListN.{length, getD, take, drop, set, length-append, length-drop, take-append-drop}
 use lib.Seq.{length-take-le, take-append-seam, drop-append-add, drop-drop, take-length, set-split, paste}
 use Rattle.plain.proofs.Tests.{and-true}
-use Rattle.plain.specs.Machine.{gameLine, roundLine, noneLine, noLine}
+use Rattle.plain.specs.Machine.{numbered, gameLine, roundLine, noneLine, noLine}
 use Rattle.line.specs.Fields.{bytes, newline}
 use Rattle.line.specs.Numbers.{all, isDigit, valueFrom, value, leadingZero, isNumber}
 use Rattle.answer.specs.Bytes.{overwritten, Put}
@@ -262,6 +262,6 @@ pub length-none : (s k : ℕ) → s < 65536 → k < 65536 → length (render (no
 unfolding render bytes
 length-none s k p q = length-line (bytes "none") (s ∷ k ∷ []) (short-cons p (short-cons q short-nil) .below)
 
-pub length-no : (n : ℕ) → n < 65536 → length (render (noLine n)) ≤ 9
+pub length-no : (n : ℕ) → n < 65536 → length (render (noLine (numbered n))) ≤ 9
 unfolding render bytes
 length-no n p = length-line (bytes "no") (n ∷ []) (short-cons p short-nil .below)

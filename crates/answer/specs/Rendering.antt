@@ -32,4 +32,9 @@ unfoldable pub render : Line → List ℕ
 render (gameLine size moves paying) = lineOf (bytes "game") (size ∷ moves ∷ paying ∷ [])
 render (roundLine spent kept stem cycle walk) = lineOf (bytes "round") (spent ∷ kept ∷ stem ∷ cycle ∷ walk)
 render (noneLine spent kept) = lineOf (bytes "none") (spent ∷ kept ∷ [])
-render (noLine number) = lineOf (bytes "no") (number ∷ [])
+render (noLine r) = lineOf (bytes "no") (r .number ∷ [])
+
+-- the bytes of some lines, one behind the other
+unfoldable pub rendered : List Line → List ℕ
+rendered [] = []
+rendered (l ∷ ls) = render l ++ rendered ls

@@ -3,16 +3,16 @@ ghost use mathlib.Core.Path.{_≡_};
 ghost use mathlib.Core.List.{_∷_, [], _++_};
 ghost use Prim.Native.Nat.{_+_, _≤_, _<_};
 ghost use lib.ListN.{length};
-ghost use Rattle.plain.specs.Machine.{gameLine, roundLine, noneLine, noLine};
+ghost use Rattle.plain.specs.Machine.{numbered, gameLine, roundLine, noneLine, noLine};
 ghost use Rattle.answer.specs.Bytes.{Put};
 ghost use Rattle.answer.specs.Rendering.{decimal, fieldOf, fieldsOf, lineOf, render};
 
 // The words of the output lines, beside `game`.
-const ROUND: [u8; 5] = *b"round";
+const ROUND_WORD: [u8; 5] = *b"round";
 
-const NONE: [u8; 4] = *b"none";
+const NONE_WORD: [u8; 4] = *b"none";
 
-const NO: [u8; 2] = *b"no";
+const NO_WORD: [u8; 2] = *b"no";
 
 // A tail of no numbers.
 const EMPTY: [u16; 0] = [];
@@ -108,7 +108,7 @@ pub fn put_round(
     ensures { λ r. ⌜ Put (now (out .entry)) at (render (roundLine spent kept stem cycle (now (walk .entry)))) (now (out .exit)) r ⌝ }
 {
     let head: [u16; 4] = [spent, kept, stem, cycle];
-    put_line(out, at, &ROUND, &head, walk)
+    put_line(out, at, &ROUND_WORD, &head, walk)
 }
 
 // The answer where there is no round.
@@ -117,14 +117,14 @@ pub fn put_none(out: &mut [u8], at: usize, spent: u16, kept: u16) -> usize
     ensures { λ r. ⌜ Put (now (out .entry)) at (render (noneLine spent kept)) (now (out .exit)) r ⌝ }
 {
     let head: [u16; 2] = [spent, kept];
-    put_line(out, at, &NONE, &head, &EMPTY)
+    put_line(out, at, &NONE_WORD, &head, &EMPTY)
 }
 
 // A refusal.
 pub fn put_no(out: &mut [u8], at: usize, number: u16) -> usize
-    requires { ⌜ at + length (render (noLine number)) ≤ length (now out) ⌝ }
-    ensures { λ r. ⌜ Put (now (out .entry)) at (render (noLine number)) (now (out .exit)) r ⌝ }
+    requires { ⌜ at + length (render (noLine (numbered number))) ≤ length (now out) ⌝ }
+    ensures { λ r. ⌜ Put (now (out .entry)) at (render (noLine (numbered number))) (now (out .exit)) r ⌝ }
 {
     let head: [u16; 1] = [number];
-    put_line(out, at, &NO, &head, &EMPTY)
+    put_line(out, at, &NO_WORD, &head, &EMPTY)
 }

@@ -1,7 +1,7 @@
 -- Reading a number digit by digit gives what the definition says of the whole field. Assumes nothing.
 use mathlib.Core.Path.{_≡_}
 use mathlib.Core.List.{List}
-use mathlib.Core.Bool.{false, _&&_}
+use mathlib.Core.Bool.{false, _&&_, cond}
 use Prim.Native.Nat.{ℕ, _+_, _*_, _-_, _≤_, _<_}
 use native.Mathlib.Numerals.{add-one}
 use native.Mathlib.Omega.{arith}
@@ -9,7 +9,7 @@ use borrow.Author.Tests.{eq-eqb, ne-eqb, lt-ltb, le-ltb, le-leb, lt-leb}
 use lib.Dec.{leb}
 use lib.ListN.{length, getD, drop, drop-of-length-le}
 use lib.Seq.{drop-cons}
-use Rattle.line.specs.Numbers.{all, isDigit, valueFrom, value, leadingZero, isNumber, pickNumber, numberOf}
+use Rattle.line.specs.Numbers.{all, isDigit, valueFrom, value, leadingZero, isNumber, numberOf}
 use Rattle.line.specs.declared.Number.{Number}
 use Rattle.line.specs.declared.Number.the-variants.{Is, Bad}
 
@@ -31,7 +31,7 @@ number-zero limit l h k e = rw (lt-ltb 0 (length l) (omega arith), le-leb (lengt
 
 -- the digits of a list read behind the value v
 unfoldable pub readFrom : ℕ → ℕ → List ℕ → Number
-readFrom limit v l = pickNumber (all isDigit l && leb (valueFrom v l) limit) (Is (valueFrom v l)) Bad
+readFrom limit v l = cond (all isDigit l && leb (valueFrom v l) limit) (Is (valueFrom v l)) Bad
 
 read-whole : (limit : ℕ) (l : List ℕ) → 0 < length l → length l ≤ 5 → leadingZero l ≡ false → readFrom limit 0 l ≡ numberOf limit l
 unfolding readFrom numberOf isNumber value

@@ -1,7 +1,7 @@
 -- What stands behind a field tells the fields behind it, and a word with the fields behind it is the record that the code makes. Assumes nothing.
 use mathlib.Core.Path.{_≡_, refl, sym, ap, subst, _∙_}
 use mathlib.Core.List.{List, [], _∷_, map}
-use mathlib.Core.Bool.{Bool, true, false, _&&_}
+use mathlib.Core.Bool.{Bool, true, false, _&&_, cond}
 use Prim.Native.Nat.{ℕ, _+_, _≤_, _<_}
 use native.Mathlib.Decide.{decLt}
 use native.Mathlib.Nat.{zero-add}
@@ -11,7 +11,7 @@ use lib.Dec.{eqb}
 use lib.ListN.{length, getD, take, length-take}
 use lib.Seq.{take-all}
 use Rattle.line.specs.Fields.{tab, fieldsOf, fieldAt}
-use Rattle.line.specs.Numbers.{all, value, isNumber, pickNumber, numberOf}
+use Rattle.line.specs.Numbers.{all, value, isNumber, numberOf}
 use Rattle.line.specs.Words.{countOf, limitOf}
 use Rattle.line.specs.Records.{unreadable, wordOf, worded, fromFields, recordOf}
 use Rattle.line.specs.Items.{asItem, itemAt, filledWith}
@@ -41,7 +41,7 @@ Tells limit l at I.Bad = (f : List ℕ) × (rest : List (List ℕ)) × (fieldsBe
 Tells limit l at I.End = fieldsBehind l at ≡ []
 
 field-tells : (limit : ℕ) (l : List ℕ) (at : ℕ) (t : Bool) → at < length l → isNumber limit (fieldAt l (at + 1)) ≡ t
-    → Tells limit l at (asItem (pickNumber t (N.Is (value (fieldAt l (at + 1)))) N.Bad) (at + 1 + length (fieldAt l (at + 1))))
+    → Tells limit l at (asItem (cond t (N.Is (value (fieldAt l (at + 1)))) N.Bad) (at + 1 + length (fieldAt l (at + 1))))
 field-tells limit l at true h e = (fieldAt l (at + 1), behind-field l at h, e, refl, field-within l (at + 1) (omega arith))
 field-tells limit l at false h e = (fieldAt l (at + 1), _, behind-field l at h, e)
 

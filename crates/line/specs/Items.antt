@@ -1,7 +1,7 @@
 -- The steps of reading a record: what stands behind a field, and the record of a word with so many numbers. Cited by internal contracts alone.
 -- Assumes nothing.
 use Prim.Native.Nat.{ℕ, _+_}
-use mathlib.Core.Bool.{Bool, true, false}
+use mathlib.Core.Bool.{Bool, true, false, cond}
 use mathlib.Core.List.{List}
 use lib.Dec.{eqb}
 use lib.ListN.{length}
@@ -14,20 +14,16 @@ use Rattle.line.specs.declared.Record.{Record}
 use Rattle.line.specs.Fields.{fieldAt}
 use Rattle.line.specs.Numbers.{numberOf}
 use Rattle.line.specs.Words.{countOf}
-use Rattle.line.specs.Records.{unreadable, pickRecord}
+use Rattle.line.specs.Records.{unreadable}
 
 -- the field that starts behind `at`, as a number, and where it ends
 abbrev pub asItem : Number → ℕ → Item
 asItem (N.Is v) end = I.Is v end
 asItem N.Bad end = I.Bad
 
-abbrev pub pickItem : Bool → Item → Item → Item
-pickItem true a b = a
-pickItem false a b = b
-
 unfoldable pub itemAt : ℕ → List ℕ → ℕ → Item
-itemAt limit line at = pickItem (eqb at (length line)) I.End
+itemAt limit line at = cond (eqb at (length line)) I.End
     (asItem (numberOf limit (fieldAt line (at + 1))) (at + 1 + length (fieldAt line (at + 1))))
 
 unfoldable pub filledWith : Word → ℕ → ℕ → ℕ → Record
-filledWith w count first second = pickRecord (eqb count (countOf w)) (record { word = w; first = first; second = second }) unreadable
+filledWith w count first second = cond (eqb count (countOf w)) (record { word = w; first = first; second = second }) unreadable

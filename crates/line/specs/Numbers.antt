@@ -1,6 +1,6 @@
 -- Document 01, "Lines on the lead": what a field spells as a number. Assumes nothing.
 use Prim.Native.Nat.{ℕ, _+_, _*_, _-_}
-use mathlib.Core.Bool.{Bool, true, false, _&&_, not}
+use mathlib.Core.Bool.{Bool, true, false, _&&_, not, cond}
 use mathlib.Core.List.{List, [], _∷_}
 use lib.Dec.{eqb, leb, ltb}
 use lib.ListN.{length, getD}
@@ -32,9 +32,5 @@ leadingZero field = ltb 1 (length field) && eqb (getD field 0 0) 48
 unfoldable pub isNumber : ℕ → List ℕ → Bool
 isNumber limit field = ltb 0 (length field) && leb (length field) 5 && not (leadingZero field) && all isDigit field && leb (value field) limit
 
-abbrev pub pickNumber : Bool → Number → Number → Number
-pickNumber true a b = a
-pickNumber false a b = b
-
 unfoldable pub numberOf : ℕ → List ℕ → Number
-numberOf limit field = pickNumber (isNumber limit field) (Is (value field)) Bad
+numberOf limit field = cond (isNumber limit field) (Is (value field)) Bad

@@ -22,14 +22,10 @@ sameBytes (x ∷ xs) (y ∷ ys) = cond (eqb x y) (sameBytes xs ys) false
 unfoldable pub words : List (List ℕ × Word)
 words = (bytes "game", Game) ∷ (bytes "pay", Pay) ∷ (bytes "move", Move) ∷ (bytes "go", Go) ∷ (bytes "add", Add) ∷ (bytes "cut", Cut) ∷ []
 
-abbrev pub pickWord : Bool → Word → Word → Word
-pickWord true a b = a
-pickWord false a b = b
-
 -- the word that a field spells, by the table; an unknown one makes the line unreadable
 unfoldable pub wordIn : List (List ℕ × Word) → List ℕ → Word
 wordIn [] field = Unreadable
-wordIn (row ∷ rows) field = pickWord (sameBytes field (row .0)) (row .1) (wordIn rows field)
+wordIn (row ∷ rows) field = cond (sameBytes field (row .0)) (row .1) (wordIn rows field)
 
 unfoldable pub wordOf : List ℕ → Word
 wordOf field = wordIn words field
@@ -37,13 +33,9 @@ wordOf field = wordIn words field
 abbrev pub unreadable : Record
 unreadable = record { word = Unreadable; first = 0; second = 0 }
 
-abbrev pub pickRecord : Bool → Record → Record → Record
-pickRecord true a b = a
-pickRecord false a b = b
-
 -- a word with the fields behind it: "a wrong count of fields and a bad number" make it unreadable; a number that the word does not take is 0
 unfoldable pub worded : Word → List (List ℕ) → Record
-worded w fields = pickRecord (eqb (length fields) (countOf w) && all (isNumber (limitOf w)) fields)
+worded w fields = cond (eqb (length fields) (countOf w) && all (isNumber (limitOf w)) fields)
     (record { word = w; first = getD (map value fields) 0 0; second = getD (map value fields) 1 0 })
     unreadable
 
@@ -54,4 +46,4 @@ fromFields (w ∷ fields) = worded (wordOf w) fields
 -- "Refusal 1 covers an empty line, one above 32 bytes without its newline, an unknown or misplaced word, a wrong count of fields and a bad
 -- number": all of these but the misplaced word, which is seen by what came before the line
 unfoldable pub recordOf : List ℕ → Record
-recordOf line = pickRecord (ltb 32 (length line)) unreadable (fromFields (fieldsOf line))
+recordOf line = cond (ltb 32 (length line)) unreadable (fromFields (fieldsOf line))

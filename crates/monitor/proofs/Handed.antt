@@ -53,36 +53,36 @@ handed-cut held (suc left) (b ∷ bs) = cut-cond (eqb b newline) held _ _ _ _ (h
 -- ---- a text of no more bytes than may come
 
 -- what is held stands in front of the first line, and is the last where no line follows
-unfoldable joined : List ℕ → List (List ℕ) → List (List ℕ)
-joined held [] = last held
-joined held (l ∷ ls) = (held ++ l) ∷ ls
+unfoldable prefixed : List ℕ → List (List ℕ) → List (List ℕ)
+prefixed held [] = last held
+prefixed held (l ∷ ls) = (held ++ l) ∷ ls
 
-joined-none : (ls : List (List ℕ)) → joined [] ls ≡ ls
-unfolding joined
-joined-none [] = refl
-joined-none (l ∷ ls) = refl
+prefixed-none : (ls : List (List ℕ)) → prefixed [] ls ≡ ls
+unfolding prefixed
+prefixed-none [] = refl
+prefixed-none (l ∷ ls) = refl
 
 last-snoc : (l : List ℕ) (b : ℕ) → last (l ++ (b ∷ [])) ≡ (l ++ (b ∷ [])) ∷ []
 last-snoc [] b = refl
 last-snoc (x ∷ xs) b = refl
 
-joined-byte : (held : List ℕ) (b : ℕ) (ls : List (List ℕ)) → joined (held ++ (b ∷ [])) ls ≡ joined held (onFirst b ls)
-unfolding joined onFirst
-joined-byte held b [] = last-snoc held b
-joined-byte held b (l ∷ ls) = ap (λ (f : List ℕ). f ∷ ls) (append-snoc held b l)
+prefixed-byte : (held : List ℕ) (b : ℕ) (ls : List (List ℕ)) → prefixed (held ++ (b ∷ [])) ls ≡ prefixed held (onFirst b ls)
+unfolding prefixed onFirst
+prefixed-byte held b [] = last-snoc held b
+prefixed-byte held b (l ∷ ls) = ap (λ (f : List ℕ). f ∷ ls) (append-snoc held b l)
 
-joined-cond : (t : Bool) (held : List ℕ) (b : ℕ) (ls : List (List ℕ))
-    → cond t (held ∷ joined [] ls) (joined (held ++ (b ∷ [])) ls) ≡ joined held (cond t ([] ∷ ls) (onFirst b ls))
-unfolding joined
-joined-cond true held b ls = ap₂ (λ (l : List ℕ) (m : List (List ℕ)). l ∷ m) (sym (append-nil held)) (joined-none ls)
-joined-cond false held b ls = joined-byte held b ls
+prefixed-cond : (t : Bool) (held : List ℕ) (b : ℕ) (ls : List (List ℕ))
+    → cond t (held ∷ prefixed [] ls) (prefixed (held ++ (b ∷ [])) ls) ≡ prefixed held (cond t ([] ∷ ls) (onFirst b ls))
+unfolding prefixed
+prefixed-cond true held b ls = ap₂ (λ (l : List ℕ) (m : List (List ℕ)). l ∷ m) (sym (append-nil held)) (prefixed-none ls)
+prefixed-cond false held b ls = prefixed-byte held b ls
 
-wholes-lines : (held : List ℕ) (left : ℕ) (text : List ℕ) → length text ≤ left → wholes held left text ≡ joined held (linesOf text)
-unfolding wholes joined linesOf parted
+wholes-lines : (held : List ℕ) (left : ℕ) (text : List ℕ) → length text ≤ left → wholes held left text ≡ prefixed held (linesOf text)
+unfolding wholes prefixed linesOf parted
 wholes-lines held left [] h = refl
 wholes-lines held zero (b ∷ bs) h = absurd (omega arith)
 wholes-lines held (suc left) (b ∷ bs) h =
-    rw (wholes-lines [] left bs (omega arith), wholes-lines (held ++ (b ∷ [])) left bs (omega arith)) (joined-cond (eqb b newline) held b (linesOf bs))
+    rw (wholes-lines [] left bs (omega arith), wholes-lines (held ++ (b ∷ [])) left bs (omega arith)) (prefixed-cond (eqb b newline) held b (linesOf bs))
 
 -- ---- a text of more bytes: it ends behind the last newline among those that may come
 
@@ -155,7 +155,7 @@ wholes-counted held (suc left) (b ∷ bs) h =
 -- ---- the records
 
 wholes-all : (left : ℕ) (text : List ℕ) (t : Bool) → leb (length text) left ≡ t → wholes [] left text ≡ linesOf (cond t text (wholeLines (take left text)))
-wholes-all left text true e = wholes-lines [] left text (leb-true (length text) left e) ∙ joined-none (linesOf text)
+wholes-all left text true e = wholes-lines [] left text (leb-true (length text) left e) ∙ prefixed-none (linesOf text)
 wholes-all left text false e = wholes-counted [] left text (leb-false (length text) left e) ∙ fronted-none (linesOf (wholeLines (take left text)))
 
 records-cut : (ls : List (List ℕ)) → map recordOf (map cut ls) ≡ map recordOf ls

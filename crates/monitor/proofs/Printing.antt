@@ -3,25 +3,20 @@ use Prim.Native.Nat.{ℕ}
 use mathlib.Core.Path.{_≡_, refl, sym, ap, subst, _∙_}
 use mathlib.Core.Bool.{true, true≢false}
 use mathlib.Core.List.{List, [], _∷_, _++_, map, map-append, append-nil, append-assoc}
-use lib.ListN.{take}
-use Rattle.plain.specs.Machine.{Line as PrintedLine}
+use lib.ListN.{length, take}
 use Rattle.line.specs.Records.{recordOf}
 use Rattle.line.specs.declared.Record.{Record}
-use Rattle.answer.specs.Rendering.{render}
-use Rattle.watch.specs.Text.{Lead, waiting, step, limit}
-use Rattle.watch.specs.Model.{firstOf, secondOf, Laid}
-use Rattle.watch.proofs.Output.{Short}
+use Rattle.session.specs.declared.Answer.{Answer}
+use Rattle.watch.specs.declared.Lead.{Lead}
+use Rattle.watch.specs.declared.Plan.{Plan}
+use Rattle.watch.specs.declared.Written.{Written}
+use Rattle.watch.specs.Text.{Held, waiting, step, limit}
+use Rattle.watch.specs.Model.{asked, bufferMost, linesTold, Laid, Writes}
+use Rattle.watch.proofs.Output.{laid-bytes}
 use Rattle.monitor.specs.declared.Status.{Status}
 use Rattle.monitor.specs.declared.Status.the-variants.{More, Line, Last, Over}
 use Rattle.monitor.specs.declared.Reader.{Reader}
-use Rattle.monitor.specs.Lines.{handed, heldIn, bytesIn, hasLine, heldBehind, joined, Printed, Found, Next}
-
-joined-short : (ls : List PrintedLine) → Short ls → firstOf ls ++ secondOf ls ≡ joined (map render ls)
-unfolding joined
-joined-short [] s = refl
-joined-short (a ∷ []) s = refl
-joined-short (a ∷ b ∷ []) s = ap (λ (bs : List ℕ). render a ++ bs) (sym (append-nil (render b)))
-joined-short (a ∷ b ∷ c ∷ ls) s = absurd s
+use Rattle.monitor.specs.Lines.{handed, heldIn, bytesIn, hasLine, heldBehind, bytesTold, Printed, Found, Next}
 
 -- What was read so far: its lines up to here, and those that the bytes left of the last read begin, whatever bytes follow.
 pub record Read (r : Reader) (held buf seen : List ℕ) (ls : List (List ℕ)) : Type 0 where
@@ -74,19 +69,24 @@ module _ (r : Reader) (held buf : List ℕ) (r′ : Reader) (held′ buf′ seen
       → Read r held buf seen ls → Read q held′ buf′ (seen ++ n .brought) (ls ++ (heldIn r′ held′ ∷ []))
   onwards n q e z l a m h = on-by (r′ .status) (n .brought) q e z l a m (n .goes) h
 
-pub printed : (r′ : Reader) (held′ buf′ seen : List ℕ) (ls : List (List ℕ)) (d : List ℕ) (first len : ℕ) → Come r′ held′ buf′ seen ls
-    → Laid (step (heldBehind waiting (map recordOf ls)) (recordOf (heldIn r′ held′)) .lines) d first len
-    → Short (step (heldBehind waiting (map recordOf ls)) (recordOf (heldIn r′ held′)) .lines) → Printed (take len d)
-printed r′ held′ buf′ seen ls d first len c l s = record {
+-- the bytes at the head of the buffer, as the plain definition prints them and as the plan tells them
+pub printed : (r′ : Reader) (held′ buf′ seen : List ℕ) (ls : List (List ℕ)) (d d′ : List ℕ) (first len : ℕ) → Come r′ held′ buf′ seen ls
+    → Laid (step (heldBehind waiting (map recordOf ls)) (recordOf (heldIn r′ held′)) .lines) d d′ first len → Printed (heldIn r′ held′) (take len d′)
+printed r′ held′ buf′ seen ls d d′ first len c l = record {
   seen = seen;
   earlier = ls;
-  line = heldIn r′ held′;
   later = c .later;
   read = c .read;
-  lines = l .bytes ∙ joined-short (step (heldBehind waiting (map recordOf ls)) (recordOf (heldIn r′ held′)) .lines) s;
+  lines = laid-bytes _ d d′ first len l;
 }
 
-one-more : (p : Lead) (rs : List Record) (r : Record) → step (heldBehind p rs) r .next ≡ heldBehind p (rs ++ (r ∷ []))
+pub told-bytes : (line : List ℕ) (lead : Lead) (plan : Plan) (answer : Answer) (walk d d′ : List ℕ) (w : Written) → length d ≡ bufferMost → plan ≡ asked lead (recordOf line)
+    → Writes plan answer walk d d′ w → take (w .len) d′ ≡ bytesTold line lead answer walk
+unfolding bytesTold
+told-bytes line lead plan answer walk d d′ w e f t =
+    laid-bytes _ d d′ (w .first) (w .len) (t .laid) ∙ rw (e, f)
+
+one-more : (p : Held) (rs : List Record) (r : Record) → step (heldBehind p rs) r .next ≡ heldBehind p (rs ++ (r ∷ []))
 unfolding heldBehind
 one-more p [] r = refl
 one-more p (x ∷ rs) r = one-more (step p x .next) rs r

@@ -1,7 +1,7 @@
 -- One byte of a read leaves the lines handed on as they are, a line or the limit ends the taking of bytes, and a further read goes on with them. Assumes nothing.
 use Prim.Native.Nat.{ℕ, zero, suc, _+_, _-_, _≤_, _<_}
 use mathlib.Core.Path.{_≡_, refl, sym, ap, _∙_}
-use mathlib.Core.Bool.{Bool, true, false, true≢false}
+use mathlib.Core.Bool.{Bool, true, false, true≢false, cond}
 use mathlib.Core.List.{List, [], _∷_, _++_, append-nil, append-assoc}
 use native.Mathlib.Numerals.{add-one}
 use native.Mathlib.Omega.{arith}
@@ -13,7 +13,7 @@ use Rattle.line.specs.Fields.{newline}
 use Rattle.monitor.specs.declared.Status.{Status}
 use Rattle.monitor.specs.declared.Status.the-variants.{More, Line, Last, Over}
 use Rattle.monitor.specs.declared.Reader.{Reader}
-use Rattle.monitor.specs.Lines.{pushed, last, handed, heldIn, bytesIn, Goes, Within, Took, isMore, isLine, pickReader, endOf, Found, Next}
+use Rattle.monitor.specs.Lines.{pushed, last, handed, heldIn, bytesIn, Goes, Within, Took, isMore, isLine, endOf, Found, Next}
 
 -- ---- the lines handed on, by the first byte
 
@@ -282,7 +282,7 @@ module _ (r : Reader) (held buf : List ℕ) (s : Reader) (held′ buf′ buf″ 
     unfolding handed
     at-last = rw (append-nil (x .brought)) at (way-more (heldIn r held) (r .left) (bytesIn r buf) (heldIn s held′) (s .left) (bytesIn s buf′) (s .status) (x .brought) e (x .goes) [])
 
-    next-ended : (t : Bool) → eqb (s .len) 0 ≡ t → Next r held buf (pickReader t
+    next-ended : (t : Bool) → eqb (s .len) 0 ≡ t → Next r held buf (cond t
         (record { at = 0; end = 0; len = s .len; left = s .left; status = Over })
         (record { at = 0; end = 0; len = s .len; left = s .left; status = Last })) held′ buf″
     next-ended true t = record {

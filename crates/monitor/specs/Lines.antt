@@ -8,15 +8,26 @@ use lib.ListN.{length, take, drop}
 use Rattle.line.specs.Fields.{newline}
 use Rattle.line.specs.Records.{recordOf}
 use Rattle.line.specs.declared.Record.{Record}
-use Rattle.answer.specs.Rendering.{render}
-use Rattle.watch.specs.Text.{Lead, waiting, step, limit}
+use Rattle.answer.specs.Rendering.{rendered}
+use Rattle.session.specs.declared.Answer.{Answer}
+use Rattle.watch.specs.declared.Lead.{Lead}
+use Rattle.watch.specs.Model.{asked, bufferMost, linesTold}
+use Rattle.watch.specs.Text.{Held, waiting, step, limit}
 use Rattle.monitor.specs.declared.Status.{Status}
 use Rattle.monitor.specs.declared.Status.the-variants.{More, Line, Last, Over}
 use Rattle.monitor.specs.declared.Reader.{Reader}
 
--- a byte behind what is held of a line: of a line above 32 bytes the 33rd is enough to see that
+-- a read brings at most so many bytes
+abbrev pub chunk : ℕ
+chunk = 512
+
+-- of a line above 32 bytes the 33rd is enough to see that
+abbrev pub lineMost : ℕ
+lineMost = 33
+
+-- a byte behind what is held of a line
 unfoldable pub pushed : List ℕ → ℕ → List ℕ
-pushed held b = cond (ltb (length held) 33) (held ++ (b ∷ [])) held
+pushed held b = cond (ltb (length held) lineMost) (held ++ (b ∷ [])) held
 
 abbrev pub last : List ℕ → List (List ℕ)
 last [] = []
@@ -46,12 +57,12 @@ Goes Over held left bytes held′ left′ bytes′ = (more : List ℕ) → hande
 pub record Within (r : Reader) (size : ℕ) : Type 0 where
   pub at : r .at ≤ r .end
   pub end : r .end ≤ size
-  pub len : r .len ≤ 33
+  pub len : r .len ≤ lineMost
 
 -- the bytes that a reader has taken between two of its states count off what may still come
 pub record Took (r : Reader) (held buf : List ℕ) (r′ : Reader) (held′ : List ℕ) : Type 0 where
   pub within : Within r′ (length buf)
-  pub size : length held′ ≡ 33
+  pub size : length held′ ≡ lineMost
   pub end : r′ .end ≡ r .end
   pub falls : r′ .left + (r′ .at - r .at) ≡ r .left
   pub moved : r′ .status ≡ Line → r .at < r′ .at
@@ -75,35 +86,30 @@ isLine Line = true
 isLine Last = false
 isLine Over = false
 
-abbrev pub pickReader : Bool → Reader → Reader → Reader
-pickReader true a b = a
-pickReader false a b = b
-
 -- where the input ends
 unfoldable pub endOf : Reader → Reader
-endOf r = pickReader (eqb (r .len) 0)
+endOf r = cond (eqb (r .len) 0)
     (record { at = 0; end = 0; len = r .len; left = r .left; status = Over })
     (record { at = 0; end = 0; len = r .len; left = r .left; status = Last })
 
 -- ---- what is written
 
+-- the bytes of the lines told for what a line asks of a lead, with an answer and the list of the walk, in the box's buffer
+unfoldable pub bytesTold : List ℕ → Lead → Answer → List ℕ → List ℕ
+bytesTold line lead answer walk = rendered (linesTold (asked lead (recordOf line)) answer walk bufferMost)
+
 -- what is held behind some records, one after the other
-unfoldable pub heldBehind : Lead → List Record → Lead
+unfoldable pub heldBehind : Held → List Record → Held
 heldBehind held [] = held
 heldBehind held (r ∷ rs) = heldBehind (step held r .next) rs
 
-unfoldable pub joined : List (List ℕ) → List ℕ
-joined [] = []
-joined (l ∷ ls) = l ++ joined ls
-
--- the bytes are what is printed for a line of what was read, behind the lines before it
-pub record Printed (bytes : List ℕ) : Type 0 where
+-- The bytes are what the plain definition prints for this line of what was read, behind some earlier lines: only the history of the reads holds these.
+pub record Printed (line bytes : List ℕ) : Type 0 where
   pub seen : List ℕ
   pub earlier : List (List ℕ)
-  pub line : List ℕ
   pub later : List (List ℕ)
   pub read : handed [] limit seen ≡ earlier ++ (line ∷ later)
-  pub lines : bytes ≡ joined (map render (step (heldBehind waiting (map recordOf earlier)) (recordOf line) .lines))
+  pub lines : bytes ≡ rendered (step (heldBehind waiting (map recordOf earlier)) (recordOf line) .lines)
 
 -- ---- the next line
 
@@ -116,9 +122,9 @@ Found Last held left bytes brought held′ left′ bytes′ = handed held left (
 Found Over held left bytes brought held′ left′ bytes′ = handed held left (bytes ++ brought) ≡ []
 
 pub record Next (r : Reader) (held buf : List ℕ) (r′ : Reader) (held′ buf′ : List ℕ) : Type 0 where
-  pub within : Within r′ 512
-  pub size : length held′ ≡ 33
-  pub space : length buf′ ≡ 512
+  pub within : Within r′ chunk
+  pub size : length held′ ≡ lineMost
+  pub space : length buf′ ≡ chunk
   pub falls : r′ .status ≡ Line → r′ .left < r .left
   pub brought : List ℕ
   pub goes : Found (r′ .status) (heldIn r held) (r .left) (bytesIn r buf) brought (heldIn r′ held′) (r′ .left) (bytesIn r′ buf′)

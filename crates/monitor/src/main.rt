@@ -1,12 +1,18 @@
 // The box program: lines from standard input, answers on standard output, each as soon as its line is read.
 use libc::STDIN_FILENO;
 use libc::STDOUT_FILENO;
+use session::Answer;
+use watch::Lead;
+use watch::Task;
 ghost use mathlib.Core.Path.{_≡_};
 ghost use lib.ListN.{length};
-ghost use Rattle.monitor.specs.Lines.{Within, Took, Next, isMore, hasLine, isLine, endOf, Printed};
+ghost use Rattle.monitor.specs.Lines.{chunk, lineMost, Within, Took, Next, isMore, hasLine, isLine, endOf, bytesTold, Printed};
 
-// "An input of more than 4,294,967,295 bytes counts as ending behind the last newline among these."
-const LIMIT: u64 = 4294967295;
+// A read brings at most so many bytes.
+const CHUNK: usize = 512;
+
+// Of a line so many bytes are held: the 33rd shows that it is too long.
+const HELD: usize = 33;
 
 // What the bytes so far come to: the line goes on, a line is held whole, it is the last one, or there is none to come.
 enum Status {
@@ -22,11 +28,11 @@ struct Reader {
     at: usize,
     end: usize,
     len: usize,
-    left: u64,
+    left: usize,
     status: Status,
 }
 
-fn standing(at: usize, end: usize, len: usize, left: u64, status: Status) -> Reader
+fn standing(at: usize, end: usize, len: usize, left: usize, status: Status) -> Reader
     ensures { λ r. ⌜ r ≡ record { at = at; end = end; len = len; left = left; status = status } ⌝ }
 {
     Reader {
@@ -38,9 +44,9 @@ fn standing(at: usize, end: usize, len: usize, left: u64, status: Status) -> Rea
     }
 }
 
-// Takes bytes up to a newline or the end of the read. Of a line 33 bytes are held: the 33rd shows that it is too long.
-fn take_bytes(buf: &[u8], held: &mut [u8; 33], r: Reader) -> Reader
-    requires { ⌜ Within r (length (now buf)) × (length (now held) ≡ 33) ⌝ }
+// Takes bytes up to a newline or the end of the read.
+fn take_bytes(buf: &[u8], held: &mut [u8; HELD], r: Reader) -> Reader
+    requires { ⌜ Within r (length (now buf)) × (length (now held) ≡ lineMost) ⌝ }
     ensures { λ s. ⌜ Took r (now (held .entry)) (now (buf .entry)) s (now (held .exit)) ⌝ }
 {
     let end = r.end;
@@ -57,7 +63,7 @@ fn take_bytes(buf: &[u8], held: &mut [u8; 33], r: Reader) -> Reader
         if b == line::NEWLINE {
             return standing(at, end, len, left, Status::Line);
         }
-        if len < 33 {
+        if len < HELD {
             held[len] = b;
             len += 1;
         }
@@ -89,8 +95,8 @@ fn at_end(r: Reader) -> Reader
 }
 
 // The next line, read on as far as it takes. A read that fails counts as the end of the input.
-fn next_line(buf: &mut [u8; 512], held: &mut [u8; 33], r: Reader) -> Reader
-    requires { ⌜ Within r 512 × (length (now buf) ≡ 512) × (length (now held) ≡ 33) ⌝ }
+fn next_line(buf: &mut [u8; CHUNK], held: &mut [u8; HELD], r: Reader) -> Reader
+    requires { ⌜ Within r chunk × (length (now buf) ≡ chunk) × (length (now held) ≡ lineMost) ⌝ }
     ensures { λ s. ⌜ Next r (now (held .entry)) (now (buf .entry)) s (now (held .exit)) (now (buf .exit)) ⌝ }
 {
     let mut s = take_bytes(buf, held, r);
@@ -105,9 +111,11 @@ fn next_line(buf: &mut [u8; 512], held: &mut [u8; 33], r: Reader) -> Reader
     s
 }
 
-// Writes the lines of an answer, as often as it takes: false where a write takes nothing or fails. Only this function writes.
-fn write_whole(bytes: &[u8]) -> bool
-    requires { ⌜ Printed (now bytes) ⌝ }
+// Writes the lines that answer a line, as often as it takes: false where a write takes nothing or fails. Only this function writes. Its parameters fix what it
+// writes: the line that was read, what was held before it, the answer and the walk. That the plain definition prints these bytes for this line is true behind
+// some earlier lines, which only the history of the reads holds. No contract says that a write happened: only the tests see that.
+fn print(line: &[u8], lead: Lead, answer: Answer, walk: &[u16], bytes: &[u8]) -> bool
+    requires { ⌜ (now bytes ≡ bytesTold (now line) lead answer (now walk)) × Printed (now line) (now bytes) ⌝ }
 {
     let mut at: usize = 0;
     while at < bytes.len() {
@@ -147,14 +155,14 @@ fn is_line(r: Reader) -> bool
 }
 
 fn main() {
-    let mut numbers: [u16; 4096] = [0; 4096];
-    let mut walk: [u16; 512] = [0; 512];
-    let mut lines: [u8; 3200] = [0; 3200];
-    let mut buf: [u8; 512] = [0; 512];
-    let mut held: [u8; 33] = [0; 33];
+    let mut numbers: [u16; watch::NUMBERS] = [0; watch::NUMBERS];
+    let mut walk: [u16; watch::WALK] = [0; watch::WALK];
+    let mut lines: [u8; watch::LINES] = [0; watch::LINES];
+    let mut buf: [u8; CHUNK] = [0; CHUNK];
+    let mut held: [u8; HELD] = [0; HELD];
     let mut lead = watch::first_lead();
     let mut c = watch::no_session();
-    let mut r = standing(0, 0, 0, LIMIT, Status::More);
+    let mut r = standing(0, 0, 0, watch::LIMIT, Status::More);
     loop {
         r = next_line(&mut buf, &mut held, r);
         if !has_line(r) {
@@ -162,11 +170,14 @@ fn main() {
         }
         let len = r.len;
         let plan = watch::read(lead, &mut numbers, &held[..len]);
-        c = watch::serve(c.session, plan, &numbers, &mut walk);
+        let task = plan.task;
+        if let Task::Ask(ask) = task {
+            c = watch::serve(c.session, lead, ask, &numbers, &mut walk);
+        }
         let answer = c.answer;
         let w = watch::write(plan, answer, &walk, &mut lines);
         let n = w.len;
-        if !write_whole(&lines[..n]) {
+        if !print(&held[..len], lead, answer, &walk, &lines[..n]) {
             return;
         }
         lead = w.lead;

@@ -1,9 +1,9 @@
 -- What a line asks for, one law for each way through the code. Assumes nothing.
-use Prim.Native.Nat.{ℕ, _+_, _≤_, _<_}
-use mathlib.Core.Path.{_≡_, sym, ap₂}
+use Prim.Native.Nat.{ℕ, _+_}
+use mathlib.Core.Path.{_≡_, refl, sym, ap₂}
 use mathlib.Core.List.{List}
 use mathlib.Core.Bool.{true, false, _&&_}
-use borrow.Author.Tests.{eq-eqb, ne-eqb, le-leb, lt-leb}
+use borrow.Author.Tests.{eq-eqb, ne-eqb}
 use lib.Dec.{eqb}
 use lib.ListN.{replicate}
 use Rattle.plain.specs.Table.{withMark}
@@ -15,24 +15,33 @@ use Rattle.session.specs.declared.Op.the-variants.{Add, Cut}
 use Rattle.watch.specs.declared.Stage.{Stage}
 use Rattle.watch.specs.declared.Stage.the-variants.{Gathering, Playing, Over}
 use Rattle.watch.specs.declared.Lead.{Lead}
-use Rattle.watch.specs.declared.Task.the-variants.{Load as LoadTask}
-use Rattle.watch.specs.Model.{held, refusing, askedFirst, askedMove, askedBefore, changing, askedAfter, askedAt, asked, Filed}
+use Rattle.watch.specs.Model.{noTask, refusing, loading, changing, isFull, askedFirst, askedMove, askedBefore, askedAfter, askedAt, asked, moveAt, takesMove}
 
 -- ---- a `move`
 
 module _ (l : Lead) where
-  pub move-full : 4096 ≤ l .count → refusing Over l 5 ≡ askedMove l
+  pub move-full : isFull l ≡ true → refusing Over l 5 ≡ askedMove l
   unfolding askedMove
-  move-full h = rw (le-leb 4096 (l .count) h)
+  move-full h = rw h
 
-  pub move-more : l .count < 4096 → held (record { stage = Gathering; size = l .size; start = l .start; words = l .words; count = l .count + 2 }) ≡ askedMove l
+  pub move-more : isFull l ≡ false → noTask (record { stage = Gathering; size = l .size; start = l .start; words = l .words; count = l .count + 2 }) ≡ askedMove l
   unfolding askedMove
-  move-more h = rw (lt-leb 4096 (l .count) h)
+  move-more h = rw h
+
+-- is it taken?
+module _ (l : Lead) (r : Record) where
+  pub none-taken : isFull l ≡ true → false ≡ takesMove l r
+  unfolding takesMove
+  none-taken h = rw h
+
+  pub taken-at : (g : Stage) → isFull l ≡ false → l .stage ≡ g → moveAt g r ≡ takesMove l r
+  unfolding takesMove
+  taken-at g h e = rw (h, e)
 
 -- ---- by the word
 
 module _ (l : Lead) (r : Record) where
-  pub first-game : isWord (r .word) Game ≡ true → held (record { stage = Gathering; size = r .first; start = r .second; words = replicate 8 0; count = 0 }) ≡ askedFirst l r
+  pub first-game : isWord (r .word) Game ≡ true → noTask (record { stage = Gathering; size = r .first; start = r .second; words = replicate 8 0; count = 0 }) ≡ askedFirst l r
   unfolding askedFirst
   first-game e = rw e
 
@@ -41,7 +50,7 @@ module _ (l : Lead) (r : Record) where
   first-other e = rw e
 
   pub before-pay : isWord (r .word) Pay ≡ true → l .count ≡ 0
-      → held (record { stage = Gathering; size = l .size; start = l .start; words = withMark (l .words) (r .first); count = 0 }) ≡ askedBefore l r
+      → noTask (record { stage = Gathering; size = l .size; start = l .start; words = withMark (l .words) (r .first); count = 0 }) ≡ askedBefore l r
   unfolding askedBefore
   before-pay e h = rw (e, eq-eqb (l .count) 0 h)
 
@@ -60,7 +69,7 @@ module _ (l : Lead) (r : Record) where
   unfolding Unpaid askedBefore
   before-move d e = rw (d, e)
 
-  pub before-go : Unpaid → isWord (r .word) Move ≡ false → isWord (r .word) Go ≡ true → record { lead = l; task = LoadTask; from = 0; to = 0 } ≡ askedBefore l r
+  pub before-go : Unpaid → isWord (r .word) Move ≡ false → isWord (r .word) Go ≡ true → loading l ≡ askedBefore l r
   unfolding Unpaid askedBefore
   before-go d e f = rw (d, e, f)
 
@@ -68,11 +77,11 @@ module _ (l : Lead) (r : Record) where
   unfolding Unpaid askedBefore
   before-other d e f = rw (d, e, f)
 
-  pub after-add : isWord (r .word) Word.Add ≡ true → changing Add l r ≡ askedAfter l r
+  pub after-add : isWord (r .word) Word.Add ≡ true → changing (Add (r .first) (r .second)) l ≡ askedAfter l r
   unfolding askedAfter
   after-add e = rw e
 
-  pub after-cut : isWord (r .word) Word.Add ≡ false → isWord (r .word) Word.Cut ≡ true → changing Cut l r ≡ askedAfter l r
+  pub after-cut : isWord (r .word) Word.Add ≡ false → isWord (r .word) Word.Cut ≡ true → changing (Cut (r .first) (r .second)) l ≡ askedAfter l r
   unfolding askedAfter
   after-cut d e = rw (d, e)
 
@@ -85,7 +94,3 @@ module _ (l : Lead) (r : Record) where
 pub asked-at : (g : Stage) (l : Lead) (r r′ : Record) → l .stage ≡ g → r ≡ r′ → askedAt g l r ≡ asked l r′
 unfolding asked
 asked-at g l r r′ h e = ap₂ (λ (x : Stage) (y : Record). askedAt x l y) (sym h) e
-
--- the numbers of the line, at a place and with values that are told otherwise
-pub filed-as : (ns : List ℕ) (at at′ : ℕ) (r r′ : Record) (ns′ : List ℕ) → at ≡ at′ → r ≡ r′ → Filed ns at (r .first) (r .second) ns′ → Filed ns at′ (r′ .first) (r′ .second) ns′
-filed-as ns at at′ r r′ ns′ e k f = rw (← e, ← k) f

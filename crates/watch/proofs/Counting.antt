@@ -1,5 +1,5 @@
 -- How much of a text counts. Assumes nothing.
-use Prim.Native.Nat.{ℕ, suc, _-_, _≤_, _<_, min}
+use Prim.Native.Nat.{ℕ, suc, _-_, _≤_, _<_}
 use mathlib.Core.Path.{_≡_, refl, sym, ap, _∙_}
 use mathlib.Core.Bool.{Bool, true, false, _||_}
 use mathlib.Core.List.{List, [], _∷_, _++_}
@@ -10,7 +10,7 @@ use lib.ListN.{length, take, getD}
 use lib.Seq.{take-length, take-suc}
 use Rattle.plain.specs.Lists.{any}
 use Rattle.line.specs.Fields.{newline}
-use Rattle.watch.specs.Text.{limit, wholeLines, counted, outputOf, output, Fitted, Watched}
+use Rattle.watch.specs.Text.{limit, wholeLines, counted, outputOf, output, spaceOf, Fitted, Watched}
 
 pub counted-all : (text : List ℕ) → length text ≤ limit → take (length text) text ≡ counted text
 unfolding counted
@@ -77,7 +77,7 @@ unfolding wholeLines
 none-whole text w = w
 
 -- the watch on what counts of a text is the watch on the text
-pub watched-as : (text part : List ℕ) (space : ℕ) (out out′ : List ℕ) (r : ℕ) → part ≡ counted text → space ≡ min (length out) 65536
+pub watched-as : (text part : List ℕ) (space : ℕ) (out out′ : List ℕ) (r : ℕ) → part ≡ counted text → space ≡ spaceOf out
     → Fitted (outputOf part) space out out′ r → Watched text out out′ r
 unfolding output
 watched-as text part space out out′ r e f w = rw (← e, ← f) w

@@ -1,18 +1,18 @@
 -- Lines put into an output as far as they fit whole. Assumes nothing.
 use Prim.Native.Nat.{ℕ, _+_, _*_, _-_, _≤_, _<_}
 use mathlib.Core.Path.{_≡_, refl, sym, ap, subst, _∙_}
-use mathlib.Core.List.{List, [], _∷_, _++_, map}
+use mathlib.Core.List.{List, [], _∷_, _++_, map, append-nil}
 use native.Mathlib.Decide.{decLe}
 use native.Mathlib.Omega.{arith}
 use borrow.Author.Tests.{le-leb, lt-leb}
-use lib.ListN.{length, take, length-append, length-take}
+use lib.ListN.{length, take, drop, length-append, length-take, length-drop}
 use lib.Seq.{take-take, take-append-seam}
 use Rattle.plain.specs.Machine.{Line}
 use Rattle.answer.specs.Bytes.{overwritten, Put}
-use Rattle.answer.specs.Rendering.{render}
-use Rattle.answer.proofs.Laws.{overwritten-append, length-overwritten, put-none}
+use Rattle.answer.specs.Rendering.{render, rendered}
+use Rattle.answer.proofs.Laws.{overwritten-append, length-overwritten, put-none, take-put}
 use Rattle.watch.specs.Text.{fitted, stopped, Fitted}
-use Rattle.watch.specs.Model.{fits, firstOf, secondOf, Laid}
+use Rattle.watch.specs.Model.{fits, firstOf, bufferMost, Laid}
 
 -- ---- how much of two lines fits
 
@@ -103,14 +103,37 @@ module _ (d₀ : List ℕ) (space : ℕ) (all : List (List ℕ)) where
       let f = fitted-cut (space - at) a left h in
       done d at 1 (over-none d at ∙ rw (← f) (s .made)) (omega (arith, s .told, ap length f)) (sym (stopped-cut (space - at) a left h) ∙ s .same)
 
+-- ---- lines at the head of a buffer
+
+-- the bytes of all lines but the first
+abbrev restOf : List Line → List ℕ
+restOf [] = []
+restOf (l ∷ ls) = rendered ls
+
+in-two : (ls : List Line) → rendered ls ≡ firstOf ls ++ restOf ls
+unfolding rendered
+in-two [] = refl
+in-two (l ∷ ls) = refl
+
+module _ (ls : List Line) (d d′ : List ℕ) (first len : ℕ) (laid : Laid ls d d′ first len) where
+  pub laid-bytes : take len d′ ≡ rendered ls
+  laid-bytes = take-put d (rendered ls) d′ len (record { next = omega (arith, laid .ends); made = laid .made })
+
+  pub laid-within : len ≤ length d′
+  unfolding overwritten
+  laid-within = omega (arith, laid .ends, ap length (laid .made), length-append (rendered ls) (drop (0 + length (rendered ls)) d))
+
+  pub laid-first : first ≤ len
+  laid-first = omega (arith, laid .split, laid .ends, ap length (in-two ls), length-append (firstOf ls) (restOf ls))
+
 -- ---- at most two lines
 
--- a list of lines told by its first two
-abbrev pub Short : List Line → Type 0
-Short [] = Unit {0}
-Short (a ∷ []) = Unit {0}
-Short (a ∷ b ∷ []) = Unit {0}
-Short (a ∷ b ∷ c ∷ ls) = ⊥
+-- a list of at most two lines
+abbrev pub AtMostTwo : List Line → Type 0
+AtMostTwo [] = Unit {0}
+AtMostTwo (a ∷ []) = Unit {0}
+AtMostTwo (a ∷ b ∷ []) = Unit {0}
+AtMostTwo (a ∷ b ∷ c ∷ ls) = ⊥
 
 skip-fitted : (space : ℕ) (left : List (List ℕ)) → fitted space ([] ∷ left) ≡ fitted space left
 skip-fitted space left =
@@ -136,31 +159,35 @@ unfolding stopped
 stopped-same space a xs ys h = rw (h (space - length a))
 
 module _ (d₀ : List ℕ) (space : ℕ) (all : List (List ℕ)) (d : List ℕ) (at : ℕ) where
-  padded : (ls : List Line) (left : List (List ℕ)) → Short ls → Rest d₀ space all d at (map render ls ++ left) → Rest d₀ space all d at (firstOf ls ∷ secondOf ls ∷ left)
+  padded : (ls : List Line) (left : List (List ℕ)) → AtMostTwo ls → Rest d₀ space all d at (map render ls ++ left) → Rest d₀ space all d at (firstOf ls ∷ restOf ls ∷ left)
+  unfolding rendered
   padded [] left s r = same-rest d₀ space all d at left ([] ∷ [] ∷ left) (sym (skip-fitted (space - at) ([] ∷ left) ∙ skip-fitted (space - at) left))
       (sym (skip-stopped (space - at) ([] ∷ left) ∙ skip-stopped (space - at) left)) r
   padded (a ∷ []) left s r = same-rest d₀ space all d at (render a ∷ left) (render a ∷ [] ∷ left)
       (fitted-same (space - at) (render a) left ([] ∷ left) (λ n. sym (skip-fitted n left)))
       (stopped-same (space - at) (render a) left ([] ∷ left) (λ n. sym (skip-stopped n left))) r
-  padded (a ∷ b ∷ []) left s r = r
+  padded (a ∷ b ∷ []) left s r = rw (append-nil (render b)) r
   padded (a ∷ b ∷ c ∷ ls) left s r = absurd s
 
   -- Lines at the head of a buffer, and so many of its bytes put behind `at`.
-  module _ (ls : List Line) (left : List (List ℕ)) (short : Short ls) (buf : List ℕ) (first len : ℕ) (laid : Laid ls buf first len) (h : at ≤ space) (k : space ≤ length d)
+  module _ (ls : List Line) (left : List (List ℕ)) (short : AtMostTwo ls) (buf : List ℕ) (first len : ℕ) (buf₀ : List ℕ) (laid : Laid ls buf₀ buf first len) (h : at ≤ space) (k : space ≤ length d)
       (rest : Rest d₀ space all d at (map render ls ++ left)) where
-    both : Rest d₀ space all d at (firstOf ls ∷ secondOf ls ∷ left)
+    ends : len ≡ length (firstOf ls) + length (restOf ls)
+    ends = laid .ends ∙ ap length (in-two ls) ∙ length-append (firstOf ls) (restOf ls)
+
+    both : Rest d₀ space all d at (firstOf ls ∷ restOf ls ∷ left)
     both = padded ls left short rest
 
     -- both lines fit
     put-both : (d′ : List ℕ) (r : ℕ) → len ≤ space - at → Put d at (take len buf) d′ r → Rest d₀ space all d′ r left
     put-both d′ r f p =
         let one = firstOf ls in
-        let two = secondOf ls in
-        let b : take len buf ≡ one ++ two = laid .bytes in
+        let two = restOf ls in
+        let b : take len buf ≡ one ++ two = laid-bytes ls buf₀ buf first len laid ∙ in-two ls in
         let m = at + length one in
-        let w = length-overwritten d at one (omega (arith, laid .ends)) in
-        let s = rest-more d₀ space all d at one (two ∷ left) (overwritten d at one) m (omega arith) (omega (arith, laid .ends)) both (record { next = refl; made = refl }) in
-        rest-more d₀ space all (overwritten d at one) m two left d′ r (omega (arith, w, laid .ends)) (omega (arith, laid .ends)) s (record {
+        let w = length-overwritten d at one (omega (arith, ends)) in
+        let s = rest-more d₀ space all d at one (two ∷ left) (overwritten d at one) m (omega arith) (omega (arith, ends)) both (record { next = refl; made = refl }) in
+        rest-more d₀ space all (overwritten d at one) m two left d′ r (omega (arith, w, ends)) (omega (arith, ends)) s (record {
           next = p .next ∙ ap (λ (xs : List ℕ). at + length xs) b ∙ omega (arith, length-append one two);
           made = p .made ∙ ap (overwritten d at) b ∙ sym (overwritten-append d at one two (omega arith));
         })
@@ -170,16 +197,16 @@ module _ (d₀ : List ℕ) (space : ℕ) (all : List (List ℕ)) (d : List ℕ) 
     put-first d′ r f g p =
         let one = firstOf ls in
         let b : take first buf ≡ one =
-        sym (take-take first len buf (omega (arith, laid .split, laid .ends))) ∙ ap (take first) (laid .bytes) ∙ ap (λ (n : ℕ). take n (one ++ secondOf ls)) (laid .split) ∙ take-append-seam one (secondOf ls) in
+        sym (take-take first len buf (omega (arith, laid .split, ends))) ∙ ap (take first) (laid-bytes ls buf₀ buf first len laid ∙ in-two ls) ∙ ap (λ (n : ℕ). take n (one ++ restOf ls)) (laid .split) ∙ take-append-seam one (restOf ls) in
         let q : Put d at one d′ r = rw b at p in
-        rest-cut d₀ space all d′ r (secondOf ls) left (omega (arith, q .next, laid .split, laid .ends)) (rest-more d₀ space all d at one (secondOf ls ∷ left) d′ r (omega arith) (omega (arith, laid .split)) both q)
+        rest-cut d₀ space all d′ r (restOf ls) left (omega (arith, q .next, laid .split, ends)) (rest-more d₀ space all d at one (restOf ls ∷ left) d′ r (omega arith) (omega (arith, laid .split)) both q)
 
     -- the first does not
     put-neither : (d′ : List ℕ) (r : ℕ) → space - at < first → Put d at (take 0 buf) d′ r → Fitted all space d₀ d′ (2 * r + 1)
     put-neither d′ r f p =
         let e : r ≡ at = omega (arith, p .next) in
         let q : d′ ≡ d = p .made ∙ sym (over-none d₀ space all d at) in
-        rw (e, q) (rest-cut d₀ space all d at (firstOf ls) (secondOf ls ∷ left) (omega (arith, laid .split)) both)
+        rw (e, q) (rest-cut d₀ space all d at (firstOf ls) (restOf ls ∷ left) (omega (arith, laid .split)) both)
 
     -- what is put is as much as fits whole
     pub all-put : (d′ : List ℕ) (n r : ℕ) → n ≡ fits (space - at) first len → len ≤ n → Put d at (take n buf) d′ r → (r ≤ space) × Rest d₀ space all d′ r left
@@ -189,8 +216,8 @@ module _ (d₀ : List ℕ) (space : ℕ) (all : List (List ℕ)) (d : List ℕ) 
           let q : Put d at (take len buf) d′ r = rw m at p in
           (omega (arith, q .next, length-take len buf), put-both d′ r g q)
       | no g ↦ elim (decLe first (space - at)) [
-        | yes i ↦ absurd (omega (arith, fits-first (space - at) first len (omega arith) i, laid .split, laid .ends))
-        | no i ↦ absurd (omega (arith, fits-none (space - at) first len (omega arith) (omega arith), laid .split, laid .ends))
+        | yes i ↦ absurd (omega (arith, fits-first (space - at) first len (omega arith) i, laid .split, ends))
+        | no i ↦ absurd (omega (arith, fits-none (space - at) first len (omega arith) (omega arith), laid .split, ends))
       ]
     ]
 

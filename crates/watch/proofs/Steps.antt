@@ -1,21 +1,18 @@
 -- One line: what the functions of a line do, taken together, is the plain definition's step. Assumes nothing.
-use Prim.Native.Nat.{ℕ, _+_, _*_, _/_, _<_}
-use mathlib.Core.Path.{_≡_, refl, sym, ap, ap₂, subst⁻¹, _∙_}
-use mathlib.Core.Logic.{_≢_}
-use mathlib.Core.Bool.{Bool, true, false, _&&_}
-use mathlib.Core.List.{List, [], _∷_, _++_, append-assoc}
+use Prim.Native.Nat.{ℕ, _+_, _*_, _/_, _≤_, _<_}
+use mathlib.Core.Path.{_≡_, refl, sym, ap, subst, subst⁻¹, _∙_}
+use mathlib.Core.Bool.{Bool, true, false, _&&_, cond}
+use mathlib.Core.List.{List, [], _∷_, _++_}
 use native.Mathlib.Omega.{arith}
 use native.Mathlib.Decide.{decLe}
 use borrow.Author.Tests.{eq-eqb, ne-eqb, le-leb, lt-leb, leb-false}
 use lib.Dec.{eqb, leb}
-use lib.ListN.{length, take, drop, length-append, replicate}
-use lib.Seq.{take-append-seam}
+use lib.ListN.{length, take, length-append, replicate}
 use Rattle.plain.specs.Search.{Edge, Verdict, none, lasso, unfinished, verdict, count}
-use Rattle.plain.specs.Table.{Table, final, withMark, acceptingCount}
+use Rattle.plain.specs.Table.{final, withMark, acceptingCount}
 use Rattle.plain.specs.Refusals.{Trial, accepted, refused, Load, loadTrial, full}
-use Rattle.plain.specs.Machine.{Answer as PlainAnswer, refusal, answer, changeAnswer, loadAnswer, tableOf, apply, named, Call, trialOf, answerTo, written, Line, gameLine, roundLine, noLine, answerLine}
-use Rattle.plain.specs.Claims.{Arises, changed}
-use Rattle.plain.proofs.Demands.{demand-2}
+use Rattle.plain.specs.Machine.{Answer as PlainAnswer, refusal, answer, loadAnswer, tableOf, answerTo, Line, gameLine, roundLine, noneLine, noLine, answerLine}
+use Rattle.plain.proofs.Tests.{and-true}
 use Rattle.line.specs.Words.{isWord}
 use Rattle.line.specs.declared.Word.the-variants.{Game, Pay, Move, Go}
 use Rattle.line.specs.declared.Word.the-variants as Word
@@ -23,64 +20,71 @@ use Rattle.line.specs.declared.Record.{Record}
 use Rattle.session.specs.declared.Op.{Op}
 use Rattle.session.specs.declared.Op.the-variants.{Add, Cut}
 use Rattle.session.specs.declared.Answer.{Answer}
-use Rattle.session.specs.declared.Answer.the-variants.{Refused}
+use Rattle.session.specs.declared.Answer.the-variants.{Refused, Clear, Round}
 use Rattle.session.specs.declared.Session.{Session}
 use Rattle.session.specs.declared.Outcome.{Outcome}
 use Rattle.session.specs.Promises.{shown, changeOf, callOf, Holds, Loads}
 use Rattle.watch.specs.declared.Stage.{Stage}
 use Rattle.watch.specs.declared.Stage.the-variants.{Waiting, Gathering, Playing, Over}
 use Rattle.watch.specs.declared.Lead.{Lead}
-use Rattle.watch.specs.declared.Task.the-variants.{Load as LoadTask}
+use Rattle.watch.specs.declared.Ask.the-variants.{Load as AskLoad, Change}
+use Rattle.watch.specs.declared.Task.{Task}
+use Rattle.watch.specs.declared.Task.the-variants.{Nothing, Refuse, Ask as Asks}
 use Rattle.watch.specs.declared.Plan.{Plan}
-use Rattle.watch.specs.Text.{Lead as Held, waiting, gathering, playing, ended, Step, quiet, pickStep, empty, room, flat, loadStep, loadOf, changeStep, atFirst, beforeGo, afterGo, step}
-use Rattle.watch.specs.Model.{pickPlan, staged, held, refusing, askedFirst, askedMove, askedBefore, changing, askedAfter, askedAt, asked, Filed, gathered, Serves, lineSaid, isRefused, pickLines, pickStage, linesFor, leadFor}
+use Rattle.watch.specs.Text.{Draft, Play, Held, waiting, gathering, playing, ended, Step, quiet, noStep, empty, room, flat, loadStep, loadOf, draftOf, withPay, withMove, changeStep, atFirst, beforeGo, afterGo, step}
+use Rattle.watch.specs.Model.{numbersMost, staged, noTask, refusing, loading, changing, isFull, askedFirst, askedMove, askedBefore, askedAfter, askedAt, asked, takesMove, filedMove, gathered, Serves, isRefused, linesFor, leadFor}
+use Rattle.watch.proofs.Asking.{taken-at}
+use Rattle.watch.proofs.Filing.{moves-kept, move-put}
+
+-- the lead and the list of numbers stand for what is gathered
+pub record Gathers (l : Lead) (ns : List ℕ) (d : Draft) : Type 0 where
+  pub stage : l .stage ≡ Gathering
+  pub size : l .size ≡ d .size
+  pub start : l .start ≡ d .start
+  pub words : l .words ≡ d .marks
+  pub count : l .count ≡ 2 * length (d .moves)
+  pub moves : take (l .count) ns ≡ flat (d .moves)
 
 -- the lead, the list of numbers and the session stand for what the plain definition holds
 abbrev pub Tracks : Lead → List ℕ → Session → Held → Type 0
 Tracks l ns s waiting = l .stage ≡ Waiting
-Tracks l ns s (gathering size start marks moves) =
-    (l .stage ≡ Gathering) × (l .size ≡ size) × (l .start ≡ start) × (l .words ≡ marks) × (l .count ≡ 2 * length moves) × (take (l .count) ns ≡ flat moves)
-Tracks l ns s (playing t) = (l .stage ≡ Playing) × Holds s t
+Tracks l ns s (gathering d) = Gathers l ns d
+Tracks l ns s (playing p) = (l .stage ≡ Playing) × Holds s (p .table)
 Tracks l ns s ended = l .stage ≡ Over
 
--- ---- what is said of an answer
+-- what is asked of the session is served; where nothing is, the session stays
+abbrev pub Follows : Task → Lead → List ℕ → Session → List ℕ → Outcome → List ℕ → Type 0
+Follows Nothing l ns s walk c walk′ = c .session ≡ s
+Follows (Refuse n) l ns s walk c walk′ = c .session ≡ s
+Follows (Asks ask) l ns s walk c walk′ = Serves ask l ns s walk c walk′
 
--- every answer of a table that a session can hold is finished
-abbrev Finished : PlainAnswer → Type 0
-Finished (refusal n) = Unit {0}
-Finished (answer v spent kept) = v ≢ unfinished
+-- ---- an answer and its line
 
-two-parts : (stem cycle rest : List ℕ) → take (length stem + length cycle) (stem ++ (cycle ++ rest)) ≡ stem ++ cycle
-two-parts stem cycle rest = rw (← length-append stem cycle, ← append-assoc stem cycle rest) (take-append-seam (stem ++ cycle) rest)
+-- do the lines tell a refusal?
+tellsNo : List Line → Bool
+tellsNo [] = false
+tellsNo (gameLine size moves paying ∷ ls) = false
+tellsNo (roundLine spent kept stem cycle walk ∷ ls) = false
+tellsNo (noneLine spent kept ∷ ls) = false
+tellsNo (noLine r ∷ ls) = true
 
-said : (a : PlainAnswer) (walk : List ℕ) → Finished a → lineSaid (shown a) (written a walk) ∷ [] ≡ answerLine a
-unfolding lineSaid shown written answerLine
-said (refusal n) walk f = refl
-said (answer none spent kept) walk f = refl
-said (answer (lasso stem cycle) spent kept) walk f =
-    ap (λ (w : List ℕ). roundLine spent kept (length stem) (length cycle) w ∷ []) (two-parts stem cycle (drop (length stem + length cycle) walk))
-said (answer unfinished spent kept) walk f = absurd (f refl)
+shown-no : (a : Answer) (walk : List ℕ) → isRefused a ≡ tellsNo (shown a walk ∷ [])
+unfolding shown tellsNo
+shown-no (Refused r) walk = refl
+shown-no (Clear spent kept) walk = refl
+shown-no (Round spent kept stem cycle) walk = refl
 
-not-refused : (v : Verdict) (spent kept : ℕ) → v ≢ unfinished → isRefused (shown (answer v spent kept)) ≡ false
-unfolding shown
-not-refused none spent kept f = refl
-not-refused (lasso stem cycle) spent kept f = refl
-not-refused unfinished spent kept f = absurd (f refl)
+verdict-yes : (v : Verdict) (spent kept : ℕ) → tellsNo (answerLine (answer v spent kept)) ≡ false
+unfolding answerLine tellsNo
+verdict-yes none spent kept = refl
+verdict-yes (lasso stem cycle) spent kept = refl
+verdict-yes unfinished spent kept = refl
 
-finished-by : (t : Trial) (states : List ℕ) (new : Table) → (t ≡ accepted → Arises new) → Finished (changeAnswer t states new)
-unfolding changeAnswer
-finished-by accepted states new h = demand-2 new (h refl) .ends
-finished-by (refused n) states new h = tt
-
-finished : (c : Call) (t : Table) → Arises t → Finished (answerTo c t)
-unfolding answerTo
-finished c t a = finished-by (trialOf c t) (named (c .change)) (apply (c .change) t) (λ e. changed t c a e)
+-- an answer refuses where the plain one's line does
+refused-as : (a : PlainAnswer) (b : Answer) (walk : List ℕ) → answerLine a ≡ shown b walk ∷ [] → isRefused b ≡ tellsNo (answerLine a)
+refused-as a b walk e = shown-no b walk ∙ ap tellsNo (sym e)
 
 -- ---- the moves so far
-
-and-true : (a b : Bool) → a && b ≡ true → b ≡ true
-and-true true b e = e
-and-true false b e = let z : _≡_ {A = ℕ} 0 1 = cc in absurd (omega arith)
 
 no-moves : (moves : List Edge) → empty moves ≡ true → moves ≡ []
 no-moves [] e = refl
@@ -91,11 +95,11 @@ count-empty : (n : ℕ) (moves : List Edge) → n ≡ 2 * length moves → eqb n
 count-empty n [] e = eq-eqb n 0 e
 count-empty n (m ∷ ms) e = ne-eqb n 0 (λ z. omega arith)
 
-count-full : (n : ℕ) (moves : List Edge) → n ≡ 2 * length moves → leb 4096 n ≡ full moves
-unfolding full
-count-full n moves e = elim (decLe 2048 (length moves)) [
-  | yes h ↦ le-leb 4096 n (omega arith) ∙ sym (le-leb 2048 (length moves) h)
-  | no h ↦ lt-leb 4096 n (omega arith) ∙ sym (lt-leb 2048 (length moves) (omega arith))
+count-full : (l : Lead) (moves : List Edge) → l .count ≡ 2 * length moves → isFull l ≡ full moves
+unfolding isFull full
+count-full l moves e = elim (decLe 2048 (length moves)) [
+  | yes h ↦ le-leb 4096 (l .count) (omega arith) ∙ sym (le-leb 2048 (length moves) h)
+  | no h ↦ lt-leb 4096 (l .count) (omega arith) ∙ sym (lt-leb 2048 (length moves) (omega arith))
 ]
 
 flat-append : (ms : List Edge) (e : Edge) → flat (ms ++ (e ∷ [])) ≡ flat ms ++ (e .0 ∷ e .1 ∷ [])
@@ -107,116 +111,110 @@ flat-append (m ∷ ms) e = ap (λ (ns : List ℕ). m .0 ∷ m .1 ∷ ns) (flat-a
 
 -- what comes of a plan is the step: what is held then, and the lines
 module _ (ns walk : List ℕ) (s : Session) (c : Outcome) (walk′ : List ℕ) where
-  abbrev Comes : Plan → Step → Type 0
-  Comes p u = Serves p ns s walk c walk′
+  abbrev Comes : Lead → Plan → Step → Type 0
+  Comes l₀ p u = Follows (p .task) l₀ ns s walk c walk′
       → Tracks (leadFor (p .task) (p .lead) (c .answer)) ns (c .session) (u .next) × (linesFor (p .task) (p .lead) (c .answer) walk′ ≡ u .lines)
 
-  comes-pick : (b : Bool) (p q : Plan) (u v : Step) → (b ≡ true → Comes p u) → (b ≡ false → Comes q v) → Comes (pickPlan b p q) (pickStep b u v)
-  comes-pick true p q u v h k = h refl
-  comes-pick false p q u v h k = k refl
+  comes-cond : (l₀ : Lead) (b : Bool) (p q : Plan) (u v : Step) → (b ≡ true → Comes l₀ p u) → (b ≡ false → Comes l₀ q v) → Comes l₀ (cond b p q) (cond b u v)
+  comes-cond l₀ true p q u v h k = h refl
+  comes-cond l₀ false p q u v h k = k refl
 
-  comes-held : (l : Lead) (q : Held) → Tracks l ns s q → Comes (held l) (quiet q)
-  comes-held l q h w = (rw (w .nothing refl) h, refl)
+  comes-quiet : (l₀ l : Lead) (q : Held) → Tracks l ns s q → Comes l₀ (noTask l) (quiet q)
+  comes-quiet l₀ l q h w = (rw w h, refl)
 
-  comes-refusing : (stage : Stage) (l : Lead) (n : ℕ) (q : Held) → Tracks (staged stage l) ns s q → Comes (refusing stage l n) (record { lines = noLine n ∷ []; next = q })
-  unfolding lineSaid
-  comes-refusing stage l n q h w = (rw (w .refuses n refl .1) h, rw (w .refuses n refl .0))
+  comes-refusing : (l₀ : Lead) (stage : Stage) (l : Lead) (n : ℕ) (q : Held) → Tracks (staged stage l) ns s q → Comes l₀ (refusing stage l n) (noStep n q)
+  unfolding shown
+  comes-refusing l₀ stage l n q h w = (rw w h, refl)
 
-  comes-change : (op : Op) (l : Lead) (r : Record) (t : Table) → l .stage ≡ Playing → Holds s t → length walk ≡ 512
-      → Comes (changing op l r) (changeStep (changeOf op (r .first) (r .second)) t)
-  comes-change op l r t h k e w =
-      let ch = w .changes op refl in
-      let call = callOf op (r .first) (r .second) walk in (
-        (h, rw e at (ch .holds t k)),
-        ap₂ (λ (a : Answer) (list : List ℕ). lineSaid a list ∷ []) (ch .answers t k) (ch .writes t k)
-            ∙ said (answerTo call t) walk (finished call t (k .arises))
-            ∙ ap (λ (n : ℕ). answerLine (answerTo (record { change = changeOf op (r .first) (r .second); room = n }) t)) e,
-      )
+  comes-change : (op : Op) (l : Lead) (p : Play) → l .stage ≡ Playing → Holds s (p .table) → length walk ≡ room → Comes l (changing op l) (changeStep (changeOf op) p)
+  comes-change op l p h k e w = (
+    (h, rw e at (w .holds (p .table) k)),
+    sym (w .answers (p .table) k) ∙ ap (λ (n : ℕ). answerLine (answerTo (record { change = changeOf op; room = n }) (p .table))) e,
+  )
 
   -- a load, by what trying it gives
-  load-by : (x : Trial) (l : Lead) (g : Load) (moves : List Edge) → loadTrial g (length walk) ≡ x → l .size ≡ g .size → l .words ≡ g .words → l .count ≡ 2 * length moves
-      → Loads g walk c walk′
-      → Tracks (leadFor LoadTask l (c .answer)) ns (c .session) (loadStep x g moves .next) × (linesFor LoadTask l (c .answer) walk′ ≡ loadStep x g moves .lines)
-  unfolding loadAnswer lineSaid shown
-  load-by accepted l g moves k p q m lo =
-      let t = tableOf g in
-      let a = answer (verdict (final t)) (count (final t)) 0 in
-      let ea : c .answer ≡ shown a = lo .answers ∙ ap (λ (x : Trial). shown (loadAnswer x t)) k in
-      let ew : walk′ ≡ written a walk = lo .writes ∙ ap (λ (x : Trial). written (loadAnswer x t) walk) k in
-      let f = demand-2 t (lo .holds k .arises) .ends in
-      let nr : isRefused (c .answer) ≡ false = ap isRefused ea ∙ not-refused (verdict (final t)) (count (final t)) 0 f in
-      let half : l .count / 2 ≡ length moves = omega arith in
-      let told : lineSaid (c .answer) walk′ ∷ [] ≡ answerLine a = ap₂ (λ (x : Answer) (list : List ℕ). lineSaid x list ∷ []) ea ew ∙ said a walk f in (
-        (ap (λ (b : Bool). pickStage b Over Playing) nr, lo .holds k),
-        ap (λ (b : Bool). pickLines b (lineSaid (c .answer) walk′ ∷ []) (gameLine (l .size) (l .count / 2) (acceptingCount (l .words)) ∷ lineSaid (c .answer) walk′ ∷ [])) nr
-            ∙ rw (p, q, half) (ap (λ (ls : List Line). gameLine (g .size) (length moves) (acceptingCount (g .words)) ∷ ls) told),
+  load-by : (x : Trial) (l : Lead) (d : Draft) → loadTrial (loadOf d) (length walk) ≡ x → Gathers l ns d → Loads (loadOf d) walk c walk′
+      → Tracks (leadFor (Asks AskLoad) l (c .answer)) ns (c .session) (loadStep x d .next) × (linesFor (Asks AskLoad) l (c .answer) walk′ ≡ loadStep x d .lines)
+  unfolding loadAnswer answerLine tellsNo
+  load-by accepted l d k g lo =
+      let t = tableOf (loadOf d) in
+      let told : answerLine (loadAnswer accepted t) ≡ shown (c .answer) walk′ ∷ [] = rw k at (lo .answers) in
+      let yes : isRefused (c .answer) ≡ false = refused-as (loadAnswer accepted t) (c .answer) walk′ told ∙ verdict-yes (verdict (final t)) (count (final t)) 0 in
+      let half : l .count / 2 ≡ length (d .moves) = omega (arith, g .count) in (
+        (ap (λ (b : Bool). cond b Over Playing) yes, lo .holds k),
+        ap (λ (b : Bool). cond b (shown (c .answer) walk′ ∷ []) (gameLine (l .size) (l .count / 2) (acceptingCount (l .words)) ∷ shown (c .answer) walk′ ∷ [])) yes
+            ∙ rw (g .size, g .words, half) (ap (λ (ls : List Line). gameLine (d .size) (length (d .moves)) (acceptingCount (d .marks)) ∷ ls) (sym told)),
       )
-  load-by (refused n) l g moves k p q m lo =
-      let ea : c .answer ≡ Refused n = lo .answers ∙ ap (λ (x : Trial). shown (loadAnswer x (tableOf g))) k in
-      (rw ea, rw ea)
+  load-by (refused n) l d k g lo =
+      let a = loadAnswer (refused n) (tableOf (loadOf d)) in
+      let told : answerLine a ≡ shown (c .answer) walk′ ∷ [] = rw k at (lo .answers) in
+      let no : isRefused (c .answer) ≡ true = refused-as a (c .answer) walk′ told in (
+        ap (λ (b : Bool). cond b Over Playing) no,
+        ap (λ (b : Bool). cond b (shown (c .answer) walk′ ∷ []) (gameLine (l .size) (l .count / 2) (acceptingCount (l .words)) ∷ shown (c .answer) walk′ ∷ [])) no ∙ sym told,
+      )
 
-  comes-load : (l : Lead) (size start : ℕ) (marks : List ℕ) (moves : List Edge) → Tracks l ns s (gathering size start marks moves) → length walk ≡ 512
-      → Comes (record { lead = l; task = LoadTask; from = 0; to = 0 }) (loadStep (loadTrial (loadOf size start marks moves) room) (loadOf size start marks moves) moves)
-  comes-load l size start marks moves h e w =
-      let g = loadOf size start marks moves in
-      let same : gathered l ns ≡ g = λ i. record { size = h .1 i; start = h .2 i; words = h .3 i; numbers = h .5 i } in
-      load-by (loadTrial g 512) l g moves (ap (loadTrial g) e) (h .1) (h .3) (h .4) (rw same at (w .loads refl))
+  comes-load : (l : Lead) (d : Draft) → Gathers l ns d → length walk ≡ room → Comes l (loading l) (loadStep (loadTrial (loadOf d) room) d)
+  comes-load l d g e w =
+      let same : gathered l ns ≡ loadOf d = λ i. record { size = g .size i; start = g .start i; words = g .words i; numbers = g .moves i } in
+      load-by (loadTrial (loadOf d) room) l d (ap (loadTrial (loadOf d)) e) g (rw same at w)
 
   -- ---- by what is held
 
-  first-line : (l : Lead) (r : Record) → Comes (askedFirst l r) (atFirst r)
+  first-line : (l : Lead) (r : Record) → Comes l (askedFirst l r) (atFirst r)
   unfolding askedFirst atFirst flat
-  first-line l r = comes-pick (isWord (r .word) Game) _ _ _ _
-      (λ b. comes-held _ (gathering (r .first) (r .second) (replicate 8 0) []) (refl, refl, refl, refl, refl, refl))
-      (λ b. comes-refusing Over l 1 ended refl)
+  first-line l r = comes-cond l (isWord (r .word) Game) _ _ _ _
+      (λ b. comes-quiet l _ (gathering (draftOf r)) (record { stage = refl; size = refl; start = refl; words = refl; count = refl; moves = refl }))
+      (λ b. comes-refusing l Over l 1 ended refl)
 
-  line-after-go : (l : Lead) (r : Record) (t : Table) → Tracks l ns s (playing t) → length walk ≡ 512 → Comes (askedAfter l r) (afterGo t r)
+  line-after-go : (l : Lead) (r : Record) (p : Play) → Tracks l ns s (playing p) → length walk ≡ room → Comes l (askedAfter l r) (afterGo p r)
   unfolding askedAfter afterGo
-  line-after-go l r t h e = comes-pick (isWord (r .word) Word.Add) _ _ _ _ (λ b. comes-change Add l r t (h .0) (h .1) e)
-      (λ b. comes-pick (isWord (r .word) Word.Cut) _ _ _ _ (λ d. comes-change Cut l r t (h .0) (h .1) e) (λ d. comes-refusing Playing l 1 (playing t) (refl, h .1)))
+  line-after-go l r p h e = comes-cond l (isWord (r .word) Word.Add) _ _ _ _ (λ b. comes-change (Add (r .first) (r .second)) l p (h .0) (h .1) e)
+      (λ b. comes-cond l (isWord (r .word) Word.Cut) _ _ _ _ (λ d. comes-change (Cut (r .first) (r .second)) l p (h .0) (h .1) e) (λ d. comes-refusing l Playing l 1 (playing p) (refl, h .1)))
 
-  -- before `go`: ns₀ is the list before this line's numbers were put behind the moves
-  module _ (ns₀ : List ℕ) (l : Lead) (r : Record) (size start : ℕ) (marks : List ℕ) (moves : List Edge)
-      (h : Tracks l ns₀ s (gathering size start marks moves)) (f : Filed ns₀ (l .count) (r .first) (r .second) ns) (n : length ns₀ ≡ 4096) where
-    moved : Tracks l ns s (gathering size start marks moves)
-    moved = (h .0, h .1, h .2, h .3, h .4, f .kept ∙ h .5)
+  -- before `go`: ns₀ is the list as the line finds it
+  module _ (ns₀ : List ℕ) (l : Lead) (r : Record) (d : Draft) (g : Gathers l ns₀ d) (f : ns ≡ filedMove l r ns₀) (n : length ns₀ ≡ numbersMost) where
+    moved : Gathers l ns d
+    moved = record { stage = g .stage; size = g .size; start = g .start; words = g .words; count = g .count; moves = ap (take (l .count)) f ∙ moves-kept l r ns₀ ∙ g .moves }
 
-    one-more : leb 4096 (l .count) ≡ false
-        → Tracks (record { stage = Gathering; size = l .size; start = l .start; words = l .words; count = l .count + 2 }) ns s (gathering size start marks (moves ++ ((r .first, r .second) ∷ [])))
-    one-more b =
+    one-more : isFull l ≡ false → isWord (r .word) Move ≡ true
+        → Gathers (record { stage = Gathering; size = l .size; start = l .start; words = l .words; count = l .count + 2 }) ns (withMove r d)
+    unfolding isFull
+    one-more b m =
         let k : l .count < 4096 = leb-false 4096 (l .count) b in
-        let e : l .count ≡ 2 * length moves = h .4 in (
-          refl,
-          h .1,
-          h .2,
-          h .3,
-          omega (arith, length-append moves ((r .first, r .second) ∷ [])),
-          f .put (omega arith) (omega arith) ∙ ap (λ (xs : List ℕ). xs ++ (r .first ∷ r .second ∷ [])) (h .5) ∙ sym (flat-append moves (r .first, r .second)),
-        )
+        let taken : takesMove l r ≡ true = sym (taken-at l r Gathering b (g .stage)) ∙ m in
+        record {
+          stage = refl;
+          size = g .size;
+          start = g .start;
+          words = g .words;
+          count = omega (arith, g .count, length-append (d .moves) ((r .first, r .second) ∷ []));
+          moves = ap (take (l .count + 2)) f ∙ move-put l r ns₀ taken (omega (arith, g .count))
+              ∙ ap (λ (xs : List ℕ). xs ++ (r .first ∷ r .second ∷ [])) (g .moves) ∙ sym (flat-append (d .moves) (r .first, r .second));
+        }
 
-    line-before-go : length walk ≡ 512 → Comes (askedBefore l r) (beforeGo size start marks moves r)
+    line-before-go : length walk ≡ room → Comes l (askedBefore l r) (beforeGo d r)
     unfolding askedBefore askedMove beforeGo flat
-    line-before-go e = rw (count-empty (l .count) moves (h .4)) (comes-pick (isWord (r .word) Pay && empty moves) _ _ _ _
-        (λ b. let z : moves ≡ [] = no-moves moves (and-true (isWord (r .word) Pay) (empty moves) b) in
-        comes-held _ (gathering size start (withMark marks (r .first)) moves)
-        (refl, h .1, h .2, ap (λ (w : List ℕ). withMark w (r .first)) (h .3), omega (arith, ap length z), ap flat (sym z)))
-        (λ b. comes-pick (isWord (r .word) Move) _ _ _ _
-        (λ d. rw (← count-full (l .count) moves (h .4)) (comes-pick (leb 4096 (l .count)) _ _ _ _ (λ x. comes-refusing Over l 5 ended refl) (λ x. comes-held _ (gathering size start marks (moves ++ ((r .first, r .second) ∷ []))) (one-more x))))
-        (λ d. comes-pick (isWord (r .word) Go) _ _ _ _ (λ x. comes-load l size start marks moves moved e) (λ x. comes-refusing Over l 1 ended refl))))
+    line-before-go e = rw (count-empty (l .count) (d .moves) (g .count)) (comes-cond l (isWord (r .word) Pay && empty (d .moves)) _ _ _ _
+        (λ b. let z : d .moves ≡ [] = no-moves (d .moves) (and-true (isWord (r .word) Pay) (empty (d .moves)) b .1) in
+        comes-quiet l _ (gathering (withPay r d))
+        (record { stage = refl; size = g .size; start = g .start; words = ap (λ (w : List ℕ). withMark w (r .first)) (g .words); count = omega (arith, ap length z); moves = ap flat (sym z) }))
+        (λ b. comes-cond l (isWord (r .word) Move) _ _ _ _
+        (λ m. rw (← count-full l (d .moves) (g .count)) (comes-cond l (isFull l) _ _ _ _ (λ x. comes-refusing l Over l 5 ended refl) (λ x. comes-quiet l _ (gathering (withMove r d)) (one-more x m))))
+        (λ m. comes-cond l (isWord (r .word) Go) _ _ _ _ (λ x. comes-load l d moved e) (λ x. comes-refusing l Over l 1 ended refl))))
 
 by-stage : (l : Lead) (r : Record) (ns : List ℕ) (s : Session) (walk : List ℕ) (c : Outcome) (walk′ : List ℕ) (g : Stage) (u : Step) → l .stage ≡ g
-    → Comes ns walk s c walk′ (askedAt g l r) u → Comes ns walk s c walk′ (asked l r) u
+    → Comes ns walk s c walk′ l (askedAt g l r) u → Comes ns walk s c walk′ l (asked l r) u
 unfolding asked
-by-stage l r ns s walk c walk′ g u h k = subst⁻¹ (λ (x : Stage). Comes ns walk s c walk′ (askedAt x l r) u) h k
+by-stage l r ns s walk c walk′ g u h k = subst⁻¹ (λ (x : Stage). Comes ns walk s c walk′ l (askedAt x l r) u) h k
 
 -- One line: where the lead, the list and the session stand for what is held, they do so behind the line, and the lines told are the step's.
 pub stepped : (l : Lead) (ns : List ℕ) (s : Session) (p : Held) (walk : List ℕ) (r : Record) (ns′ : List ℕ) (c : Outcome) (walk′ : List ℕ)
-    → length ns ≡ 4096 → length walk ≡ 512 → Tracks l ns s p → Filed ns (l .count) (r .first) (r .second) ns′ → Serves (asked l r) ns′ s walk c walk′
+    → length ns ≡ numbersMost → length walk ≡ room → Tracks l ns s p → ns′ ≡ filedMove l r ns → Follows (asked l r .task) l ns′ s walk c walk′
     → Tracks (leadFor (asked l r .task) (asked l r .lead) (c .answer)) ns′ (c .session) (step p r .next)
     × (linesFor (asked l r .task) (asked l r .lead) (c .answer) walk′ ≡ step p r .lines)
 unfolding asked step
 stepped l ns s waiting walk r ns′ c walk′ n e h f w = by-stage l r ns′ s walk c walk′ Waiting (step waiting r) h (first-line ns′ walk s c walk′ l r) w
-stepped l ns s (gathering size start marks moves) walk r ns′ c walk′ n e h f w =
-    by-stage l r ns′ s walk c walk′ Gathering (step (gathering size start marks moves) r) (h .0) (line-before-go ns′ walk s c walk′ ns l r size start marks moves h f n e) w
-stepped l ns s (playing t) walk r ns′ c walk′ n e h f w = by-stage l r ns′ s walk c walk′ Playing (step (playing t) r) (h .0) (line-after-go ns′ walk s c walk′ l r t h e) w
-stepped l ns s ended walk r ns′ c walk′ n e h f w = by-stage l r ns′ s walk c walk′ Over (step ended r) h (comes-held ns′ walk s c walk′ l ended h) w
+stepped l ns s (gathering d) walk r ns′ c walk′ n e h f w =
+    by-stage l r ns′ s walk c walk′ Gathering (step (gathering d) r) (h .stage) (line-before-go ns′ walk s c walk′ ns l r d h f n e) w
+stepped l ns s (playing p) walk r ns′ c walk′ n e h f w = by-stage l r ns′ s walk c walk′ Playing (step (playing p) r) (h .0) (line-after-go ns′ walk s c walk′ l r p h e) w
+stepped l ns s ended walk r ns′ c walk′ n e h f w = by-stage l r ns′ s walk c walk′ Over (step ended r) h (comes-quiet ns′ walk s c walk′ l l ended h) w

@@ -1,9 +1,12 @@
 -- The lines of a text, one after the other. Assumes nothing.
 use Prim.Native.Nat.{ℕ, _+_, _-_, _≤_, _<_}
 use mathlib.Core.Path.{_≡_, refl, sym, ap, subst, subst⁻¹, _∙_}
-use mathlib.Core.Bool.{Bool, true, false}
+use mathlib.Core.Bool.{Bool, true, false, cond}
+use mathlib.Core.Logic.{⊎-elim}
 use mathlib.Core.List.{List, [], _∷_, _++_, map, map-append}
 use native.Mathlib.Omega.{arith}
+use denote.Enum.Declared.{tagOf}
+use types.Run.{OneOf}
 use lib.ListN.{length, take, drop}
 use Rattle.plain.specs.Machine.{Line}
 use Rattle.line.specs.Fields.{upTo, linesOf}
@@ -16,13 +19,17 @@ use Rattle.session.specs.declared.Session.{Session}
 use Rattle.session.specs.declared.Outcome.{Outcome}
 use Rattle.watch.specs.declared.Lead.{Lead}
 use Rattle.watch.specs.declared.Task.{Task}
-use Rattle.watch.specs.declared.Task.the-variants.{Nothing, Refuse, Load as LoadTask, Change}
-use Rattle.watch.specs.Text.{Lead as Held, waiting, gathering, playing, ended, step, printed}
+use Rattle.watch.specs.declared.Ask.{Ask}
+use Rattle.watch.specs.declared.Ask.the-variants.{Load as AskLoad, Change}
+use Rattle.watch.specs.declared.Task.the-variants.{Nothing, Refuse, Ask as Asks}
+use Rattle.watch.specs.Text.{Held, waiting, gathering, playing, ended, room, step, printed}
 use Rattle.watch.specs.declared.Plan.{Plan}
 use Rattle.watch.specs.declared.Written.{Written}
-use Rattle.watch.specs.Model.{asked, Filed, Serves, isRefused, pickLines, linesFor, leadFor, Laid, Told, isOver}
-use Rattle.watch.proofs.Output.{Short}
-use Rattle.watch.proofs.Steps.{Tracks, stepped}
+use Rattle.watch.specs.Model.{numbersMost, asked, filedMove, isRefused, Serves, bufferMost, linesFor, linesTold, leadFor, Laid, Writes, isOver}
+use Rattle.watch.proofs.Task.{the-type}
+use Rattle.watch.proofs.Output.{AtMostTwo}
+use Rattle.watch.proofs.Steps.{Tracks, Follows, stepped}
+use Rattle.watch.proofs.Writing.{told-lines}
 
 -- what is still to be written, where the text is read up to a place
 abbrev pub toTell : Held → List ℕ → ℕ → List (List ℕ)
@@ -54,42 +61,61 @@ false-true e = let z : _≡_ {A = ℕ} 0 1 = cc in absurd (omega arith)
 
 pub over-told : (p : Held) (l : Lead) (ns : List ℕ) (s : Session) (text : List ℕ) (from : ℕ) → isOver (l .stage) ≡ true → Tracks l ns s p → toTell p text from ≡ []
 over-told waiting l ns s text from o h = false-true (sym (ap isOver h) ∙ o)
-over-told (gathering size start marks moves) l ns s text from o h = false-true (sym (ap isOver (h .0)) ∙ o)
-over-told (playing t) l ns s text from o h = false-true (sym (ap isOver (h .0)) ∙ o)
+over-told (gathering d) l ns s text from o h = false-true (sym (ap isOver (h .stage)) ∙ o)
+over-told (playing q) l ns s text from o h = false-true (sym (ap isOver (h .0)) ∙ o)
 over-told ended l ns s text from o h = ap (map render) (none-printed (map recordOf (linesOf (drop from text))))
 
 -- a line is told by at most two
-short-pick : (b : Bool) (x y z : Line) → Short (pickLines b (x ∷ []) (y ∷ z ∷ []))
-short-pick true x y z = tt
-short-pick false x y z = tt
+short-cond : (b : Bool) (x y z : Line) → AtMostTwo (cond b (x ∷ []) (y ∷ z ∷ []))
+short-cond true x y z = tt
+short-cond false x y z = tt
 
-pub short : (task : Task) (l : Lead) (answer : Answer) (walk : List ℕ) → Short (linesFor task l answer walk)
+pub short : (task : Task) (l : Lead) (answer : Answer) (walk : List ℕ) → AtMostTwo (linesFor task l answer walk)
 short Nothing l answer walk = tt
 short (Refuse n) l answer walk = tt
-short LoadTask l answer walk = short-pick (isRefused answer) _ _ _
-short (Change op) l answer walk = tt
+short (Asks AskLoad) l answer walk = short-cond (isRefused answer) _ _ _
+short (Asks (Change op)) l answer walk = tt
+
+-- ---- what is asked of the session
+
+-- What the task asks of the session is done, or nothing is, and the list of the walk keeps its length.
+pub record Done (task : Task) (l : Lead) (ns : List ℕ) (s : Session) (walk : List ℕ) (c : Outcome) (walk′ : List ℕ) : Type 0 where
+  pub follows : Follows task l ns s walk c walk′
+  pub size : length walk′ ≡ room
+
+module _ (l : Lead) (ns walk : List ℕ) (k : length walk ≡ room) (c : Outcome) (walk′ : List ℕ) where
+  pub done-asked : (task : Task) (ask : Ask) (s : Session) (r : Outcome) (w : List ℕ) → task ≡ Asks ask → walk′ ≡ w → c ≡ r → length w ≡ length walk
+      → Serves ask l ns s walk r w → Done task l ns s walk c walk′
+  done-asked task ask s r w e f g h v = rw (e, f, g) (record { follows = v; size = h ∙ k })
+
+  -- the tags of the tasks that ask nothing
+  pub done-not : (task : Task) (c₀ : Outcome) → OneOf (0 ∷ 1 ∷ []) (tagOf the-type task) → walk′ ≡ walk → c ≡ c₀ → Done task l ns (c₀ .session) walk c walk′
+  done-not Nothing c₀ o f g = record { follows = ap (λ (x : Outcome). x .session) g; size = ap length f ∙ k }
+  done-not (Refuse n) c₀ o f g = record { follows = ap (λ (x : Outcome). x .session) g; size = ap length f ∙ k }
+  done-not (Asks ask) c₀ o f g = absurd (⊎-elim (λ z. omega arith) (λ z. omega arith) o)
 
 -- ---- behind one line
 
 -- what is held, and the lines at the head of the buffer
-pub record Behind (p : Held) (r : Record) (ns : List ℕ) (s : Session) (d : List ℕ) (w : Written) : Type 0 where
+pub record Behind (p : Held) (r : Record) (ns : List ℕ) (s : Session) (d d′ : List ℕ) (w : Written) : Type 0 where
   pub tracks : Tracks (w .lead) ns s (step p r .next)
-  pub laid : Laid (step p r .lines) d (w .first) (w .len)
-  pub few : Short (step p r .lines)
+  pub laid : Laid (step p r .lines) d d′ (w .first) (w .len)
+  pub few : AtMostTwo (step p r .lines)
 
 -- the three functions of a line, one after the other
-pub behind : (l : Lead) (ns : List ℕ) (s : Session) (p : Held) (walk : List ℕ) (r : Record) (plan : Plan) (ns′ : List ℕ) (c : Outcome) (walk′ d : List ℕ) (w : Written)
-    → length ns ≡ 4096 → length walk ≡ 512 → Tracks l ns s p → plan ≡ asked l r → Filed ns (l .count) (r .first) (r .second) ns′ → Serves plan ns′ s walk c walk′
-    → Told (leadFor (plan .task) (plan .lead) (c .answer)) (linesFor (plan .task) (plan .lead) (c .answer) walk′) d w
-    → Behind p r ns′ (c .session) d w
-behind l ns s p walk r plan ns′ c walk′ d w n k h e f v t =
-    let q = asked l r in
-    let v′ : Serves q ns′ s walk c walk′ = subst (λ (x : Plan). Serves x ns′ s walk c walk′) e v in
-    let t′ : Told (leadFor (q .task) (q .lead) (c .answer)) (linesFor (q .task) (q .lead) (c .answer) walk′) d w =
-    subst (λ (x : Plan). Told (leadFor (x .task) (x .lead) (c .answer)) (linesFor (x .task) (x .lead) (c .answer) walk′) d w) e t in
-    let m = stepped l ns s p walk r ns′ c walk′ n k h f v′ in
-    record {
-      tracks = subst⁻¹ (λ (x : Lead). Tracks x ns′ (c .session) (step p r .next)) (t′ .goes) (m .0);
-      laid = subst (λ (x : List Line). Laid x d (w .first) (w .len)) (m .1) (t′ .laid);
-      few = subst Short (m .1) (short (q .task) (q .lead) (c .answer) walk′);
-    }
+module _ (l : Lead) (ns : List ℕ) (s : Session) (p : Held) (walk : List ℕ) (r : Record) (ns′ : List ℕ) (c : Outcome) (walk′ d d′ : List ℕ) (w : Written)
+    (n : length ns ≡ numbersMost) (k : length walk ≡ room) (b : length d ≡ bufferMost) (h : Tracks l ns s p) (f : ns′ ≡ filedMove l r ns) where
+  behind-asked : Done (asked l r .task) l ns′ s walk c walk′ → Writes (asked l r) (c .answer) walk′ d d′ w → Behind p r ns′ (c .session) d d′ w
+  behind-asked v t =
+      let q = asked l r in
+      let m = stepped l ns s p walk r ns′ c walk′ n k h f (v .follows) in
+      let k′ = v .size in
+      let lines : linesTold q (c .answer) walk′ (length d) ≡ step p r .lines = sym (told-lines q (c .answer) walk′ (length d) (omega arith) (omega arith)) ∙ m .1 in
+      record {
+        tracks = subst⁻¹ (λ (x : Lead). Tracks x ns′ (c .session) (step p r .next)) (t .goes) (m .0);
+        laid = subst (λ (x : List Line). Laid x d d′ (w .first) (w .len)) lines (t .laid);
+        few = subst AtMostTwo (m .1) (short (q .task) (q .lead) (c .answer) walk′);
+      }
+
+  pub behind : (plan : Plan) → plan ≡ asked l r → Done (plan .task) l ns′ s walk c walk′ → Writes plan (c .answer) walk′ d d′ w → Behind p r ns′ (c .session) d d′ w
+  behind plan e v t = behind-asked (subst (λ (x : Plan). Done (x .task) l ns′ s walk c walk′) e v) (subst (λ (x : Plan). Writes x (c .answer) walk′ d d′ w) e t)

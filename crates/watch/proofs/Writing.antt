@@ -1,27 +1,29 @@
 -- Laws of the lines that tell an answer: how long they are, and where they lie in the buffer. Assumes nothing.
 use mathlib.Core.Path.{_≡_, refl, sym, ap, _∙_}
-use mathlib.Core.Bool.{Bool, true, false}
+use mathlib.Core.Bool.{and-false}
 use mathlib.Core.List.{List, [], _∷_, _++_, append-nil}
 use Prim.Native.Nat.{ℕ, zero, suc, _+_, _≤_, _<_, min}
 use native.Mathlib.Nat.{min-le-right, min-eq-left, min-eq-right}
 use native.Mathlib.Decide.{decLe}
 use native.Mathlib.Omega.{arith}
+use borrow.Author.Tests.{le-leb, lt-leb}
+use lib.Dec.{leb}
 use lib.ListN.{length, getD, take}
 use lib.Seq.{length-take-le, take-all}
 use Rattle.plain.specs.Table.{accepts, acceptingCount}
-use Rattle.plain.specs.Machine.{Line, roundLine, noneLine, noLine}
+use Rattle.plain.specs.Machine.{numbered, Line, roundLine, noneLine, noLine}
 use Rattle.marks.proofs.Counts.{count-le}
-use Rattle.answer.specs.Bytes.{Put}
-use Rattle.answer.specs.Rendering.{render}
-use Rattle.answer.proofs.Laws.{put-then, take-put, length-round}
+use Rattle.answer.specs.Bytes.{overwritten, Put}
+use Rattle.answer.specs.Rendering.{render, rendered}
+use Rattle.answer.proofs.Laws.{put-then, put-none, length-round}
 use Rattle.session.specs.declared.Answer.{Answer}
 use Rattle.session.specs.declared.Answer.the-variants.{Refused, Clear, Round}
-use Rattle.watch.specs.Model.{lineSaid, staged, pickStage, pickLines, linesFor, leadFor, Laid, Told}
-use Rattle.watch.specs.declared.Stage.the-variants.{Over, Playing}
-use Rattle.watch.specs.declared.Lead.{Lead}
-use Rattle.watch.specs.declared.Task.{Task}
-use Rattle.watch.specs.declared.Task.the-variants.{Nothing}
-use Rattle.watch.specs.declared.Written.{Written}
+use Rattle.session.specs.declared.Refusal.{Refusal}
+use Rattle.session.specs.Promises.{shown}
+use Rattle.watch.specs.declared.Plan.{Plan}
+use Rattle.watch.specs.declared.Lengths.{Lengths}
+use Rattle.watch.specs.Text.{room}
+use Rattle.watch.specs.Model.{bufferMost, linesFor, linesTold, Laid}
 
 -- ---- the walk, as far as it goes
 
@@ -66,38 +68,42 @@ round-short s k st c n m walk p q r t h w e =
 pub put-as : (d : List ℕ) (at : ℕ) (l l′ : Line) (d′ : List ℕ) (r : ℕ) → l ≡ l′ → Put d at (render l) d′ r → Put d at (render l′) d′ r
 put-as d at l l′ d′ r e p = rw e at p
 
-pub said-no : (answer : Answer) (n : ℕ) (walk : List ℕ) → answer ≡ Refused n → noLine n ≡ lineSaid answer walk
-unfolding lineSaid
-said-no answer n walk e = rw e
+pub said-no : (answer : Answer) (r : Refusal) (walk : List ℕ) → answer ≡ Refused r → noLine (numbered (r .number)) ≡ shown answer walk
+unfolding shown
+said-no answer r walk e = rw e
 
-pub said-none : (answer : Answer) (s k : ℕ) (walk : List ℕ) → answer ≡ Clear s k → noneLine s k ≡ lineSaid answer walk
-unfolding lineSaid
+pub said-none : (answer : Answer) (s k : ℕ) (walk : List ℕ) → answer ≡ Clear s k → noneLine s k ≡ shown answer walk
+unfolding shown
 said-none answer s k walk e = rw e
 
 pub said-round : (answer : Answer) (s k st c n m : ℕ) (walk : List ℕ) → answer ≡ Round s k st c → n ≡ min m (length walk) → m ≡ st + c
-    → roundLine s k st c (take n walk) ≡ lineSaid answer walk
-unfolding lineSaid
+    → roundLine s k st c (take n walk) ≡ shown answer walk
+unfolding shown
 said-round answer s k st c n m walk e f g =
     rw (e, f) (ap (roundLine s k st c) (take-least m walk ∙ ap (λ (j : ℕ). take j walk) g))
 
 -- ---- where the lines lie
 
-pub one-line : (l : Line) (d d′ : List ℕ) (r : ℕ) → Put d 0 (render l) d′ r → r ≤ 3200 → Laid (l ∷ []) d′ r r
-one-line l d d′ r p h = record {
-  split = omega (arith, p .next);
-  ends = omega (arith, p .next);
-  fits = h;
-  bytes = take-put d (render l) d′ r p ∙ sym (append-nil (render l));
-}
+pub no-lines : (d : List ℕ) → Laid [] d d 0 0
+unfolding rendered
+no-lines d = record { made = put-none d 0 .made; split = refl; ends = refl }
 
-pub two-lines : (l m : Line) (d d1 d2 : List ℕ) (r s : ℕ) → Put d 0 (render l) d1 r → Put d1 r (render m) d2 s → s ≤ 3200
-    → Laid (l ∷ m ∷ []) d2 r s
-two-lines l m d d1 d2 r s p q h = record {
-  split = omega (arith, p .next);
-  ends = omega (arith, p .next, q .next);
-  fits = h;
-  bytes = take-put d (render l ++ render m) d2 s (put-then d 0 (render l) d1 r (render m) d2 s (omega arith) p q);
-}
+pub one-line : (l : Line) (d d′ : List ℕ) (r : ℕ) → Put d 0 (render l) d′ r → Laid (l ∷ []) d d′ r r
+unfolding rendered
+one-line l d d′ r p =
+    let e : rendered (l ∷ []) ≡ render l = append-nil (render l) in
+    record { made = p .made ∙ ap (overwritten d 0) (sym e); split = omega (arith, p .next); ends = omega (arith, p .next, ap length e) }
+
+pub two-lines : (l m : Line) (d d1 d2 : List ℕ) (r s : ℕ) → Put d 0 (render l) d1 r → Put d1 r (render m) d2 s → Laid (l ∷ m ∷ []) d d2 r s
+unfolding rendered
+two-lines l m d d1 d2 r s p q =
+    let both = put-then d 0 (render l) d1 r (render m) d2 s (omega arith) p q in
+    let e : rendered (l ∷ m ∷ []) ≡ render l ++ render m = ap (λ (bs : List ℕ). render l ++ bs) (append-nil (render m)) in
+    record { made = both .made ∙ ap (overwritten d 0) (sym e); split = omega (arith, p .next); ends = omega (arith, both .next, ap length e) }
+
+-- the same lines, buffer and lengths by other names
+pub laid-as : (ls ms : List Line) (d d′ d″ : List ℕ) (n m : Lengths) → ls ≡ ms → d″ ≡ d′ → m ≡ n → Laid ls d d′ (n .first) (n .len) → Laid ms d d″ (m .first) (m .len)
+laid-as ls ms d d′ d″ n m e f g h = rw (← e, f, g) h
 
 -- ---- the paying states are at most 512
 
@@ -105,23 +111,17 @@ pub few-paying : (words : List ℕ) → acceptingCount words ≤ 512
 unfolding acceptingCount
 few-paying words = count-le 512 (accepts words)
 
--- ---- what a load tells, by whether it refuses
+-- ---- by whether there is room
 
-module _ (l l′ : Lead) (ls ms : List Line) (b : Bool) (d : List ℕ) where
-  pub refused-told : (r : Written) → b ≡ true → l′ ≡ staged Over l → Told l′ ls d r
-      → Told (staged (pickStage b Over Playing) l) (pickLines b ls ms) d r
-  refused-told r e f t = rw e record { goes = t .goes ∙ f; laid = t .laid }
+module _ (p : Plan) (answer : Answer) (walk : List ℕ) (size : ℕ) where
+  pub told-lines : length walk ≤ room → bufferMost ≤ size → linesFor (p .task) (p .lead) answer walk ≡ linesTold p answer walk size
+  unfolding linesTold
+  told-lines h k = rw (le-leb (length walk) room h, le-leb bufferMost size k)
 
-  pub accepted-told : (first len : ℕ) → b ≡ false → l′ ≡ staged Playing l → Laid ms d first len
-      → Told (staged (pickStage b Over Playing) l) (pickLines b ls ms) d (record { lead = l′; first = first; len = len })
-  accepted-told first len e f t = rw e record { goes = f; laid = t }
+  pub long-walk : room < length walk → [] ≡ linesTold p answer walk size
+  unfolding linesTold
+  long-walk h = rw (lt-leb (length walk) room h)
 
--- ---- what is told, by the task
-
-pub told-as : (task task′ : Task) (l : Lead) (answer : Answer) (walk d : List ℕ) (r : Written) → task ≡ task′
-    → Told (leadFor task′ l answer) (linesFor task′ l answer walk) d r → Told (leadFor task l answer) (linesFor task l answer walk) d r
-told-as task task′ l answer walk d r e t = rw e t
-
-pub nothing-told : (l : Lead) (answer : Answer) (walk d : List ℕ)
-    → Told (leadFor Nothing l answer) (linesFor Nothing l answer walk) d (record { lead = l; first = 0; len = 0 })
-nothing-told l answer walk d = record { goes = refl; laid = record { split = refl; ends = refl; fits = omega arith; bytes = refl } }
+  pub short-buffer : size < bufferMost → [] ≡ linesTold p answer walk size
+  unfolding linesTold
+  short-buffer h = rw (lt-leb bufferMost size h, and-false (leb (length walk) room))

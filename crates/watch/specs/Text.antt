@@ -9,7 +9,7 @@ use Rattle.plain.specs.Lists.{any}
 use Rattle.plain.specs.Search.{Edge}
 use Rattle.plain.specs.Table.{Table, withMark, acceptingCount}
 use Rattle.plain.specs.Refusals.{Trial, accepted, refused, Load, loadTrial, full}
-use Rattle.plain.specs.Machine.{Change, add, cut, tableOf, loadAnswer, answerTo, tableAfter, Line, gameLine, noLine, answerLine}
+use Rattle.plain.specs.Machine.{Change, add, cut, numbered, tableOf, loadAnswer, answerTo, tableAfter, Line, gameLine, noLine, answerLine}
 use Rattle.line.specs.Fields.{newline, linesOf}
 use Rattle.line.specs.Words.{isWord}
 use Rattle.line.specs.Records.{recordOf}
@@ -18,32 +18,43 @@ use Rattle.line.specs.declared.Record.{Record}
 use Rattle.answer.specs.Bytes.{overwritten}
 use Rattle.answer.specs.Rendering.{render}
 
+-- What is gathered before `go`: N, the start state, the paying marks and the moves so far. Tickets of document 02 add to it.
+pub record Draft : Type 0 where
+  pub size : ℕ
+  pub start : ℕ
+  pub marks : List ℕ
+  pub moves : List Edge
+
+-- What is held while playing: the plain table. Tickets of document 02 add to it.
+pub record Play : Type 0 where
+  pub table : Table
+
 -- What the box holds from one line to the next.
-pub data Lead : Type 0 where
+pub data Held : Type 0 where
   -- no line was read
-  waiting : Lead
-  -- a `game` was read: N, the start state, the paying marks and the moves so far
-  gathering : ℕ → ℕ → List ℕ → List Edge → Lead
-  -- a `go` was accepted: the plain table
-  playing : Table → Lead
+  waiting : Held
+  -- a `game` was read
+  gathering : Draft → Held
+  -- a `go` was accepted
+  playing : Play → Held
   -- a line was refused before or at `go`
-  ended : Lead
+  ended : Held
 
 -- What one line gives: the lines written, and what is held then.
 pub record Step : Type 0 where
   pub lines : List Line
-  pub next : Lead
+  pub next : Held
 
-abbrev pub quiet : Lead → Step
+abbrev pub quiet : Held → Step
 quiet next = record { lines = []; next = next }
+
+-- "or `no` and the refusal number"
+abbrev pub noStep : ℕ → Held → Step
+noStep n next = record { lines = noLine (numbered n) ∷ []; next = next }
 
 -- "A refusal up to and with `go` is written as a `no` line and ends the program"
 abbrev pub stop : ℕ → Step
-stop n = record { lines = noLine n ∷ []; next = ended }
-
-abbrev pub pickStep : Bool → Step → Step → Step
-pickStep true a b = a
-pickStep false a b = b
+stop n = noStep n ended
 
 abbrev pub empty : List Edge → Bool
 empty [] = true
@@ -58,51 +69,64 @@ unfoldable pub flat : List Edge → List ℕ
 flat [] = []
 flat (e ∷ es) = e .0 ∷ e .1 ∷ flat es
 
--- "An accepted load writes `game`, N, the count of moves and the count of paying states. Then come the load's answer .."
-abbrev pub loadStep : Trial → Load → List Edge → Step
-loadStep accepted l moves = record {
-  lines = gameLine (l .size) (length moves) (acceptingCount (l .words)) ∷ answerLine (loadAnswer accepted (tableOf l));
-  next = playing (tableOf l);
-}
-loadStep (refused n) l moves = stop n
+abbrev pub loadOf : Draft → Load
+loadOf d = record { size = d .size; start = d .start; words = d .marks; numbers = flat (d .moves) }
 
-abbrev pub loadOf : ℕ → ℕ → List ℕ → List Edge → Load
-loadOf size start marks moves = record { size = size; start = start; words = marks; numbers = flat moves }
+abbrev pub playOf : Table → Play
+playOf t = record { table = t }
+
+-- "An accepted load writes `game`, N, the count of moves and the count of paying states. Then come the load's answer .."
+abbrev pub loadStep : Trial → Draft → Step
+loadStep accepted d = record {
+  lines = gameLine (d .size) (length (d .moves)) (acceptingCount (d .marks)) ∷ answerLine (loadAnswer accepted (tableOf (loadOf d)));
+  next = playing (playOf (tableOf (loadOf d)));
+}
+loadStep (refused n) d = stop n
+
+-- "`game` (N, start)": no mark and no move yet
+abbrev pub draftOf : Record → Draft
+draftOf r = record { size = r .first; start = r .second; marks = replicate 8 0; moves = [] }
+
+abbrev pub withPay : Record → Draft → Draft
+withPay r d = record { size = d .size; start = d .start; marks = withMark (d .marks) (r .first); moves = d .moves }
+
+abbrev pub withMove : Record → Draft → Draft
+withMove r d = record { size = d .size; start = d .start; marks = d .marks; moves = d .moves ++ ((r .first, r .second) ∷ []) }
 
 -- "Order: one `game`": any other word is misplaced
 unfoldable pub atFirst : Record → Step
-atFirst r = pickStep (isWord (r .word) Game) (quiet (gathering (r .first) (r .second) (replicate 8 0) [])) (stop 1)
+atFirst r = cond (isWord (r .word) Game) (quiet (gathering (draftOf r))) (stop 1)
 
 -- ".. any `pay`, any `move`, one `go`": a `pay` behind a `move` is misplaced; "a 2,049th `move` line gets 5 as it is read"
-unfoldable pub beforeGo : ℕ → ℕ → List ℕ → List Edge → Record → Step
-beforeGo size start marks moves r =
-    pickStep (isWord (r .word) Pay && empty moves) (quiet (gathering size start (withMark marks (r .first)) moves))
-    (pickStep (isWord (r .word) Move) (pickStep (full moves) (stop 5) (quiet (gathering size start marks (moves ++ ((r .first, r .second) ∷ [])))))
-    (pickStep (isWord (r .word) Go) (loadStep (loadTrial (loadOf size start marks moves) room) (loadOf size start marks moves) moves)
+unfoldable pub beforeGo : Draft → Record → Step
+beforeGo d r =
+    cond (isWord (r .word) Pay && empty (d .moves)) (quiet (gathering (withPay r d)))
+    (cond (isWord (r .word) Move) (cond (full (d .moves)) (stop 5) (quiet (gathering (withMove r d))))
+    (cond (isWord (r .word) Go) (loadStep (loadTrial (loadOf d) room) d)
     (stop 1)))
 
 -- ".. and one line for each change"
-abbrev pub changeStep : Change → Table → Step
-changeStep c t = record {
-  lines = answerLine (answerTo (record { change = c; room = room }) t);
-  next = playing (tableAfter (record { change = c; room = room }) t);
+abbrev pub changeStep : Change → Play → Step
+changeStep c p = record {
+  lines = answerLine (answerTo (record { change = c; room = room }) (p .table));
+  next = playing (playOf (tableAfter (record { change = c; room = room }) (p .table)));
 }
 
 -- ".. then `add` and `cut`"; "after `go` the next line is read"
-unfoldable pub afterGo : Table → Record → Step
-afterGo t r =
-    pickStep (isWord (r .word) Add) (changeStep (add (r .first, r .second)) t)
-    (pickStep (isWord (r .word) Cut) (changeStep (cut (r .first, r .second)) t)
-    (record { lines = noLine 1 ∷ []; next = playing t }))
+unfoldable pub afterGo : Play → Record → Step
+afterGo p r =
+    cond (isWord (r .word) Add) (changeStep (add (r .first, r .second)) p)
+    (cond (isWord (r .word) Cut) (changeStep (cut (r .first, r .second)) p)
+    (noStep 1 (playing p)))
 
-unfoldable pub step : Lead → Record → Step
+unfoldable pub step : Held → Record → Step
 step waiting r = atFirst r
-step (gathering size start marks moves) r = beforeGo size start marks moves r
-step (playing t) r = afterGo t r
+step (gathering d) r = beforeGo d r
+step (playing p) r = afterGo p r
 step ended r = quiet ended
 
 -- the lines written for the records, one after the other
-unfoldable pub printed : Lead → List Record → List Line
+unfoldable pub printed : Held → List Record → List Line
 printed held [] = []
 printed held (r ∷ rs) = step held r .lines ++ printed (step held r .next) rs
 
@@ -138,14 +162,17 @@ stopped space [] = 0
 stopped space (l ∷ ls) = cond (leb (length l) space) (stopped (space - length l) ls) 1
 
 -- "It uses at most the first 65,536 bytes of the output"
-abbrev pub space : List ℕ → ℕ
-space out = min (length out) 65536
+abbrev pub outputMost : ℕ
+outputMost = 65536
+
+abbrev pub spaceOf : List ℕ → ℕ
+spaceOf out = min (length out) outputMost
 
 -- "changes none after the last whole line that fits, and returns twice the bytes written, plus 1 where 12 stopped it"
 pub record Fitted (ls : List (List ℕ)) (space : ℕ) (out out′ : List ℕ) (r : ℕ) : Type 0 where
   pub made : out′ ≡ overwritten out 0 (fitted space ls)
   pub told : r ≡ 2 * length (fitted space ls) + stopped space ls
 
--- "Bench programs in C call the same watch with a whole text and an output": "It uses at most the first 65,536 bytes of the output"
+-- "Bench programs in C call the same watch with a whole text and an output"
 abbrev pub Watched : List ℕ → List ℕ → List ℕ → ℕ → Type 0
-Watched text out out′ r = Fitted (output text) (min (length out) 65536) out out′ r
+Watched text out out′ r = Fitted (output text) (spaceOf out) out out′ r

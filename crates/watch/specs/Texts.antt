@@ -2,12 +2,12 @@
 use Prim.Native.String.{String}
 use mathlib.Core.List.{List, [], _∷_}
 
--- a text, and the lines written for it
-pub record Exchange : Type 0 where
+-- a text that is sent, and the lines written for it
+pub record Dialogue : Type 0 where
   pub sent : String
   pub written : List String
 
-unfoldable pub games : List Exchange
+unfoldable pub games : List Dialogue
 games =
     -- A
     record {

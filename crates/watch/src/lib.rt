@@ -6,19 +6,34 @@ use search::wide;
 use session::Answer;
 use session::Op;
 use session::Outcome;
+use session::Refusal;
 use session::Session;
 ghost use mathlib.Core.Path.{_≡_};
 ghost use mathlib.Core.List.{_∷_, []};
-ghost use Prim.Native.Nat.{_+_, _-_, _≤_, _<_, min};
+ghost use Prim.Native.Nat.{_≤_, min};
 ghost use lib.ListN.{length, take};
 ghost use Rattle.answer.specs.Bytes.{Put};
 ghost use Rattle.answer.specs.Rendering.{render};
 ghost use Rattle.line.specs.Records.{recordOf};
-ghost use Rattle.watch.specs.Model.{firstLead, staged as Model·staged, held as Model·held, refusing as Model·refusing, changing as Model·changing, askedFirst, askedMove, askedBefore, askedAfter, asked, Filed, Serves, lineSaid, isRefused, leadFor, linesFor, Told, isOver, fits};
-ghost use Rattle.watch.specs.Text.{counted, outputOf, Fitted, Watched};
+ghost use Rattle.session.specs.Promises.{shown};
+ghost use Rattle.session.specs.Model.{noGame};
+ghost use Rattle.watch.specs.Model.{firstLead, staged as Model·staged, noTask, refusing as Model·refusing, changing as Model·changing, isFull, askedFirst, askedMove, askedBefore, askedAfter, asked, takesMove, filedMove, Serves, isRefused, gameMost, bufferMost, linesFor, linesOfLoad, leadLoaded, leadFor, Laid, Writes, isOver, fits};
+ghost use Rattle.watch.specs.Text.{room, counted, outputOf, outputMost, Fitted, Watched};
 
 // "An input of more than 4,294,967,295 bytes counts as ending behind the last newline among these."
-const LIMIT: usize = 4294967295;
+pub const LIMIT: usize = 4294967295;
+
+// "It uses at most the first 65,536 bytes of the output"
+const OUTPUT: usize = 65536;
+
+// The numbers of 2,048 moves.
+pub const NUMBERS: usize = 4096;
+
+// The box's own list for the walk has an entry for each of 512 states.
+pub const WALK: usize = 512;
+
+// The lines that tell an answer have no more bytes: 23 for `game`, and 30 and 6 for each entry of the walk.
+pub const LINES: usize = 3200;
 
 // How far the lead has come: no line yet, before `go`, after it, or past a refusal that ends the run.
 pub enum Stage {
@@ -38,22 +53,31 @@ pub struct Lead {
 }
 
 // What a line asks of the session.
-pub enum Task {
-    Nothing,
-    Refuse(u16),
+pub enum Ask {
     Load,
     Change(Op),
 }
 
-// What is held behind a line, unless the load refuses, and what is to be done.
-pub struct Plan {
-    lead: Lead,
-    task: Task,
-    from: u16,
-    to: u16,
+// What is to be done for a line. Only what asks something reaches the session.
+pub enum Task {
+    Nothing,
+    Refuse(Refusal),
+    Ask(Ask),
 }
 
-// What is held behind a line, and the lengths of its first output line and of both.
+// What is held behind a line, unless the load refuses, and what is to be done.
+pub struct Plan {
+    pub lead: Lead,
+    pub task: Task,
+}
+
+// The lengths of a first line and of all.
+struct Lengths {
+    first: usize,
+    len: usize,
+}
+
+// What is held behind a line, and the lengths of its first output line and of all.
 pub struct Written {
     pub lead: Lead,
     pub first: usize,
@@ -75,7 +99,7 @@ pub fn first_lead() -> Lead
 
 // What stands in place of a session before the first load: a load of nothing, which is refused.
 pub fn no_session() -> Outcome
-    ensures { λ r. ⌜ (r .answer ≡ Answer.Refused 2) × (r .session .size ≡ 0) ⌝ }
+    ensures { λ r. ⌜ r .session ≡ noGame ⌝ }
 {
     let numbers: [u16; 1] = [0; 1];
     let mut lent: [u16; 1] = [0; 1];
@@ -95,15 +119,13 @@ fn staged(stage: Stage, lead: Lead) -> Lead
     }
 }
 
-// Nothing is asked, and this is held.
-fn held(lead: Lead) -> Plan
-    ensures { λ r. ⌜ r ≡ Model·held lead ⌝ }
+// Nothing is to be done, and this is held.
+fn no_task(lead: Lead) -> Plan
+    ensures { λ r. ⌜ r ≡ noTask lead ⌝ }
 {
     Plan {
         lead,
         task: Task::Nothing,
-        from: 0,
-        to: 0,
     }
 }
 
@@ -113,9 +135,7 @@ fn refusing(stage: Stage, lead: Lead, number: u16) -> Plan
 {
     Plan {
         lead: staged(stage, lead),
-        task: Task::Refuse(number),
-        from: 0,
-        to: 0,
+        task: Task::Refuse(Refusal { number }),
     }
 }
 
@@ -125,7 +145,7 @@ fn ask_first(lead: Lead, r: Record) -> Plan
 {
     let word = r.word;
     if is_word(word, Word::Game) {
-        return held(Lead {
+        return no_task(Lead {
             stage: Stage::Gathering,
             size: r.first,
             start: r.second,
@@ -136,15 +156,22 @@ fn ask_first(lead: Lead, r: Record) -> Plan
     refusing(Stage::Over, lead, 1)
 }
 
-// A `move` before `go`: there is room for 2,048.
+// Are there 2,048 moves?
+fn is_full(lead: Lead) -> bool
+    ensures { λ r. ⌜ r ≡ isFull lead ⌝ }
+{
+    NUMBERS <= wide(lead.count)
+}
+
+// A `move` before `go`: "a 2,049th `move` line gets 5 as it is read"
 fn ask_move(lead: Lead) -> Plan
     ensures { λ p. ⌜ p ≡ askedMove lead ⌝ }
 {
-    if 4096 <= lead.count {
+    if is_full(lead) {
         return refusing(Stage::Over, lead, 5);
     }
     let words = lead.words;
-    held(Lead {
+    no_task(Lead {
         stage: Stage::Gathering,
         size: lead.size,
         start: lead.start,
@@ -162,7 +189,7 @@ fn ask_before(lead: Lead, r: Record) -> Plan
         if lead.count == 0 {
             let words = lead.words;
             let marked = marks::with_mark(words, wide(r.first));
-            return held(Lead {
+            return no_task(Lead {
                 stage: Stage::Gathering,
                 size: lead.size,
                 start: lead.start,
@@ -177,23 +204,19 @@ fn ask_before(lead: Lead, r: Record) -> Plan
     if is_word(word, Word::Go) {
         return Plan {
             lead,
-            task: Task::Load,
-            from: 0,
-            to: 0,
+            task: Task::Ask(Ask::Load),
         };
     }
     refusing(Stage::Over, lead, 1)
 }
 
-// A change of the session.
-fn changing(lead: Lead, op: Op, r: Record) -> Plan
-    ensures { λ p. ⌜ p ≡ Model·changing op lead r ⌝ }
+// A change is asked of the session.
+fn changing(lead: Lead, op: Op) -> Plan
+    ensures { λ p. ⌜ p ≡ Model·changing op lead ⌝ }
 {
     Plan {
         lead,
-        task: Task::Change(op),
-        from: r.first,
-        to: r.second,
+        task: Task::Ask(Ask::Change(op)),
     }
 }
 
@@ -202,40 +225,60 @@ fn ask_after(lead: Lead, r: Record) -> Plan
     ensures { λ p. ⌜ p ≡ askedAfter lead r ⌝ }
 {
     let word = r.word;
+    let from = r.first;
+    let to = r.second;
     if is_word(word, Word::Add) {
-        return changing(lead, Op::Add, r);
+        return changing(lead, Op::Add { from, to });
     }
     if is_word(word, Word::Cut) {
-        return changing(lead, Op::Cut, r);
+        return changing(lead, Op::Cut { from, to });
     }
     refusing(Stage::Playing, lead, 1)
 }
 
-// Puts two numbers behind the first so many of the list, where there is room.
-fn file(numbers: &mut [u16], at: usize, first: u16, second: u16)
-    ensures { λ r. ⌜ Filed (now (numbers .entry)) at first second (now (numbers .exit)) ⌝ }
+// Is the line a `move` that is taken?
+fn takes_move(lead: Lead, r: Record) -> bool
+    ensures { λ b. ⌜ b ≡ takesMove lead r ⌝ }
 {
-    if at < 4095 {
-        if 4096 <= numbers.len() {
-            numbers[at] = first;
-            numbers[at + 1] = second;
+    if is_full(lead) {
+        return false;
+    }
+    let word = r.word;
+    let stage = lead.stage;
+    match stage {
+        Stage::Waiting => false,
+        Stage::Gathering => is_word(word, Word::Move),
+        Stage::Playing => false,
+        Stage::Over => false,
+    }
+}
+
+// Files the numbers of a `move` that is taken behind those of the moves before it, where the list has room.
+fn file_move(lead: Lead, r: Record, numbers: &mut [u16])
+    ensures { λ p. ⌜ now (numbers .exit) ≡ filedMove lead r (now (numbers .entry)) ⌝ }
+{
+    if takes_move(lead, r) {
+        let at = wide(lead.count);
+        if at + 1 < numbers.len() {
+            numbers[at] = r.first;
+            numbers[at + 1] = r.second;
         }
     }
 }
 
-// What a line asks for. Its numbers stand behind those of the moves so far, and count if the plan says so.
+// What a line asks for, and the moves' numbers behind it.
 pub fn read(lead: Lead, numbers: &mut [u16], bytes: &[u8]) -> Plan
     ensures { λ p. ⌜ p ≡ asked lead (recordOf (now (bytes .entry))) ⌝ }
-    ensures { λ p. ⌜ Filed (now (numbers .entry)) (lead .count) (recordOf (now (bytes .entry)) .first) (recordOf (now (bytes .entry)) .second) (now (numbers .exit)) ⌝ }
+    ensures { λ p. ⌜ now (numbers .exit) ≡ filedMove lead (recordOf (now (bytes .entry))) (now (numbers .entry)) ⌝ }
 {
     let r = line::read_record(bytes);
-    file(numbers, wide(lead.count), r.first, r.second);
+    file_move(lead, r, numbers);
     let stage = lead.stage;
     match stage {
         Stage::Waiting => ask_first(lead, r),
         Stage::Gathering => ask_before(lead, r),
         Stage::Playing => ask_after(lead, r),
-        Stage::Over => held(lead),
+        Stage::Over => no_task(lead),
     }
 }
 
@@ -245,27 +288,17 @@ fn least(a: usize, b: usize) -> usize
     if a < b { a } else { b }
 }
 
-// What the session answers. Where nothing is asked of it, it is handed back.
-pub fn serve(s: Session, plan: Plan, numbers: &[u16], walk: &mut [u16]) -> Outcome
-    ensures { λ r. ⌜ Serves plan (now (numbers .entry)) s (now (walk .entry)) r (now (walk .exit)) ⌝ }
+// What the session answers to what is asked of it.
+pub fn serve(s: Session, lead: Lead, ask: Ask, numbers: &[u16], walk: &mut [u16]) -> Outcome
+    ensures { λ r. ⌜ Serves ask lead (now (numbers .entry)) s (now (walk .entry)) r (now (walk .exit)) ⌝ }
 {
-    let task = plan.task;
-    match task {
-        Task::Nothing => Outcome {
-            answer: Answer::Refused(0),
-            session: s,
-        },
-        Task::Refuse(n) => Outcome {
-            answer: Answer::Refused(n),
-            session: s,
-        },
-        Task::Load => {
-            let lead = plan.lead;
+    match ask {
+        Ask::Load => {
             let words = lead.words;
             let n = least(wide(lead.count), numbers.len());
             session::load(lead.size, lead.start, words, &numbers[..n], walk)
         }
-        Task::Change(op) => session::change(s, op, plan.from, plan.to, walk),
+        Ask::Change(op) => session::change(s, op, walk),
     }
 }
 
@@ -273,7 +306,7 @@ fn is_refused(answer: Answer) -> bool
     ensures { λ r. ⌜ r ≡ isRefused answer ⌝ }
 {
     match answer {
-        Answer::Refused(n) => true,
+        Answer::Refused(refusal) => true,
         Answer::Clear { spent, kept } => false,
         Answer::Round {
             spent,
@@ -286,12 +319,11 @@ fn is_refused(answer: Answer) -> bool
 
 // Puts the line of an answer at a place.
 fn put_answer(out: &mut [u8], at: usize, answer: Answer, walk: &[u16]) -> usize
-    requires { ⌜ (length (now walk) ≤ 512) × (at ≤ 23) × (3200 ≤ length (now out)) ⌝ }
-    ensures { λ r. ⌜ Put (now (out .entry)) at (render (lineSaid answer (now (walk .entry)))) (now (out .exit)) r ⌝ }
-    ensures { λ r. ⌜ r ≤ 3200 ⌝ }
+    requires { ⌜ (length (now walk) ≤ room) × (at ≤ gameMost) × (bufferMost ≤ length (now out)) ⌝ }
+    ensures { λ r. ⌜ Put (now (out .entry)) at (render (shown answer (now (walk .entry)))) (now (out .exit)) r ⌝ }
 {
     match answer {
-        Answer::Refused(n) => answer::put_no(out, at, n),
+        Answer::Refused(refusal) => answer::put_no(out, at, refusal.number),
         Answer::Clear { spent, kept } => answer::put_none(out, at, spent, kept),
         Answer::Round {
             spent,
@@ -305,54 +337,88 @@ fn put_answer(out: &mut [u8], at: usize, answer: Answer, walk: &[u16]) -> usize
     }
 }
 
-// One line that tells the answer.
-fn write_one(lead: Lead, answer: Answer, walk: &[u16], out: &mut [u8]) -> Written
-    requires { ⌜ (length (now walk) ≤ 512) × (3200 ≤ length (now out)) ⌝ }
-    ensures { λ r. ⌜ Told lead (lineSaid answer (now (walk .entry)) ∷ []) (now (out .exit)) r ⌝ }
+// The line of an answer at the head of a buffer.
+fn put_one(answer: Answer, walk: &[u16], out: &mut [u8]) -> Lengths
+    requires { ⌜ (length (now walk) ≤ room) × (bufferMost ≤ length (now out)) ⌝ }
+    ensures { λ r. ⌜ Laid (shown answer (now (walk .entry)) ∷ []) (now (out .entry)) (now (out .exit)) (r .first) (r .len) ⌝ }
 {
     let n = put_answer(out, 0, answer, walk);
-    Written {
-        lead,
-        first: n,
-        len: n,
-    }
+    Lengths { first: n, len: n }
 }
 
-// The lines of a load: `game` and the answer, or the refusal, which ends the run.
-fn write_load(lead: Lead, answer: Answer, walk: &[u16], out: &mut [u8]) -> Written
-    requires { ⌜ (length (now walk) ≤ 512) × (3200 ≤ length (now out)) ⌝ }
-    ensures { λ r. ⌜ Told (leadFor Task.Load lead answer) (linesFor Task.Load lead answer (now (walk .entry))) (now (out .exit)) r ⌝ }
+// The lines of a load: `game` and the answer, or the refusal.
+fn put_load(lead: Lead, answer: Answer, walk: &[u16], out: &mut [u8]) -> Lengths
+    requires { ⌜ (length (now walk) ≤ room) × (bufferMost ≤ length (now out)) ⌝ }
+    ensures { λ r. ⌜ Laid (linesOfLoad lead answer (now (walk .entry))) (now (out .entry)) (now (out .exit)) (r .first) (r .len) ⌝ }
 {
     if is_refused(answer) {
-        return write_one(staged(Stage::Over, lead), answer, walk, out);
+        return put_one(answer, walk, out);
     }
     let words = lead.words;
     let paying = marks::count(words) as u16;
     let n = answer::put_game(out, 0, lead.size, lead.count / 2, paying);
     let m = put_answer(out, n, answer, walk);
-    Written {
-        lead: staged(Stage::Playing, lead),
-        first: n,
-        len: m,
-    }
+    Lengths { first: n, len: m }
 }
 
-// The lines that tell what came of a line, at the head of a buffer.
-pub fn write(plan: Plan, answer: Answer, walk: &[u16], out: &mut [u8]) -> Written
-    requires { ⌜ (length (now walk) ≤ 512) × (3200 ≤ length (now out)) ⌝ }
-    ensures { λ r. ⌜ Told (leadFor (plan .task) (plan .lead) answer) (linesFor (plan .task) (plan .lead) answer (now (walk .entry))) (now (out .exit)) r ⌝ }
+// The lines that tell what came of a line.
+fn put_lines(plan: Plan, answer: Answer, walk: &[u16], out: &mut [u8]) -> Lengths
+    requires { ⌜ (length (now walk) ≤ room) × (bufferMost ≤ length (now out)) ⌝ }
+    ensures { λ r. ⌜ Laid (linesFor (plan .task) (plan .lead) answer (now (walk .entry))) (now (out .entry)) (now (out .exit)) (r .first) (r .len) ⌝ }
 {
     let lead = plan.lead;
     let task = plan.task;
     match task {
-        Task::Nothing => Written {
-            lead,
-            first: 0,
-            len: 0,
+        Task::Nothing => Lengths { first: 0, len: 0 },
+        Task::Refuse(refusal) => put_one(Answer::Refused(refusal), walk, out),
+        Task::Ask(ask) => match ask {
+            Ask::Load => put_load(lead, answer, walk, out),
+            Ask::Change(op) => put_one(answer, walk, out),
         },
-        Task::Refuse(n) => write_one(lead, answer, walk, out),
-        Task::Load => write_load(lead, answer, walk, out),
-        Task::Change(op) => write_one(lead, answer, walk, out),
+    }
+}
+
+// What is held behind a load: where it is refused, the run is over.
+fn lead_loaded(lead: Lead, answer: Answer) -> Lead
+    ensures { λ r. ⌜ r ≡ leadLoaded lead answer ⌝ }
+{
+    if is_refused(answer) {
+        return staged(Stage::Over, lead);
+    }
+    staged(Stage::Playing, lead)
+}
+
+// What is held behind a line.
+fn lead_behind(plan: Plan, answer: Answer) -> Lead
+    ensures { λ r. ⌜ r ≡ leadFor (plan .task) (plan .lead) answer ⌝ }
+{
+    let lead = plan.lead;
+    let task = plan.task;
+    match task {
+        Task::Nothing => lead,
+        Task::Refuse(refusal) => lead,
+        Task::Ask(ask) => match ask {
+            Ask::Load => lead_loaded(lead, answer),
+            Ask::Change(op) => lead,
+        },
+    }
+}
+
+// The lines that tell what came of a line, at the head of a buffer, and what is held behind it. Where the buffer is shorter than LINES bytes, or the walk
+// longer than WALK entries, no line is told.
+pub fn write(plan: Plan, answer: Answer, walk: &[u16], out: &mut [u8]) -> Written
+    ensures { λ r. ⌜ Writes plan answer (now (walk .entry)) (now (out .entry)) (now (out .exit)) r ⌝ }
+{
+    let mut n = Lengths { first: 0, len: 0 };
+    if walk.len() <= WALK {
+        if LINES <= out.len() {
+            n = put_lines(plan, answer, walk, out);
+        }
+    }
+    Written {
+        lead: lead_behind(plan, answer),
+        first: n.first,
+        len: n.len,
     }
 }
 
@@ -384,12 +450,12 @@ fn fitting(space: usize, first: usize, len: usize) -> usize
 
 // All lines of a text that is within the limit, and their answers in the output as far as they fit.
 fn watch_text(text: &[u8], out: &mut [u8], space: usize) -> u64
-    requires { ⌜ (space ≤ length (now out)) × (space ≤ 65536) ⌝ }
+    requires { ⌜ (space ≤ length (now out)) × (space ≤ outputMost) ⌝ }
     ensures { λ r. ⌜ Fitted (outputOf (now (text .entry))) space (now (out .entry)) (now (out .exit)) r ⌝ }
 {
-    let mut numbers: [u16; 4096] = [0; 4096];
-    let mut walk: [u16; 512] = [0; 512];
-    let mut lines: [u8; 3200] = [0; 3200];
+    let mut numbers: [u16; NUMBERS] = [0; NUMBERS];
+    let mut walk: [u16; WALK] = [0; WALK];
+    let mut lines: [u8; LINES] = [0; LINES];
     let mut lead = first_lead();
     let mut c = no_session();
     let mut from: usize = 0;
@@ -397,7 +463,10 @@ fn watch_text(text: &[u8], out: &mut [u8], space: usize) -> u64
     while from < text.len() {
         let end = line::end_of(text, from, line::NEWLINE);
         let plan = read(lead, &mut numbers, &text[from..end]);
-        c = serve(c.session, plan, &numbers, &mut walk);
+        let task = plan.task;
+        if let Task::Ask(ask) = task {
+            c = serve(c.session, lead, ask, &numbers, &mut walk);
+        }
         let answer = c.answer;
         let w = write(plan, answer, &walk, &mut lines);
         let len = w.len;
@@ -424,10 +493,11 @@ fn counted_end(text: &[u8]) -> usize
     }
     let mut i: usize = LIMIT;
     while 0 < i {
-        if text[i - 1] == line::NEWLINE {
+        let last = i - 1;
+        if text[last] == line::NEWLINE {
             return i;
         }
-        i -= 1;
+        i = last;
     }
     0
 }
@@ -439,6 +509,6 @@ pub extern "C" fn free_round_watch(text: &[u8], out: &mut [u8]) -> u64
     ensures { λ r. ⌜ Watched (now (text .entry)) (now (out .entry)) (now (out .exit)) r ⌝ }
 {
     let end = counted_end(text);
-    let space = least(out.len(), 65536);
+    let space = least(out.len(), OUTPUT);
     watch_text(&text[..end], out, space)
 }

@@ -3,23 +3,25 @@
 use mathlib.Core.Path.{_≡_, refl, sym, ap, subst, _∙_}
 use mathlib.Core.List.{List, [], _∷_, _++_, map}
 use mathlib.Core.Bool.{true, true≢false}
+use mathlib.Core.Logic.{⊎-elim}
 use native.Mathlib.Omega.{arith}
 use borrow.Author.Needs.{needs}
 use borrow.Author.Tests.{not-false}
-use Prim.Native.Nat.{ℕ}
+use Prim.Native.Nat.{ℕ, _≤_}
 use lib.ListN.{length, replicate}
 use lib.Seq.{length-take-le}
 use Rattle.line.specs.Records.{recordOf}
 use Rattle.watch.specs.declared.Lead.{Lead}
 use Rattle.watch.specs.Text.{waiting, limit}
 use Rattle.watch.proofs.Steps.{Tracks}
-use Rattle.watch.proofs.Turns.{Behind, behind}
+use Rattle.watch.proofs.Output.{laid-within}
+use Rattle.watch.proofs.Turns.{Done, done-asked, done-not, Behind, behind}
 use Rattle.monitor.specs.declared.Status.{Status}
 use Rattle.monitor.specs.declared.Status.the-variants.{More, Line, Last, Over}
 use Rattle.monitor.specs.declared.Reader.{Reader}
 use Rattle.monitor.specs.Lines.{Within, heldIn, isLine, hasLine, heldBehind}
 use Rattle.monitor.proofs.Reading.{within-same}
-use Rattle.monitor.proofs.Printing.{Read, read-start, Come, come, onwards, printed, one-behind}
+use Rattle.monitor.proofs.Printing.{Read, read-start, Come, come, onwards, printed, told-bytes, one-behind}
 use Rattle.monitor.proofs.main.Statement.{statement}
 use Rattle.monitor.proofs.main.Tie as tie
 
@@ -86,6 +88,9 @@ slice-aggregate-read-2 c =
 read-requires : tie.Need-read-requires Inv-loop μ-loop
 read-requires c κs = search needs
 
+enum-known-task : tie.Need-enum-known-task Inv-loop μ-loop
+enum-known-task c = search needs
+
 slice-aggregate-serve : tie.Need-slice-aggregate-serve Inv-loop μ-loop
 slice-aggregate-serve c = search needs
 
@@ -95,29 +100,43 @@ slice-aggregate-serve-2 c = search needs
 serve-requires : tie.Need-serve-requires Inv-loop μ-loop
 serve-requires c κs = search needs
 
+abbrev the-loop : tie.At-match-came Inv-loop μ-loop → tie.At-loop Inv-loop μ-loop
+the-loop c = c .before .before .before .before .before .before .before .before .before .before
+
+-- what the line asks of the session is done
+served-by : (c : tie.At-match-came Inv-loop μ-loop)
+    → let r = c .before .before in
+    let l = the-loop c in
+    Done (r .read .result .task) (l .loop .lead) (r .read .last .1 .0) (l .loop .c .session) (l .loop .walk) (c .match .c) (c .match .walk)
+served-by c =
+    let r = c .before .before in
+    let l = the-loop c in
+    ⊎-elim
+    (λ w. done-asked (l .loop .lead) _ _ (l .loop .inv .1) _ _ (r .read .result .task) _ _ _ _ (w .1 .given .1) (w .7) (w .8) (w .5 .kept .1 .1 .1 .1 .0) (w .5 .ensures))
+    (λ w. done-not (l .loop .lead) _ _ (l .loop .inv .1) _ _ (r .read .result .task) (l .loop .c) (w .0 .keys2) (w .1) (w .2))
+    (c .match .came)
+
 slice-aggregate-write : tie.Need-slice-aggregate-write Inv-loop μ-loop
-slice-aggregate-write c = search needs
+slice-aggregate-write c = sym (served-by (c .before) .size)
 
 slice-aggregate-write-2 : tie.Need-slice-aggregate-write-2 Inv-loop μ-loop
-slice-aggregate-write-2 c = sym (c .before .before .before .before .before .before .before .before .before .before .before .before .before .before .before .loop .inv .2)
+slice-aggregate-write-2 c = sym (the-loop (c .before .before) .loop .inv .2)
 
 write-requires : tie.Need-write-requires Inv-loop μ-loop
-write-requires c κs =
-    let l = c .before .before .before .before .before .before .before .before .before .before .before .before .before .before .before .loop in
-    (omega (arith, c .before .before .before .serve .kept .1 .1 .1 .0, l .inv .1), omega (arith, l .inv .2))
+write-requires c κs = search needs
 
 -- the places before a line's answer is written
-abbrev served : tie.After-write Inv-loop μ-loop → tie.After-serve Inv-loop μ-loop
-served w = w .before .before .before .before
+abbrev served : tie.After-write Inv-loop μ-loop → tie.At-match-came Inv-loop μ-loop
+served w = w .before .before .before
 
 abbrev reading : tie.After-write Inv-loop μ-loop → tie.After-read Inv-loop μ-loop
-reading w = served w .before .before .before .before
+reading w = served w .before .before
 
 abbrev found : tie.After-write Inv-loop μ-loop → tie.After-next-line Inv-loop μ-loop
 found w = reading w .before .before .before .before .before
 
 abbrev at-loop : tie.After-write Inv-loop μ-loop → tie.At-loop Inv-loop μ-loop
-at-loop w = found w .before .before .before
+at-loop w = the-loop (served w)
 
 -- the lines before it, and its own
 abbrev before-it : tie.After-write Inv-loop μ-loop → List (List ℕ)
@@ -127,11 +146,11 @@ abbrev line-in : tie.After-write Inv-loop μ-loop → List ℕ
 line-in w = heldIn (found w .next-line .result) (found w .next-line .last .1 .0)
 
 told : (w : tie.After-write Inv-loop μ-loop)
-    → Behind (heldBehind waiting (map recordOf (before-it w))) (recordOf (line-in w)) (reading w .read .last .1 .0) (served w .serve .result .session) (w .write .last .1 .1 .1 .0) (w .write .result)
+    → Behind (heldBehind waiting (map recordOf (before-it w))) (recordOf (line-in w)) (reading w .read .last .1 .0) (served w .match .c .session) (at-loop w .loop .lines) (w .write .last .1 .1 .1 .0) (w .write .result)
 told w =
     let i = at-loop w .loop .inv in
-    behind _ _ _ (heldBehind waiting (map recordOf (before-it w))) _ (recordOf (line-in w)) _ _ _ _ _ _ (i .0) (i .1) (i .6 .1 .1 .1) (reading w .read .ensures .0) (reading w .read .ensures .1)
-    (served w .serve .ensures) (w .write .ensures)
+    behind (at-loop w .loop .lead) _ _ (heldBehind waiting (map recordOf (before-it w))) _ (recordOf (line-in w)) _ _ _ _ _ _ (i .0) (i .1) (i .2) (i .6 .1 .1 .1) (reading w .read .ensures .1) _ (reading w .read .ensures .0)
+    (served-by (served w)) (w .write .ensures)
 
 -- what was read, the bytes that this line took included
 abbrev seen-by : tie.After-write Inv-loop μ-loop → List ℕ
@@ -147,18 +166,37 @@ came : (w : tie.After-write Inv-loop μ-loop)
     → Come (found w .next-line .result) (found w .next-line .last .1 .0) (found w .next-line .last .0) (seen-by w) (before-it w)
 came w = come (at-loop w .loop .r) (at-loop w .loop .held) (at-loop w .loop .buf) _ _ _ _ _ (found w .next-line .ensures) (there w) (at-loop w .loop .inv .6 .1 .1 .0)
 
+-- the lines end within the buffer
+within : (w : tie.After-write Inv-loop μ-loop) → w .write .result .len ≤ length (w .write .last .1 .1 .1 .0)
+within w = laid-within _ _ _ _ _ (told w .laid)
+
+array-share-prefix-held-2 : tie.Need-array-share-prefix-held-2 Inv-loop μ-loop
+array-share-prefix-held-2 c = omega (arith, found (c .before) .next-line .ensures .within .len)
+
+slice-aggregate-print : tie.Need-slice-aggregate-print Inv-loop μ-loop
+slice-aggregate-print c =
+    let n = found (c .before .before) .next-line in
+    sym (length-take-le (n .result .len) (n .last .1 .0) (omega (arith, n .ensures .within .len, n .ensures .size)))
+
+slice-aggregate-print-2 : tie.Need-slice-aggregate-print-2 Inv-loop μ-loop
+slice-aggregate-print-2 c = sym (served-by (served (c .before .before .before)) .size)
+
 array-share-prefix-lines : tie.Need-array-share-prefix-lines Inv-loop μ-loop
-array-share-prefix-lines c = search needs
+array-share-prefix-lines c =
+    let w = c .before .before .before in
+    omega (arith, within w, w .write .kept .1 .1 .1 .0, at-loop w .loop .inv .2)
 
-slice-aggregate-write-whole : tie.Need-slice-aggregate-write-whole Inv-loop μ-loop
-slice-aggregate-write-whole c =
-    let w = c .before .before in
-    sym (length-take-le (w .write .result .len) (w .write .last .1 .1 .1 .0) (omega (arith, w .write .ensures .laid .fits, w .write .kept .1 .1 .1 .0, at-loop w .loop .inv .2)))
+slice-aggregate-print-3 : tie.Need-slice-aggregate-print-3 Inv-loop μ-loop
+slice-aggregate-print-3 c =
+    let w = c .before .before .before .before in
+    sym (length-take-le (w .write .result .len) (w .write .last .1 .1 .1 .0) (within w))
 
-write-whole-requires : tie.Need-write-whole-requires Inv-loop μ-loop
-write-whole-requires c κs =
-    let w = c .before .before in
-    printed _ _ _ _ _ _ _ _ (came w) (told w .laid) (told w .few)
+print-requires : tie.Need-print-requires Inv-loop μ-loop
+print-requires c κs =
+    let w = c .before .before .before .before in (
+      told-bytes (line-in w) _ _ _ _ _ _ _ (at-loop w .loop .inv .2) (reading w .read .ensures .0) (w .write .ensures),
+      printed _ _ _ _ _ _ _ _ _ (came w) (told w .laid),
+    )
 
 returns-2 : tie.Need-returns-2 Inv-loop μ-loop
 returns-2 c = search needs
@@ -183,7 +221,7 @@ abbrev onward : Reader → Reader
 onward r = record { at = r .at; end = r .end; len = 0; left = r .left; status = More }
 
 abbrev answered : tie.After-standing2 Inv-loop μ-loop → tie.After-write Inv-loop μ-loop
-answered c = c .before .before .before .before .before .before .before .before .before .before
+answered c = c .before .before .before .before .before .before .before .before .before .before .before .before
 
 begun : (c : tie.After-standing2 Inv-loop μ-loop) → c .standing2 .result ≡ onward (found (answered c) .next-line .result)
 begun c = c .standing2 .ensures
@@ -211,12 +249,12 @@ loop-again c =
     let i = at-loop w .loop .inv in
     let e = found w .next-line .ensures in (
       reading w .read .kept .1 .0 ∙ i .0,
-      served w .serve .kept .1 .1 .1 .0 ∙ i .1,
+      served-by (served w) .size,
       w .write .kept .1 .1 .1 .0 ∙ i .2,
       e .space,
       e .size,
       within-same (c .standing2 .result) (onward (found w .next-line .result)) 512 (begun c) (record { at = e .within .at; end = e .within .end; len = omega arith }),
-      (before-it w ++ (line-in w ∷ []), (seen-by w, (goes-on c, subst (Tracks (w .write .result .lead) (reading w .read .last .1 .0) (served w .serve .result .session)) (one-behind (before-it w) (line-in w)) (told w .tracks)))),
+      (before-it w ++ (line-in w ∷ []), (seen-by w, (goes-on c, subst (Tracks (w .write .result .lead) (reading w .read .last .1 .0) (served w .match .c .session)) (one-behind (before-it w) (line-in w)) (told w .tracks)))),
     )
 
 pub main-spec : {M : Type 1} → statement M
@@ -236,15 +274,19 @@ main-spec =
     array-share-prefix-held
     slice-aggregate-read-2
     read-requires
+    enum-known-task
     slice-aggregate-serve
     slice-aggregate-serve-2
     serve-requires
     slice-aggregate-write
     slice-aggregate-write-2
     write-requires
+    array-share-prefix-held-2
+    slice-aggregate-print
+    slice-aggregate-print-2
     array-share-prefix-lines
-    slice-aggregate-write-whole
-    write-whole-requires
+    slice-aggregate-print-3
+    print-requires
     returns-2
     is-over-requires
     returns-3

@@ -5,7 +5,7 @@ use mathlib.Core.List.{List}
 use mathlib.Core.Logic.{⊎-elim}
 use Rattle.plain.specs.Table.{withMark}
 use Rattle.watch.specs.declared.Stage.the-variants.{Gathering}
-use Rattle.watch.specs.Model.{held}
+use Rattle.watch.specs.Model.{noTask}
 use Rattle.watch.proofs.Asking.{Unpaid, before-pay, behind-moves, no-pay, before-move, before-go, before-other}
 use borrow.Author.Needs.{needs}
 use Rattle.watch.proofs.ask_before.Statement.{statement}
@@ -20,8 +20,8 @@ wide-requires c κs = search needs
 with-mark-requires : tie.Need-with-mark-requires
 with-mark-requires c κs = search needs
 
-held-requires : tie.Need-held-requires
-held-requires c κs = search needs
+no-task-requires : tie.Need-no-task-requires
+no-task-requires c κs = search needs
 
 -- past the first test the line is no `pay` that is to be taken
 unpaid : (c : tie.Joined1) → Unpaid (c .before .before .args .lead) (c .before .before .args .r)
@@ -36,8 +36,8 @@ returns c =
     let i = t .before .before .before in
     let l = i .before .args .lead in
     let marked : m .with-mark .result ≡ withMark (l .words) (i .before .args .r .first) = m .with-mark .ensures ∙ ap (withMark (l .words)) (m .before .wide .ensures .0) in
-    c .held .ensures
-    ∙ ap (λ (w : List ℕ). held (record { stage = Gathering; size = l .size; start = l .start; words = w; count = 0 })) marked
+    c .no-task .ensures
+    ∙ ap (λ (w : List ℕ). noTask (record { stage = Gathering; size = l .size; start = l .start; words = w; count = 0 })) marked
     ∙ before-pay _ _ (sym (i .is-word .ensures) ∙ t .before .before .if1 .taken) (t .if2 .taken)
 
 is-word-requires-2 : tie.Need-is-word-requires-2
@@ -72,7 +72,7 @@ ask-before-spec =
     is-word-requires
     wide-requires
     with-mark-requires
-    held-requires
+    no-task-requires
     returns
     is-word-requires-2
     ask-move-requires

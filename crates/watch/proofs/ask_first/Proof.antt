@@ -8,11 +8,11 @@ use Rattle.watch.proofs.ask_first.Tie as tie
 is-word-requires : tie.Need-is-word-requires
 is-word-requires c κs = search needs
 
-held-requires : tie.Need-held-requires
-held-requires c κs = search needs
+no-task-requires : tie.Need-no-task-requires
+no-task-requires c κs = search needs
 
 returns : tie.Need-returns
-returns c = c .held .ensures ∙ first-game _ _ (sym (c .before .before .is-word .ensures) ∙ c .before .if1 .taken)
+returns c = c .no-task .ensures ∙ first-game _ _ (sym (c .before .before .is-word .ensures) ∙ c .before .if1 .taken)
 
 refusing-requires : tie.Need-refusing-requires
 refusing-requires c κs = search needs
@@ -22,4 +22,4 @@ returns-2 c = c .refusing .ensures ∙ first-other _ _ (sym (c .before .before .
 
 pub ask-first-spec : {M : Type 1} → statement M
 ask-first-spec =
-    tie.close (tie.spec is-word-requires held-requires returns refusing-requires returns-2)
+    tie.close (tie.spec is-word-requires no-task-requires returns refusing-requires returns-2)

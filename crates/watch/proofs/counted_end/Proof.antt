@@ -20,8 +20,8 @@ returns c = (omega arith, counted-all _ (c .if1 .taken))
 loop-holds : tie.Need-loop-holds Inv-loop μ-loop
 loop-holds c = (omega arith, counted-above _ (c .if1 .left))
 
-sub-if2 : tie.Need-sub-if2 Inv-loop μ-loop
-sub-if2 c = omega arith
+sub-last : tie.Need-sub-last Inv-loop μ-loop
+sub-last c = omega arith
 
 shared-slice-read-if2 : tie.Need-shared-slice-read-if2 Inv-loop μ-loop
 shared-slice-read-if2 c = omega arith
@@ -31,9 +31,6 @@ returns-2 c =
     let t = c .before .before in
     let l = t .before in
     (l .loop .inv .0, end-here _ (l .loop .i) (t .loop-test .taken) (l .loop .inv .0) (c .if2 .taken) (l .loop .inv .1))
-
-sub-i : tie.Need-sub-i Inv-loop μ-loop
-sub-i c = omega arith
 
 loop-less : tie.Need-loop-less Inv-loop μ-loop
 loop-less c = omega arith
@@ -58,10 +55,9 @@ counted-end-spec =
     μ-loop
     returns
     loop-holds
-    sub-if2
+    sub-last
     shared-slice-read-if2
     returns-2
-    sub-i
     loop-less
     loop-again
     returns-3)

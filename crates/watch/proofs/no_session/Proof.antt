@@ -1,9 +1,7 @@
--- `watch::no_session`: a load of no states is refused with 2, and hands back no states.
+-- `watch::no_session`: a load of no states is refused with 2, and hands back no game.
 use mathlib.Core.Path.{refl}
 use borrow.Author.Needs.{needs}
 use Rattle.plain.specs.Refusals.{firstHeld, badSize, loadTrial}
-use Rattle.plain.specs.Machine.{loadAnswer}
-use Rattle.session.specs.Promises.{shown}
 use Rattle.watch.proofs.no_session.Statement.{statement}
 use Rattle.watch.proofs.no_session.Tie as tie
 
@@ -17,10 +15,8 @@ load-requires : tie.Need-load-requires
 load-requires c κs = search needs
 
 returns : tie.Need-returns
-unfolding firstHeld badSize loadTrial loadAnswer shown
-returns c =
-    let l = c .before .load .ensures in
-    (l .answers, l .empty 2 refl)
+unfolding firstHeld badSize loadTrial
+returns c = c .before .load .ensures .empty 2 refl
 
 pub no-session-spec : {M : Type 1} → statement M
 no-session-spec =

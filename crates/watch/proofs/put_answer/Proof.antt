@@ -1,11 +1,11 @@
--- `put_answer` meets its contract: the line of each answer is short enough for the buffer, and is the one that the answer says. Assumes nothing.
+-- `watch::put_answer`: the line of each answer is short enough for the buffer, and is the one that the answer says.
 use Prim.Native.Nat.{_+_, _≤_}
 use mathlib.Core.Path.{_≡_}
 use native.Mathlib.Omega.{arith}
 use denote.Ref.{now}
 use lib.ListN.{length, take}
 use borrow.Author.Needs.{needs}
-use Rattle.plain.specs.Machine.{roundLine, noneLine, noLine}
+use Rattle.plain.specs.Machine.{numbered, roundLine, noneLine, noLine}
 use Rattle.answer.specs.Rendering.{render}
 use Rattle.answer.proofs.Laws.{length-no, length-none}
 use Rattle.watch.proofs.Writing.{least-length, round-short, put-as, said-no, said-none, said-round}
@@ -16,8 +16,8 @@ enum-known-answer : tie.Need-enum-known-answer
 enum-known-answer c = search needs
 
 -- the bound on the line of a refusal
-no-short : (c : tie.After-put-no-arg) → length (render (noLine (c .before .before .answer .given .0 .0))) ≤ 9
-no-short c = length-no (c .before .before .answer .given .0 .0) (search needs)
+no-short : (c : tie.After-put-no-arg) → length (render (noLine (numbered (c .before .before .answer .given .0 .0 .number)))) ≤ 9
+no-short c = length-no (c .before .before .answer .given .0 .0 .number) (search needs)
 
 put-no-requires : tie.Need-put-no-requires
 put-no-requires c κs = omega (arith, c .before .before .before .before .before .before .pre, no-short c)
@@ -83,10 +83,8 @@ returns : tie.Need-returns
 returns c =
     let p = c .before .before in
     let a = p .before .before .before in
-    let s = a .before .before .before .before in (
-      put-as _ _ _ _ _ _ (said-no (s .args .answer) _ (now (s .args .walk)) (a .answer .given .1)) (p .put-no .ensures),
-      omega (arith, s .pre, p .put-no .ensures .next, no-short (p .before)),
-    )
+    let s = a .before .before .before .before in
+    put-as _ _ _ _ _ _ (said-no (s .args .answer) _ (now (s .args .walk)) (a .answer .given .1)) (p .put-no .ensures)
 
 same-length-2 : tie.Need-same-length-2
 same-length-2 c = search needs
@@ -95,10 +93,8 @@ returns-2 : tie.Need-returns-2
 returns-2 c =
     let p = c .before .before in
     let a = p .before .before .before in
-    let s = a .before .before .before .before in (
-      put-as _ _ _ _ _ _ (said-none (s .args .answer) _ _ (now (s .args .walk)) (a .answer2 .given .1)) (p .put-none .ensures),
-      omega (arith, s .pre, p .put-none .ensures .next, none-short (p .before)),
-    )
+    let s = a .before .before .before .before in
+    put-as _ _ _ _ _ _ (said-none (s .args .answer) _ _ (now (s .args .walk)) (a .answer2 .given .1)) (p .put-none .ensures)
 
 same-length-3 : tie.Need-same-length-3
 same-length-3 c = search needs
@@ -111,10 +107,8 @@ returns-3 c =
     let s = a .before .before .before .before in
     let sum : l .before .before .wide .result + l .before .wide2 .result ≡ a .answer3 .given .0 .1 .1 .0 + a .answer3 .given .0 .1 .1 .1 .0 =
     omega (arith, l .before .before .wide .ensures, l .before .wide2 .ensures)
-    in (
-      put-as _ _ _ _ _ _ (said-round (s .args .answer) _ _ _ _ _ _ (now (s .args .walk)) (a .answer3 .given .1) (l .least .ensures) sum) (p .put-round .ensures),
-      omega (arith, s .pre, p .put-round .ensures .next, walk-short (p .before)),
-    )
+    in
+    put-as _ _ _ _ _ _ (said-round (s .args .answer) _ _ _ _ _ _ (now (s .args .walk)) (a .answer3 .given .1) (l .least .ensures) sum) (p .put-round .ensures)
 
 pub put-answer-spec : {M : Type 1} → statement M
 put-answer-spec =

@@ -10,7 +10,7 @@ staged-requires : tie.Need-staged-requires
 staged-requires c κs = search needs
 
 returns : tie.Need-returns
-returns c = ap (λ (l : Lead). record { lead = l; task = Refuse (c .before .args .number); from = 0; to = 0 }) (c .staged .ensures)
+returns c = ap (λ (l : Lead). record { lead = l; task = Refuse (record { number = c .before .args .number }) }) (c .staged .ensures)
 
 pub refusing-spec : {M : Type 1} → statement M
 refusing-spec = tie.close (tie.spec staged-requires returns)

@@ -1,6 +1,7 @@
 -- `watch::watch_text`: what is left to be written behind `at` is what the lines from `from` on are answered with, by what is held.
 use Prim.Native.Nat.{ℕ, _+_, _-_, _≤_}
 use mathlib.Core.Path.{_≡_, refl, sym, ap, subst, _∙_}
+use mathlib.Core.Logic.{⊎-elim}
 use mathlib.Core.List.{List, [], _++_, map}
 use native.Mathlib.Omega.{arith}
 use borrow.Author.Needs.{needs}
@@ -11,10 +12,10 @@ use Rattle.line.specs.declared.Record.{Record}
 use Rattle.line.proofs.Fields.{end-within}
 use Rattle.answer.specs.Rendering.{render}
 use Rattle.watch.specs.declared.Lead.{Lead}
-use Rattle.watch.specs.Text.{Lead as Held, waiting, step, outputOf}
+use Rattle.watch.specs.Text.{Held, waiting, step, outputOf}
 use Rattle.watch.proofs.Steps.{Tracks}
-use Rattle.watch.proofs.Output.{Rest, rest-start, rest-end, all-put, not-put, fits-within}
-use Rattle.watch.proofs.Turns.{toTell, turn, told-all, over-told, Behind, behind}
+use Rattle.watch.proofs.Output.{Rest, rest-start, rest-end, all-put, not-put, fits-within, laid-within, laid-first}
+use Rattle.watch.proofs.Turns.{toTell, turn, told-all, over-told, Done, done-asked, done-not, Behind, behind}
 use Rattle.watch.proofs.watch_text.Statement.{statement}
 use Rattle.watch.proofs.watch_text.Tie as tie
 
@@ -30,11 +31,11 @@ abbrev the-start : tie.At-loop Inv-loop μ-loop → tie.Start Inv-loop μ-loop
 the-start l = l .before .before .before .before .before
 
 -- the places before a line's answer is written
-abbrev served : tie.After-write Inv-loop μ-loop → tie.After-serve Inv-loop μ-loop
-served c = c .before .before .before .before
+abbrev served : tie.After-write Inv-loop μ-loop → tie.At-match-came Inv-loop μ-loop
+served c = c .before .before .before
 
 abbrev reading : tie.After-write Inv-loop μ-loop → tie.After-read Inv-loop μ-loop
-reading c = served c .before .before .before .before
+reading c = served c .before .before
 
 abbrev ending : tie.After-write Inv-loop μ-loop → tie.After-end-of Inv-loop μ-loop
 ending c = reading c .before .before .before
@@ -77,6 +78,9 @@ part-read-end c = ends (c .before)
 read-requires : tie.Need-read-requires Inv-loop μ-loop
 read-requires c κs = search needs
 
+enum-known-task : tie.Need-enum-known-task Inv-loop μ-loop
+enum-known-task c = search needs
+
 slice-aggregate-serve : tie.Need-slice-aggregate-serve Inv-loop μ-loop
 slice-aggregate-serve c = search needs
 
@@ -86,8 +90,21 @@ slice-aggregate-serve-2 c = search needs
 serve-requires : tie.Need-serve-requires Inv-loop μ-loop
 serve-requires c κs = search needs
 
+-- what the line asks of the session is done
+served-by : (c : tie.At-match-came Inv-loop μ-loop)
+    → let r = c .before .before in
+    let l = the-loop (r .before .before .before) in
+    Done (r .read .result .task) (l .loop .lead) (r .read .last .1 .0) (l .loop .c .session) (l .loop .walk) (c .match .c) (c .match .walk)
+served-by c =
+    let r = c .before .before in
+    let l = the-loop (r .before .before .before) in
+    ⊎-elim
+    (λ w. done-asked (l .loop .lead) _ _ (l .loop .inv .3) _ _ (r .read .result .task) _ _ _ _ (w .1 .given .1) (w .7) (w .8) (w .5 .kept .1 .1 .1 .1 .0) (w .5 .ensures))
+    (λ w. done-not (l .loop .lead) _ _ (l .loop .inv .3) _ _ (r .read .result .task) (l .loop .c) (w .0 .keys2) (w .1) (w .2))
+    (c .match .came)
+
 slice-aggregate-write : tie.Need-slice-aggregate-write Inv-loop μ-loop
-slice-aggregate-write c = search needs
+slice-aggregate-write c = sym (served-by (c .before) .size)
 
 slice-aggregate-write-2 : tie.Need-slice-aggregate-write-2 Inv-loop μ-loop
 slice-aggregate-write-2 c = search needs
@@ -102,10 +119,11 @@ was c = at-loop c .loop .inv .5 .0
 abbrev line-in : tie.After-write Inv-loop μ-loop → Record
 line-in c = recordOf (take (ending c .end-of .result - at-loop c .loop .from) (drop (at-loop c .loop .from) (the-start (at-loop c) .args .text .now)))
 
-told : (c : tie.After-write Inv-loop μ-loop) → Behind (was c) (line-in c) (reading c .read .last .1 .0) (served c .serve .result .session) (c .write .last .1 .1 .1 .0) (c .write .result)
+told : (c : tie.After-write Inv-loop μ-loop)
+    → Behind (was c) (line-in c) (reading c .read .last .1 .0) (served c .match .c .session) (at-loop c .loop .lines) (c .write .last .1 .1 .1 .0) (c .write .result)
 told c =
     let i = at-loop c .loop .inv in
-    behind _ _ _ (was c) _ (line-in c) _ _ _ _ _ _ (i .2) (i .3) (i .5 .1 .0) (reading c .read .ensures .0) (reading c .read .ensures .1) (served c .serve .ensures) (c .write .ensures)
+    behind (at-loop c .loop .lead) _ _ (was c) _ (line-in c) _ _ _ _ _ _ (i .2) (i .3) (i .4) (i .5 .1 .0) (reading c .read .ensures .1) _ (reading c .read .ensures .0) (served-by (served c)) (c .write .ensures)
 
 sub-fitting : tie.Need-sub-fitting Inv-loop μ-loop
 sub-fitting c = omega (arith, at-loop (c .before) .loop .inv .0)
@@ -119,8 +137,8 @@ sizes : (c : tie.After-fitting Inv-loop μ-loop)
 sizes c =
     let t = told (c .before .before) .laid in
     let e = c .fitting .ensures in
-    let w = fits-within (the-start (at-loop (c .before .before)) .args .space - at-loop (c .before .before) .loop .at) (c .before .before .write .result .first) (c .before .before .write .result .len) (omega (arith, t .split, t .ends)) in
-    (omega (arith, e, w .0), omega (arith, e, w .1), t .fits)
+    let w = fits-within (the-start (at-loop (c .before .before)) .args .space - at-loop (c .before .before) .loop .at) (c .before .before .write .result .first) (c .before .before .write .result .len) (laid-first _ _ _ _ _ t) in
+    (omega (arith, e, w .0), omega (arith, e, w .1), omega (arith, laid-within _ _ _ _ _ t, c .before .before .write .kept, at-loop (c .before .before) .loop .inv .4))
 
 array-share-prefix-lines : tie.Need-array-share-prefix-lines Inv-loop μ-loop
 array-share-prefix-lines c = omega (arith, sizes (c .before) .1, sizes (c .before) .2)
@@ -192,7 +210,7 @@ returns c =
     let w = written-at p in
     let t = told w in
     let l = at-loop w in
-    not-put _ _ _ _ _ (step (was w) (line-in w) .lines) _ (t .few) _ _ _ (t .laid) (l .loop .inv .0) (omega (arith, the-start l .pre .0, l .loop .inv .1)) (left-before w) _ _ _ (fitted-at p .fitting .ensures) (c .if1 .taken) (p .put .ensures)
+    not-put _ _ _ _ _ (step (was w) (line-in w) .lines) _ (t .few) _ _ _ _ (t .laid) (l .loop .inv .0) (omega (arith, the-start l .pre .0, l .loop .inv .1)) (left-before w) _ _ _ (fitted-at p .fitting .ensures) (c .if1 .taken) (p .put .ensures)
 
 -- behind the line: the rest
 left-behind : (c : tie.Else1 Inv-loop μ-loop) → Rest (the-start (at-loop (written-at (c .before .before .before))) .args .out .now) (the-start (at-loop (written-at (c .before .before .before))) .args .space)
@@ -203,7 +221,7 @@ left-behind c =
     let w = written-at p in
     let t = told w in
     let l = at-loop w in
-    all-put _ _ _ _ _ (step (was w) (line-in w) .lines) _ (t .few) _ _ _ (t .laid) (l .loop .inv .0) (omega (arith, the-start l .pre .0, l .loop .inv .1)) (left-before w) _ _ _ (fitted-at p .fitting .ensures) (c .if1 .left) (p .put .ensures) .1
+    all-put _ _ _ _ _ (step (was w) (line-in w) .lines) _ (t .few) _ _ _ _ (t .laid) (l .loop .inv .0) (omega (arith, the-start l .pre .0, l .loop .inv .1)) (left-before w) _ _ _ (fitted-at p .fitting .ensures) (c .if1 .left) (p .put .ensures) .1
 
 is-over-requires : tie.Need-is-over-requires Inv-loop μ-loop
 is-over-requires c κs = search needs
@@ -220,7 +238,7 @@ returns-2 : tie.Need-returns-2 Inv-loop μ-loop
 returns-2 c =
     let e = c .before .before .before in
     let w = written-at (e .before .before .before) in
-    rest-end _ _ _ _ _ _ (over-told (step (was w) (line-in w) .next) (w .write .result .lead) (reading w .read .last .1 .0) (served w .serve .result .session) (the-start (at-loop w) .args .text .now) (ending w .end-of .result + 1) (sym (c .before .is-over .ensures) ∙ c .if2 .taken) (told w .tracks)) (left-behind e)
+    rest-end _ _ _ _ _ _ (over-told (step (was w) (line-in w) .next) (w .write .result .lead) (reading w .read .last .1 .0) (served w .match .c .session) (the-start (at-loop w) .args .text .now) (ending w .end-of .result + 1) (sym (c .before .is-over .ensures) ∙ c .if2 .taken) (told w .tracks)) (left-behind e)
 
 add-from : tie.Need-add-from Inv-loop μ-loop
 add-from c =
@@ -240,8 +258,8 @@ loop-again c =
     let i = at-loop w .loop .inv in (
       put-within p,
       out-length p,
-      reading w .read .ensures .1 .size ∙ i .2,
-      search needs,
+      reading w .read .kept .1 .0 ∙ i .2,
+      served-by (served w) .size,
       search needs,
       (step (was w) (line-in w) .next, (told w .tracks, left-behind e)),
     )
@@ -272,6 +290,7 @@ watch-text-spec =
     part-read-start
     part-read-end
     read-requires
+    enum-known-task
     slice-aggregate-serve
     slice-aggregate-serve-2
     serve-requires

@@ -1,82 +1,42 @@
--- `write` meets its contract: by the task, nothing is told, or what the function for it tells. Assumes nothing.
-use denote.Ref.{now}
+-- `watch::write`: where there is room, the lines of the plan; else none.
+use mathlib.Core.Path.{_≡_, ap, _∙_}
+use mathlib.Core.Logic.{⊎-elim}
+use lib.ListN.{length}
+use Rattle.watch.specs.declared.Lengths.{Lengths}
+use Rattle.watch.specs.Model.{linesTold, Laid}
+use Rattle.watch.proofs.Writing.{no-lines, laid-as, told-lines, long-walk, short-buffer}
 use borrow.Author.Needs.{needs}
-use Rattle.watch.proofs.Writing.{told-as, nothing-told}
 use Rattle.watch.proofs.write.Statement.{statement}
 use Rattle.watch.proofs.write.Tie as tie
 
-enum-told : tie.Need-enum-told
-enum-told c = search needs
+put-lines-requires : tie.Need-put-lines-requires
+put-lines-requires c κs = search needs
 
-enum-known-task : tie.Need-enum-known-task
-enum-known-task c = search needs
-
-write-one-requires : tie.Need-write-one-requires
-write-one-requires c κs = search needs
-
-enum-told-2 : tie.Need-enum-told-2
-enum-told-2 c = search needs
-
-write-load-requires : tie.Need-write-load-requires
-write-load-requires c κs = search needs
-
-enum-known-task-2 : tie.Need-enum-known-task-2
-enum-known-task-2 c = search needs
-
-write-one-requires-2 : tie.Need-write-one-requires-2
-write-one-requires-2 c κs = search needs
-
-returns : tie.Need-returns
-returns c =
-    let s = c .before .before .before .before .before in
-    told-as (s .args .plan .task) _ (s .args .plan .lead) (s .args .answer) (now (s .args .walk)) _ _ (c .enum-told .given .1)
-    (nothing-told (s .args .plan .lead) (s .args .answer) (now (s .args .walk)) _)
+lead-behind-requires : tie.Need-lead-behind-requires
+lead-behind-requires c κs = search needs
 
 same-length : tie.Need-same-length
-same-length c = search needs
+same-length c = ⊎-elim (λ w. ap length (w .6) ∙ w .3 .kept .1 .1 .1 .0) (λ o. ⊎-elim (λ w. ap length (w .2)) (λ w. ap length (w .1)) o) (c .before .if1 .came)
 
-returns-2 : tie.Need-returns-2
-returns-2 c =
-    let w = c .before .before in
-    let t = w .before .before .before in
-    let s = t .before .before .before .before .before in
-    told-as (s .args .plan .task) _ (s .args .plan .lead) (s .args .answer) (now (s .args .walk)) _ _ (t .task .given .1) (w .write-one .ensures)
+-- the lengths where no line is told
+abbrev nothing : Lengths
+nothing = record { first = 0; len = 0 }
 
-same-length-2 : tie.Need-same-length-2
-same-length-2 c = search needs
+told : (c : tie.Joined1)
+    → let a = c .before .before .before .args in
+    Laid (linesTold (a .plan) (a .answer) (a .walk .now) (length (a .out .now))) (a .out .now) (c .if1 .out) (c .if1 .n .first) (c .if1 .n .len)
+told c =
+    let a = c .before .before .before .args in
+    ⊎-elim
+    (λ w. laid-as _ _ _ _ _ (w .3 .result) (c .if1 .n) (told-lines (a .plan) (a .answer) (a .walk .now) _ (w .0 .taken) (w .1 .taken)) (w .6) (w .7) (w .3 .ensures))
+    (λ o. ⊎-elim
+    (λ w. laid-as _ _ _ (a .out .now) _ nothing (c .if1 .n) (short-buffer (a .plan) (a .answer) (a .walk .now) _ (w .1 .left)) (w .2) (w .3) (no-lines (a .out .now)))
+    (λ w. laid-as _ _ _ (a .out .now) _ nothing (c .if1 .n) (long-walk (a .plan) (a .answer) (a .walk .now) _ (w .0 .left)) (w .1) (w .2) (no-lines (a .out .now)))
+    o)
+    (c .if1 .came)
 
-returns-3 : tie.Need-returns-3
-returns-3 c =
-    let w = c .before .before in
-    let t = w .before .before in
-    let s = t .before .before .before .before .before in
-    told-as (s .args .plan .task) _ (s .args .plan .lead) (s .args .answer) (now (s .args .walk)) _ _ (t .enum-told2 .given .1) (w .write-load .ensures)
-
-same-length-3 : tie.Need-same-length-3
-same-length-3 c = search needs
-
-returns-4 : tie.Need-returns-4
-returns-4 c =
-    let w = c .before .before in
-    let t = w .before .before .before in
-    let s = t .before .before .before .before .before in
-    told-as (s .args .plan .task) _ (s .args .plan .lead) (s .args .answer) (now (s .args .walk)) _ _ (t .task2 .given .1) (w .write-one2 .ensures)
+returns : tie.Need-returns
+returns c = record { goes = c .lead-behind .ensures; laid = told (c .before) }
 
 pub write-spec : {M : Type 1} → statement M
-write-spec =
-    tie.close
-    (tie.spec
-    enum-told
-    enum-known-task
-    write-one-requires
-    enum-told-2
-    write-load-requires
-    enum-known-task-2
-    write-one-requires-2
-    returns
-    same-length
-    returns-2
-    same-length-2
-    returns-3
-    same-length-3
-    returns-4)
+write-spec = tie.close (tie.spec put-lines-requires lead-behind-requires same-length returns)

@@ -1,4 +1,4 @@
--- `write_load` meets its contract: a refusal is the one line, and otherwise the answer is put behind the line `game`. Assumes nothing.
+-- `watch::put_load`: a refusal is the one line, and otherwise the answer is put behind the line `game`.
 use Prim.Native.Nat.{_/_, _≤_, _<_}
 use mathlib.Core.Path.{sym, ap, _∙_}
 use native.Mathlib.Omega.{arith}
@@ -7,18 +7,15 @@ use borrow.Author.Needs.{needs}
 use Rattle.plain.specs.Machine.{gameLine}
 use Rattle.answer.specs.Rendering.{render}
 use Rattle.answer.proofs.Laws.{length-game}
-use Rattle.watch.proofs.Writing.{put-as, two-lines, few-paying, refused-told, accepted-told}
-use Rattle.watch.proofs.write_load.Statement.{statement}
-use Rattle.watch.proofs.write_load.Tie as tie
+use Rattle.watch.proofs.Writing.{put-as, two-lines, few-paying}
+use Rattle.watch.proofs.put_load.Statement.{statement}
+use Rattle.watch.proofs.put_load.Tie as tie
 
 is-refused-requires : tie.Need-is-refused-requires
 is-refused-requires c κs = search needs
 
-staged-requires : tie.Need-staged-requires
-staged-requires c κs = search needs
-
-write-one-requires : tie.Need-write-one-requires
-write-one-requires c κs = search needs
+put-one-requires : tie.Need-put-one-requires
+put-one-requires c κs = search needs
 
 same-length : tie.Need-same-length
 same-length c = search needs
@@ -27,8 +24,7 @@ returns : tie.Need-returns
 returns c =
     let w = c .before .before in
     let t = w .before .before in
-    let i = t .before .before in
-    refused-told (i .before .before .before .args .lead) _ _ _ _ _ _ (sym (i .is-refused .ensures) ∙ t .before .if1 .taken) (t .staged .ensures) (w .write-one .ensures)
+    rw (sym (t .before .is-refused .ensures) ∙ t .if1 .taken) (w .put-one .ensures)
 
 count-requires : tie.Need-count-requires
 count-requires c κs = search needs
@@ -61,38 +57,32 @@ put-answer-requires c κs =
       omega (arith, s .pre, g .put-game .kept .0),
     )
 
-staged-requires-2 : tie.Need-staged-requires-2
-staged-requires-2 c κs = search needs
-
 same-length-2 : tie.Need-same-length-2
 same-length-2 c = search needs
 
 returns-2 : tie.Need-returns-2
 returns-2 c =
-    let p = c .before .before .before in
+    let p = c .before .before in
     let g = p .before .before .before .before in
     let n = g .before .before .before in
     let i = n .before .before .before in
     let s = i .before .before .before in
-    accepted-told (s .args .lead) _ _ _ _ _ _ _ (sym (i .is-refused .ensures) ∙ n .before .before .if1 .left) (c .staged2 .ensures)
+    rw (sym (i .is-refused .ensures) ∙ n .before .before .if1 .left)
     (two-lines _ _ _ _ _ _ _
     (put-as _ _ _ _ _ _ (ap (gameLine (s .args .lead .size) (s .args .lead .count / 2)) (n .count .ensures)) (g .put-game .ensures))
-    (p .put-answer .ensures .0)
-    (p .put-answer .ensures .1))
+    (p .put-answer .ensures))
 
-pub write-load-spec : {M : Type 1} → statement M
-write-load-spec =
+pub put-load-spec : {M : Type 1} → statement M
+put-load-spec =
     tie.close
     (tie.spec
     is-refused-requires
-    staged-requires
-    write-one-requires
+    put-one-requires
     same-length
     returns
     count-requires
     cast-paying
     put-game-requires
     put-answer-requires
-    staged-requires-2
     same-length-2
     returns-2)

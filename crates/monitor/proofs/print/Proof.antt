@@ -1,16 +1,16 @@
--- `write_whole` is safe and ends: each write takes at least one byte. Assumes nothing.
+-- `print` is safe and ends: each write takes at least one byte. Assumes nothing.
 use Prim.Native.Nat.{_-_, _≤_}
 use native.Mathlib.Omega.{arith}
 use borrow.Author.Needs.{needs}
 use lib.ListN.{length}
-use Rattle.monitor.proofs.write_whole.Statement.{statement}
-use Rattle.monitor.proofs.write_whole.Tie as tie
+use Rattle.monitor.proofs.print.Statement.{statement}
+use Rattle.monitor.proofs.print.Tie as tie
 
 abbrev Inv-loop : tie.InvT-loop
-Inv-loop bytes at₀ at = at ≤ length bytes
+Inv-loop line walk bytes at₀ at = at ≤ length bytes
 
 abbrev μ-loop : tie.MeasureT-loop
-μ-loop bytes at₀ at = length bytes - at
+μ-loop line walk bytes at₀ at = length bytes - at
 
 loop-holds : tie.Need-loop-holds Inv-loop μ-loop
 loop-holds c = search needs
@@ -45,8 +45,8 @@ loop-less c = search needs
 returns-2 : tie.Need-returns-2 Inv-loop μ-loop
 returns-2 c = search needs
 
-pub write-whole-spec : {M : Type 1} → statement M
-write-whole-spec =
+pub print-spec : {M : Type 1} → statement M
+print-spec =
     tie.close
     (tie.spec
     Inv-loop

@@ -1,0 +1,17 @@
+-- `watch::is_full`: the count of numbers, compared as it is.
+use mathlib.Core.Path.{ap}
+use lib.Dec.{leb}
+use Rattle.watch.specs.Model.{isFull}
+use borrow.Author.Needs.{needs}
+use Rattle.watch.proofs.is_full.Statement.{statement}
+use Rattle.watch.proofs.is_full.Tie as tie
+
+wide-requires : tie.Need-wide-requires
+wide-requires c κs = search needs
+
+returns : tie.Need-returns
+unfolding isFull
+returns c = ap (leb 4096) (c .wide .ensures .0)
+
+pub is-full-spec : {M : Type 1} → statement M
+is-full-spec = tie.close (tie.spec wide-requires returns)
