@@ -1,5 +1,5 @@
 -- What a search that has ended has come to, read off the walker. Assumes nothing.
-use mathlib.Core.Path.{_≡_, refl, ap, _∙_}
+use mathlib.Core.Path.{_≡_, refl, _∙_}
 use mathlib.Core.Logic.{_≢_}
 use mathlib.Core.Bool.{Bool, true, false}
 use mathlib.Core.List.{List}
@@ -9,7 +9,7 @@ use lib.ListN.{getD}
 use Rattle.plain.specs.Search.{Graph, Frame, Config, outer, nested, exhausted, found, Verdict, none, lasso, unfinished, verdict}
 use Rattle.search.specs.declared.Phase.{Phase}
 use Rattle.search.specs.declared.Phase.the-variants.{Outer, Nested, Exhausted, Found}
-use Rattle.search.specs.Core.{noNumber, choose, Game, Core, withWalker, probed, skipped, finished, emptied, returned, exhausted as over′, closed, discover, deepen, leaveRoot, onOpenPath, byPhase, over, targetOf, hasEdge, outerProbe, finish, outerStep, nestedProbe, nestedStep, step, runFor, rewound, acceptsAt}
+use Rattle.search.specs.Core.{noNumber, choose, Game, Core, withWalker, probed, skipped, finished, emptied, returned, exhausted as over′, closed, discover, deepen, leaveRoot, onOpenPath, byPhase, targetOf, hasEdge, outerProbe, finish, outerStep, nestedProbe, nestedStep, step, runFor, rewound, acceptsAt}
 use Rattle.search.specs.declared.Walker.{Walker}
 use Rattle.search.proofs.Represents.{AtFound, Stands}
 
@@ -25,14 +25,6 @@ spoken g s (outer p d k l) a n = absurd (n refl)
 spoken g s (nested b p q d k l) a n = absurd (n refl)
 spoken g s (exhausted d k l) a n = a
 spoken g s (found h p q d k l) a n = (p, a)
-
--- a search that has ended is over: a step does nothing
-pub ended-over : (g : Graph) (s : Core) (c : Config) → Stands g s c → verdict c ≢ unfinished → over (s .walker .phase) ≡ true
-unfolding verdict
-ended-over g s (outer p d k l) a n = absurd (n refl)
-ended-over g s (nested b p q d k l) a n = absurd (n refl)
-ended-over g s (exhausted d k l) a n = ap over (a .0)
-ended-over g s (found h p q d k l) a n = ap over (a .phase-is)
 
 -- ---- what was kept stays as it was
 

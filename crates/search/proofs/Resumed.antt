@@ -20,7 +20,7 @@ use Rattle.plain.proofs.Bounds.{left, once-short, run-within, discovered-few, p
 use Rattle.plain.proofs.Prefix.{discovery, Agree, FirstMeeting}
 use Rattle.plain.proofs.Restore.{Restored, noted-run}
 use Rattle.plain.proofs.Resume.{resumed, resumed-from}
-use Rattle.search.specs.Core.{noNumber, Game, Core, runFor, step, rewound, Lengths, Fresh}
+use Rattle.search.specs.Core.{noNumber, Game, Core, runFor, step, rewound}
 use Rattle.search.specs.Archive.{rootOf, stampIn, notesOf, Archived}
 use Rattle.search.proofs.Represents.{Matches, Limits, WalkFew}
 use Rattle.search.proofs.Places.{states-length}
@@ -150,17 +150,6 @@ archived g n s (h, a) = record {
   undiscovered = h .undiscovered;
   unmarked = h .unmarked;
   root-unmarked = h .root-unmarked;
-}
-
--- the same run on another graph, for which the notes are right too
-pub archive-moved : (g h : Graph) (n : ℕ) (number parent index probes stamp walk : List ℕ) → Archived g n number parent index probes stamp walk
-    → Faithful h (notesOf (run g n) number parent index probes stamp) n → run h n ≡ run g n → Archived h n number parent index probes stamp walk
-archive-moved g h n number parent index probes stamp walk a w e = record {
-  sizes = a .sizes;
-  holds = subst (λ (c : Config). Faithful h (notesOf c number parent index probes stamp) n) (sym e) w;
-  undiscovered = λ x b o. a .undiscovered x b (rw e at o);
-  unmarked = λ x b o. a .unmarked x b (rw e at o);
-  root-unmarked = λ x i. a .root-unmarked x (rw e at i);
 }
 
 -- ---- the part of a list that is numbered up to m
@@ -320,29 +309,6 @@ module _ (size : ℕ) (g : Graph) (b : Small g size) (walk : List ℕ) (walk-lon
       same p q t = λ i. record { number = p i; parent = q i; index = t i; probes = t i }
 
   -- blank arrays, with the start state numbered 0, stand for the beginning of the search
-  blank-fits : Fits g (rewound size (g .start) (g .start) 0 blank (replicate 512 (g .start)) (replicate 512 0) (replicate 512 0) (replicate 512 noNumber) walk) (notes g 0) (run g 0)
+  pub begin-fits : Fits g (rewound size (g .start) (g .start) 0 blank (replicate 512 (g .start)) (replicate 512 0) (replicate 512 0) (replicate 512 noNumber) walk) (notes g 0) (run g 0)
   unfolding steps
-  blank-fits = rewound-fits g (notes g 0) size (g .start) [] [] [] [] blank (replicate 512 (g .start)) (replicate 512 0) (replicate 512 0) (replicate 512 noNumber) walk begins (inv-run g 0) (limits g size b 0)
-
-  -- so do those that `begin` leaves
-  module _ {number parent index probes stamp : List ℕ} (f : Fresh (g .start) number parent index probes stamp) where
-    pub begin-fits : Fits g (rewound size (g .start) (g .start) 0 number parent index probes stamp walk) (notes g 0) (run g 0)
-    begin-fits =
-        let e : rewound size (g .start) (g .start) 0 blank (replicate 512 (g .start)) (replicate 512 0) (replicate 512 0) (replicate 512 noNumber) walk
-        ≡ rewound size (g .start) (g .start) 0 number parent index probes stamp walk =
-        sym (λ i. rewound size (g .start) (g .start) 0 (f .number-is i) (f .parent-is i) (f .index-is i) (f .probes-is i) (f .stamp-is i) walk) in
-        subst (λ (s : Core). Fits g s (notes g 0) (run g 0)) e blank-fits
-
-    -- the start state is numbered 0
-    pub begin-numbered : getD number (g .start) 0 ≡ 0
-    begin-numbered = ap (λ (l : List ℕ). getD l (g .start) 0) (f .number-is) ∙ blank-start
-
-    pub begin-sized : Lengths number parent index probes stamp walk
-    begin-sized = record {
-      number-size = ap length (f .number-is) ∙ blank-size;
-      parent-size = ap length (f .parent-is) ∙ length-replicate 512 (g .start);
-      index-size = ap length (f .index-is) ∙ length-replicate 512 zero;
-      probes-size = ap length (f .probes-is) ∙ length-replicate 512 zero;
-      stamp-size = ap length (f .stamp-is) ∙ length-replicate 512 noNumber;
-      walk-size = walk-long;
-    }
+  begin-fits = rewound-fits g (notes g 0) size (g .start) [] [] [] [] blank (replicate 512 (g .start)) (replicate 512 0) (replicate 512 0) (replicate 512 noNumber) walk begins (inv-run g 0) (limits g size b 0)

@@ -58,7 +58,7 @@ struct Scanned {
 }
 
 // What stands in an array for "no number".
-const NO_NUMBER: u16 = 65535;
+pub const NO_NUMBER: u16 = 65535;
 
 // The entries of an array that goes by state, and of the array of targets.
 const STATES: usize = 512;
