@@ -5,7 +5,7 @@ use mathlib.Core.Bool.{Bool, true, false}
 use mathlib.Core.List.{List, [], _∷_, _++_, append-assoc}
 use Prim.Native.Nat.{ℕ, suc, _+_, _-_, _≤_, _<_}
 use native.Mathlib.Omega.{arith}
-use lib.Dec.{eqb, ltb, leb}
+use lib.Dec.{eqb}
 use lib.ListN.{length, getD, set, drop, length-append, length-set, length-drop}
 use lib.Seq.{getD-set-same, getD-set-other}
 use borrow.Author.Tests.{lt-ltb, le-ltb, le-leb, lt-leb, eq-eqb, ne-eqb, eqb-true, eqb-false}
@@ -19,7 +19,7 @@ use Rattle.plain.proofs.Lassos.{path-run, before-from}
 use Rattle.plain.proofs.Restore.{put-same, put-hit, put-other, ShapeOf, Counted}
 use Rattle.search.specs.declared.Phase.the-variants.{Outer, Nested, Exhausted, Found}
 use Rattle.search.specs.declared.Walker.{Walker}
-use Rattle.search.specs.Core.{noNumber, choose, Game, rowOf, acceptsAt, Core, Sized, coreOf, up, plus, further, skipped, left, nesting, finished, returned, emptied, exhausted, closed, withWalker, probed, discover, leaveRoot, deepen, onOpenPath, targetOf, hasEdge, outerProbe, finish, outerStep, nestedProbe, nestedStep, step}
+use Rattle.search.specs.Core.{noNumber, choose, Game, rowOf, Core, Sized, coreOf, up, plus, skipped, left, nesting, finished, returned, emptied, exhausted, closed, withWalker, probed, discover, leaveRoot, deepen, onOpenPath, targetOf, hasEdge, outerProbe, finish, outerStep, nestedProbe, nestedStep, step}
 use Rattle.search.specs.Archive.{Begins, rootOf, stampIn}
 use Rattle.search.proofs.Counting.{up-more, plus-more, further-more, no-edge, edge-left, drop-further}
 use Rattle.search.proofs.Represents.{noteIn, Records, Placed, AtOuter, AtNested, AtReturn, Stands, Matches, Limits}

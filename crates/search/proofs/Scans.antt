@@ -4,14 +4,14 @@ use mathlib.Core.Logic.{⊎-elim}
 use mathlib.Core.Bool.{Bool, true, false, _&&_}
 use mathlib.Core.List.{List, []}
 use Prim.Native.Nat.{ℕ, zero, suc, _+_, _-_, _≤_, _<_}
-use native.Mathlib.Nat.{add-zero, add-suc, zero-add}
+use native.Mathlib.Nat.{add-zero, zero-add}
 use native.Mathlib.Omega.{arith}
 use lib.Dec.{ltb, leb}
 use lib.ListN.{length, getD}
 use borrow.Author.Tests.{ltb-true, ltb-false, leb-true, leb-false, lt-ltb, le-ltb, le-leb, lt-leb}
 use Rattle.plain.specs.Table.{accepts}
 use Rattle.plain.proofs.Tests.{contra, either, and-true}
-use Rattle.rows.specs.Rows.{degreeAt, rowAt}
+use Rattle.rows.specs.Rows.{rowAt}
 use Rattle.rows.proofs.Paste.{same-place}
 use Rattle.rows.proofs.Entries.{row-length, row-at}
 use Rattle.search.specs.declared.Phase.{Phase}

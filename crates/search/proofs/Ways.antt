@@ -1,20 +1,19 @@
 -- What the model is on each way that the code goes, and the laws of its loops. Assumes nothing.
 use mathlib.Core.Path.{_≡_, refl, sym, ap, subst, _∙_}
-use mathlib.Core.Logic.{_⊎_, inl, inr}
 use mathlib.Core.Bool.{Bool, true, false}
 use mathlib.Core.List.{List, [], _∷_, _++_, map}
 use Prim.Native.Nat.{ℕ, zero, suc, _+_, _-_, _≤_, _<_}
 use native.Mathlib.Nat.{le-of-suc-le-suc, not-suc-le-zero}
 use native.Mathlib.Omega.{arith}
 use lib.Dec.{eqb, ltb, leb}
-use lib.ListN.{length, getD, set, take, drop, replicate, length-append, length-set, length-map, length-take, length-drop, length-replicate}
+use lib.ListN.{length, getD, set, drop, replicate, length-set, length-replicate}
 use borrow.Author.Tests.{lt-ltb, le-ltb, le-leb, lt-leb, leb-false, eq-eqb, ne-eqb}
 use Rattle.plain.proofs.Tests.{contra}
 use Rattle.rows.proofs.Paste.{same-place}
 use Rattle.search.specs.declared.Phase.{Phase}
 use Rattle.search.specs.declared.Phase.the-variants.{Outer, Nested, Exhausted, Found}
 use Rattle.search.specs.declared.Walker.{Walker}
-use Rattle.search.specs.Core.{noNumber, choose, Game, rowOf, Core, coreOf, Sized, Recorded, Trailed, Lengths, up, plus, further, placed, skipped, left, nesting, finished, returned, emptied, exhausted, closed, withWalker, probed, discover, deepen, leaveRoot, goBack, onOpenPath, byPhase, over, targetOf, hasEdge, outerProbe, finish, outerStep, nestedProbe, nestedStep, step, runFor, Deep, upTo, forgetAbove, climb, retraceWalk, retraceDepth, rewound, Fresh}
+use Rattle.search.specs.Core.{noNumber, choose, Game, rowOf, Core, coreOf, Sized, Recorded, Trailed, Lengths, up, plus, further, skipped, left, nesting, finished, returned, emptied, exhausted, closed, withWalker, probed, discover, deepen, leaveRoot, goBack, onOpenPath, byPhase, over, targetOf, hasEdge, outerProbe, finish, outerStep, nestedProbe, nestedStep, step, runFor, Deep, upTo, forgetAbove, climb, retraceWalk, retraceDepth, rewound}
 use Rattle.search.proofs.Counting.{further-above}
 
 -- two walkers, and two cores, with the same fields

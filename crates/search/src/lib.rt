@@ -64,3 +64,9 @@ pub const NO_NUMBER: u16 = 65535;
 const STATES: usize = 512;
 
 const TARGETS: usize = 2048;
+
+// The most states of a path: no state stands on it twice.
+const LONGEST: u16 = 512;
+
+// The turns of a loop that ends by itself long before: it makes its end plain.
+const TURNS: u16 = 65535;

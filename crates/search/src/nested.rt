@@ -1,5 +1,6 @@
 // Steps of the nested search.
 use crate::Phase;
+use crate::TURNS;
 use crate::Walker;
 use crate::look::edge_of;
 use crate::look::scan;
@@ -14,9 +15,6 @@ ghost use Prim.Native.Nat.{ℕ, _-_};
 ghost use lib.ListN.{length, getD};
 ghost use Rattle.search.specs.declared.Phase.the-variants.{Nested};
 ghost use Rattle.search.specs.Core.{gameOf, Tabled, Trailed, Places, Deep, coreOf, placed, goBack, deepen as deepens, onOpenPath, Advanced, nestedStopped};
-
-// The turns of a loop that ends by itself long before: it makes its end plain.
-const TURNS: u16 = 65535;
 
 // Is t on the open path of that height?
 fn on_path(walk: &[u16; 512], depth: &[u16; 512], height: u16, t: u16) -> bool

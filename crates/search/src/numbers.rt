@@ -36,7 +36,7 @@ pub fn up(x: u16) -> u16
 pub fn further(x: u16) -> u16
     ensures { λ r. ⌜ r ≡ oneFurther x ⌝ }
 {
-    if x < 65535 { x + 1 } else { x }
+    if x < u16::MAX { x + 1 } else { x }
 }
 
 // One less, at least 0.

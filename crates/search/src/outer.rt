@@ -1,5 +1,6 @@
 // Steps of the outer search.
 use crate::Phase;
+use crate::TURNS;
 use crate::Walker;
 use crate::look::edge_of;
 use crate::look::scan;
@@ -16,10 +17,7 @@ ghost use Prim.Native.Nat.{ℕ, _-_};
 ghost use lib.ListN.{length, getD};
 ghost use Rattle.plain.specs.Table.{accepts};
 ghost use Rattle.search.specs.declared.Phase.the-variants.{Outer};
-ghost use Rattle.search.specs.Core.{gameOf, Tabled, Recorded, Places, coreOf, placed, left, discover as discovered, finished, Advanced, outerStopped};
-
-// The turns of a loop that ends by itself long before: it makes its end plain.
-const TURNS: u16 = 65535;
+ghost use Rattle.search.specs.Core.{gameOf, Tabled, Recorded, Places, coreOf, placed, left, exhausted, discover as discovered, finished, Advanced, outerStopped};
 
 // The target t is discovered, by the edge at a place of the current state's row. That edge's index is worked out behind the first stores: so the scan
 // keeps one variable, the place.
@@ -97,6 +95,22 @@ fn finish(words: &[u64; 8], parent: &[u16; 512], index: &[u16; 512], w: Walker) 
     leave(parent, index, w)
 }
 
+// The open path is empty: the search is over, and no cycle was found.
+fn exhaust(w: Walker) -> Walker
+    ensures { λ r. ⌜ r ≡ exhausted w ⌝ }
+{
+    Walker {
+        phase: Phase::Exhausted,
+        cur: w.cur,
+        next: w.next,
+        height: 0,
+        top: w.top,
+        stem: 0,
+        met: w.met,
+        kept: w.kept,
+    }
+}
+
 // Steps of the outer search: over the edges that lead to discovered states, and one more.
 fn outer_step(
     targets: &[u16; 2048],
@@ -115,16 +129,7 @@ fn outer_step(
     ensures { λ r. ⌜ ((stamp cursor : List ℕ) → Advanced (gameOf (now (targets .entry)) (now (starts .entry)) (now (words .entry))) (coreOf w (now (spent .entry)) (now (number .entry)) (now (parent .entry)) (now (index .entry)) (now (probes .entry)) stamp (now (walk .entry)) (now (depth .entry)) cursor) (coreOf r (now (spent .exit)) (now (number .exit)) (now (parent .exit)) (now (index .exit)) (now (probes .exit)) stamp (now (walk .exit)) (now (depth .exit)) cursor)) ⌝ }
 {
     if w.height == 0 {
-        return Walker {
-            phase: Phase::Exhausted,
-            cur: w.cur,
-            next: w.next,
-            height: 0,
-            top: w.top,
-            stem: 0,
-            met: w.met,
-            kept: w.kept,
-        };
+        return exhaust(w);
     }
     let r = scan(targets, starts, number, spent, w.cur, w.next);
     if r.found {

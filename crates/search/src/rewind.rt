@@ -1,4 +1,5 @@
 // The arrays of a search as they stood when a state was discovered.
+use crate::LONGEST;
 use crate::NO_NUMBER;
 use crate::STATES;
 use crate::numbers::fill;
@@ -40,7 +41,7 @@ pub fn climb(parent: &[u16; 512], start: u16, s: u16) -> u16
 {
     let mut x = s;
     let mut n: u16 = 0;
-    while n < 512 {
+    while n < LONGEST {
         n += 1;
         if x == start {
             return n;

@@ -1,5 +1,5 @@
 -- `row_of` meets its contract: the row of v starts and ends where it was read, where it fits. Assumes nothing.
-use mathlib.Core.Path.{_≡_, sym, _∙_}
+use mathlib.Core.Path.{_≡_, _∙_}
 use Prim.Native.Nat.{suc, _+_}
 use native.Mathlib.Omega.{arith}
 use denote.Ref.{now}

@@ -5,7 +5,7 @@ use Prim.Native.Nat.{ℕ, _-_, _≤_}
 use native.Mathlib.Numerals.{add-one}
 use native.Mathlib.Omega.{arith}
 use denote.Ref.{now}
-use lib.ListN.{length, set}
+use lib.ListN.{set}
 use Rattle.search.proofs.Ways.{filled, filled-write, filled-all}
 use borrow.Author.Needs.{needs}
 use Rattle.search.proofs.numbers.fill.Statement.{statement}

@@ -1,10 +1,11 @@
 -- `outer_step` meets its contract, on each of its ways. Assumes nothing.
-use mathlib.Core.Path.{refl, _∙_}
+use mathlib.Core.Path.{ap, _∙_}
 use mathlib.Core.List.{List}
 use Prim.Native.Nat.{ℕ}
 use denote.Ref.{now}
 use Rattle.search.specs.declared.Phase.the-variants.{Outer}
-use Rattle.search.specs.Core.{Core, coreOf, gameOf}
+use Rattle.search.specs.declared.Walker.{Walker}
+use Rattle.search.specs.Core.{gameOf, Core, coreOf, withWalker}
 use Rattle.search.proofs.Ways.{outer-ends, step-at, exhausted-deep}
 use Rattle.search.proofs.Scans.{advanced-one, place-near, row-few, then-discovers, then-finishes}
 use Rattle.search.proofs.outer.outer_step.Statement.{statement}
@@ -19,12 +20,18 @@ at c stamp cursor =
 abbrev start : tie.After-scan → tie.Start
 start c = c .before .before .before .before .before
 
+exhaust-requires : tie.Need-exhaust-requires
+exhaust-requires c κs = tt
+
 returns : tie.Need-returns
 returns c = λ stamp cursor.
-    let b = c .before .before in
+    let i = c .before in
+    let b = i .before .before in
     let a = b .args in
     let g = gameOf (now (a .targets)) (now (a .starts)) (now (a .words)) in
-    advanced-one g (at b stamp cursor) _ (outer-ends g (at b stamp cursor) (c .if1 .taken) ∙ step-at g (at b stamp cursor) Outer (b .pre .0)) (exhausted-deep _ refl)
+    advanced-one g (at b stamp cursor) _
+    (ap (withWalker (at b stamp cursor)) (c .exhaust .ensures) ∙ outer-ends g (at b stamp cursor) (i .if1 .taken) ∙ step-at g (at b stamp cursor) Outer (b .pre .0))
+    (exhausted-deep _ (ap (λ (w : Walker). w .phase) (c .exhaust .ensures)))
 
 scan-requires : tie.Need-scan-requires
 scan-requires c κs = let z = c .before .before .before .before .pre in (z .1, z .2 .number-size)
@@ -69,4 +76,4 @@ returns-3 c = λ stamp cursor.
 pub outer-step-spec : {M : Type 1} → statement M
 outer-step-spec =
     tie.close
-    (tie.spec returns scan-requires discover-requires returns-2 finish-requires returns-3)
+    (tie.spec exhaust-requires returns scan-requires discover-requires returns-2 finish-requires returns-3)

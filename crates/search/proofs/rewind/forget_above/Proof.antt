@@ -8,7 +8,6 @@ use denote.Ref.{now}
 use lib.ListN.{length}
 use Rattle.search.specs.Core.{forgetAbove}
 use Rattle.search.proofs.Ways.{forget-none, forget-past, forgets}
-use borrow.Author.Needs.{needs}
 use Rattle.search.proofs.rewind.forget_above.Statement.{statement}
 use Rattle.search.proofs.rewind.forget_above.Tie as tie
 
