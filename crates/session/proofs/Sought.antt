@@ -1,7 +1,7 @@
 -- A search of the arrays, begun or resumed to its end: what it has come to is what the plain search on the table comes to. Assumes nothing.
 use mathlib.Core.Path.{_≡_, refl, sym, ap, subst, subst⁻¹, _∙_}
 use mathlib.Core.Logic.{_≢_}
-use mathlib.Core.Bool.{Bool, true, false}
+use mathlib.Core.Bool.{Bool, true, false, cond}
 use mathlib.Core.List.{List}
 use Prim.Native.Nat.{ℕ, suc, _+_, _≤_, _<_}
 use native.Mathlib.Omega.{arith}
@@ -30,7 +30,7 @@ use Rattle.search.proofs.Ended.{run-kept}
 use Rattle.session.specs.declared.Verdict.{Verdict}
 use Rattle.session.specs.declared.Resumption.{Resumption}
 use Rattle.session.specs.declared.Resumption.the-variants.{Nowhere, At}
-use Rattle.session.specs.Model.{Records, recordsOf, recordsIn, isFound, pickVerdict, verdictOf, bound, pickResumption, resumptionAt, backAt, Sought}
+use Rattle.session.specs.Model.{Records, recordsOf, recordsIn, isFound, verdictOf, bound, resumptionAt, backAt, Sought}
 use Rattle.session.specs.Promises.{Tells, heightOf}
 use Rattle.session.proofs.Held.{small, budget-bound, Refiled}
 
@@ -60,7 +60,7 @@ unfolding verdictOf
 verdict-kept w spent = by-test (isFound (w .phase)) (record { stem = w .stem; length = w .top; height = w .height; spent = spent; kept = w .kept })
     (record { stem = 0; length = 0; height = 0; spent = spent; kept = w .kept }) (refl, refl) (refl, refl)
   where
-    by-test : (f : Bool) (a b : Verdict) → (a .kept ≡ w .kept) × (a .spent ≡ spent) → (b .kept ≡ w .kept) × (b .spent ≡ spent) → (pickVerdict f a b .kept ≡ w .kept) × (pickVerdict f a b .spent ≡ spent)
+    by-test : (f : Bool) (a b : Verdict) → (a .kept ≡ w .kept) × (a .spent ≡ spent) → (b .kept ≡ w .kept) × (b .spent ≡ spent) → (cond f a b .kept ≡ w .kept) × (cond f a b .spent ≡ spent)
     by-test true a b x y = x
     by-test false a b x y = y
 
@@ -109,11 +109,11 @@ module _ (t : Table) (v : Valid t) (game : Game) (m : Matches (searched t) game)
 
 pub taken-nowhere : (number : List ℕ) (s : ℕ) → getD number s 0 ≡ noNumber → resumptionAt number s ≡ Nowhere
 unfolding resumptionAt
-taken-nowhere number s e = ap (λ (b : Bool). pickResumption b Nowhere (At s)) (eq-eqb (getD number s 0) noNumber e)
+taken-nowhere number s e = ap (λ (b : Bool). cond b Nowhere (At s)) (eq-eqb (getD number s 0) noNumber e)
 
 pub taken-at : (number : List ℕ) (s : ℕ) → (getD number s 0 ≡ noNumber → ⊥) → resumptionAt number s ≡ At s
 unfolding resumptionAt
-taken-at number s n = ap (λ (b : Bool). pickResumption b Nowhere (At s)) (ne-eqb (getD number s 0) noNumber n)
+taken-at number s n = ap (λ (b : Bool). cond b Nowhere (At s)) (ne-eqb (getD number s 0) noNumber n)
 
 -- a place past the end holds no such number
 pub past-end : (number : List ℕ) (s : ℕ) → length number ≤ s → getD number s 0 ≡ noNumber → ⊥

@@ -1,6 +1,6 @@
 -- The answer and the written walk are those of the verdict. Assumes nothing.
 use mathlib.Core.Path.{_≡_, refl, sym, ap, _∙_}
-use mathlib.Core.Bool.{Bool, true, false}
+use mathlib.Core.Bool.{Bool, true, false, cond}
 use mathlib.Core.List.{List, [], _∷_, _++_, append-assoc}
 use Prim.Native.Nat.{ℕ, _+_, _-_, _≤_, _<_}
 use native.Mathlib.Omega.{arith}
@@ -14,16 +14,16 @@ use Rattle.session.specs.declared.Answer.{Answer}
 use Rattle.session.specs.declared.Answer.the-variants.{Refused, Clear, Round}
 use Rattle.session.specs.declared.Refusal.{Refusal}
 use Rattle.session.specs.declared.Verdict.{Verdict}
-use Rattle.session.specs.Model.{pickAnswer, answerIs, shownWalk}
+use Rattle.session.specs.Model.{answerIs, shownWalk}
 use Rattle.session.specs.Promises.{shown, Tells}
 
 answer-clear : (v : Verdict) → v .length ≡ 0 → answerIs v ≡ Clear (v .spent) (v .kept)
 unfolding answerIs
-answer-clear v e = ap (λ (b : Bool). pickAnswer b (Clear (v .spent) (v .kept)) (Round (v .spent) (v .kept) (v .stem) (v .length - v .stem))) (eq-eqb (v .length) 0 e)
+answer-clear v e = ap (λ (b : Bool). cond b (Clear (v .spent) (v .kept)) (Round (v .spent) (v .kept) (v .stem) (v .length - v .stem))) (eq-eqb (v .length) 0 e)
 
 answer-round : (v : Verdict) → 0 < v .length → answerIs v ≡ Round (v .spent) (v .kept) (v .stem) (v .length - v .stem)
 unfolding answerIs
-answer-round v h = ap (λ (b : Bool). pickAnswer b (Clear (v .spent) (v .kept)) (Round (v .spent) (v .kept) (v .stem) (v .length - v .stem))) (ne-eqb (v .length) 0 (λ e. omega arith))
+answer-round v h = ap (λ (b : Bool). cond b (Clear (v .spent) (v .kept)) (Round (v .spent) (v .kept) (v .stem) (v .length - v .stem))) (ne-eqb (v .length) 0 (λ e. omega arith))
 
 two-parts : (stem cycle rest : List ℕ) → take (length stem + length cycle) (stem ++ (cycle ++ rest)) ≡ stem ++ cycle
 two-parts stem cycle rest = rw (← length-append stem cycle, ← append-assoc stem cycle rest) (take-append-seam (stem ++ cycle) rest)
@@ -66,6 +66,6 @@ pub never-refused : (v : Verdict) (n : Refusal) → answerIs v ≡ Refused n →
 unfolding answerIs
 never-refused v n e = by-test (eqb (v .length) 0) e
   where
-    by-test : (b : Bool) → pickAnswer b (Clear (v .spent) (v .kept)) (Round (v .spent) (v .kept) (v .stem) (v .length - v .stem)) ≡ Refused n → ⊥
+    by-test : (b : Bool) → cond b (Clear (v .spent) (v .kept)) (Round (v .spent) (v .kept) (v .stem) (v .length - v .stem)) ≡ Refused n → ⊥
     by-test true e = let z : _≡_ {A = ℕ} 0 1 = cc in omega arith
     by-test false e = let z : _≡_ {A = ℕ} 0 1 = cc in omega arith

@@ -1,7 +1,7 @@
 -- What the inner functions of the session do, over the lists that its arrays hold. Cited by their contracts alone. Assumes nothing.
 use Prim.Native.Nat.{ℕ, _-_, _≤_, _<_}
 use mathlib.Core.Path.{_≡_}
-use mathlib.Core.Bool.{Bool, true, false, not}
+use mathlib.Core.Bool.{Bool, true, false, not, cond}
 use mathlib.Core.List.{List, [], _∷_, _++_}
 use lib.Dec.{eqb, ltb, leb}
 use lib.ListN.{length, getD, take, drop, replicate}
@@ -160,24 +160,16 @@ abbrev pub refusing : ℕ → Answer
 refusing n = Answer·Refused (record { number = n })
 
 -- the answer that a verdict makes
-abbrev pub pickAnswer : Bool → Answer → Answer → Answer
-pickAnswer true a b = a
-pickAnswer false a b = b
-
 unfoldable pub answerIs : Verdict → Answer
-answerIs v = pickAnswer (eqb (v .length) 0) (Clear (v .spent) (v .kept)) (Round (v .spent) (v .kept) (v .stem) (v .length - v .stem))
+answerIs v = cond (eqb (v .length) 0) (Clear (v .spent) (v .kept)) (Round (v .spent) (v .kept) (v .stem) (v .length - v .stem))
 
 -- what is written of a walk: its first entries
 unfoldable pub shownWalk : ℕ → List ℕ → List ℕ → List ℕ
 shownWalk n walk lent = take n walk ++ drop n lent
 
 -- where a search is taken up for a state that a change names: nowhere if it was never discovered
-abbrev pub pickResumption : Bool → Resumption → Resumption → Resumption
-pickResumption true a b = a
-pickResumption false a b = b
-
 unfoldable pub resumptionAt : List ℕ → ℕ → Resumption
-resumptionAt number s = pickResumption (eqb (getD number s 0) noNumber) Nowhere (At s)
+resumptionAt number s = cond (eqb (getD number s 0) noNumber) Nowhere (At s)
 
 -- has the search found a cycle?
 abbrev pub isFound : Phase → Bool
@@ -187,12 +179,8 @@ isFound Exhausted = false
 isFound Found = true
 
 -- what a search that is over has come to: the lengths of stem and walk and the height of the open path, 0 where there is none
-abbrev pub pickVerdict : Bool → Verdict → Verdict → Verdict
-pickVerdict true a b = a
-pickVerdict false a b = b
-
 unfoldable pub verdictOf : Walker → ℕ → Verdict
-verdictOf w spent = pickVerdict (isFound (w .phase))
+verdictOf w spent = cond (isFound (w .phase))
     (record { stem = w .stem; length = w .top; height = w .height; spent = spent; kept = w .kept })
     (record { stem = 0; length = 0; height = 0; spent = spent; kept = w .kept })
 
