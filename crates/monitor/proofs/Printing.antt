@@ -11,7 +11,7 @@ use Rattle.watch.specs.declared.Lead.{Lead}
 use Rattle.watch.specs.declared.Plan.{Plan}
 use Rattle.watch.specs.declared.Written.{Written}
 use Rattle.watch.specs.Text.{Held, waiting, step, limit}
-use Rattle.watch.specs.Model.{asked, bufferMost, linesTold, Laid, Writes}
+use Rattle.watch.specs.Model.{asked, bufferMost, Laid, Writes}
 use Rattle.watch.proofs.Output.{laid-bytes}
 use Rattle.monitor.specs.declared.Status.{Status}
 use Rattle.monitor.specs.declared.Status.the-variants.{More, Line, Last, Over}

@@ -25,7 +25,7 @@ use Rattle.watch.specs.declared.Task.the-variants.{Nothing, Refuse, Ask 
 use Rattle.watch.specs.Text.{Held, waiting, gathering, playing, ended, room, step, printed}
 use Rattle.watch.specs.declared.Plan.{Plan}
 use Rattle.watch.specs.declared.Written.{Written}
-use Rattle.watch.specs.Model.{numbersMost, asked, filedMove, isRefused, Serves, bufferMost, linesFor, linesTold, leadFor, Laid, Writes, isOver}
+use Rattle.watch.specs.Model.{numbersMost, asked, filedMove, isRefused, Serves, bufferMost, linesFor, linesTold, Laid, Writes, isOver}
 use Rattle.watch.proofs.Task.{the-type}
 use Rattle.watch.proofs.Output.{AtMostTwo}
 use Rattle.watch.proofs.Steps.{Tracks, Follows, stepped}
