@@ -12,14 +12,15 @@ use lib.ListN.{length, replicate}
 use lib.Seq.{length-take-le}
 use Rattle.line.specs.Records.{recordOf}
 use Rattle.watch.specs.declared.Lead.{Lead}
-use Rattle.watch.specs.Text.{waiting, limit}
+use Rattle.watch.specs.Text.{waiting, room, limit}
+use Rattle.watch.specs.Model.{numbersMost, linesMost}
 use Rattle.watch.proofs.Steps.{Tracks}
 use Rattle.watch.proofs.Output.{laid-within, laid-first}
 use Rattle.watch.proofs.Turns.{Done, done-asked, done-not, Behind, behind}
 use Rattle.monitor.specs.declared.Status.{Status}
 use Rattle.monitor.specs.declared.Status.the-variants.{More, Line, Last, Over}
 use Rattle.monitor.specs.declared.Reader.{Reader}
-use Rattle.monitor.specs.Lines.{Within, heldIn, isLine, hasLine, heldBehind}
+use Rattle.monitor.specs.Lines.{chunk, heldMost, Within, heldIn, isLine, hasLine, heldBehind}
 use Rattle.monitor.proofs.Reading.{within-same}
 use Rattle.monitor.proofs.Printing.{Read, read-start, Come, come, onwards, printed, told-bytes, one-behind}
 use Rattle.monitor.proofs.main.Statement.{statement}
@@ -33,7 +34,7 @@ line-status Over e = absurd (true≢false (sym e))
 
 abbrev Inv-loop : tie.InvT-loop
 Inv-loop numbers₀ walk₀ lines₀ buf₀ held₀ lead₀ c₀ r₀ numbers walk lines buf held lead c r =
-    (length numbers ≡ 4096) × (length walk ≡ 512) × (length lines ≡ 3200) × (length buf ≡ 512) × (length held ≡ 33) × Within r 512
+    (length numbers ≡ numbersMost) × (length walk ≡ room) × (length lines ≡ linesMost) × (length buf ≡ chunk) × (length held ≡ heldMost) × Within r chunk
     × ((ls : List (List ℕ)) × ((seen : List ℕ) × (Read r held buf seen ls × Tracks lead numbers (c .session) (heldBehind waiting (map recordOf ls)))))
 
 abbrev μ-loop : tie.MeasureT-loop
