@@ -1,5 +1,4 @@
 // Output lines, put into a lent buffer: bytes, decimal numbers, whole lines.
-ghost use mathlib.Core.Path.{_≡_};
 ghost use mathlib.Core.List.{_∷_, [], _++_};
 ghost use Prim.Native.Nat.{_+_, _≤_, _<_};
 ghost use lib.ListN.{length};

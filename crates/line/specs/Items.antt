@@ -1,7 +1,7 @@
 -- The steps of reading a record: what stands behind a field, and the record of a word with so many numbers. Cited by internal contracts alone.
 -- Assumes nothing.
 use Prim.Native.Nat.{ℕ, _+_}
-use mathlib.Core.Bool.{Bool, true, false, cond}
+use mathlib.Core.Bool.{cond}
 use mathlib.Core.List.{List}
 use lib.Dec.{eqb}
 use lib.ListN.{length}

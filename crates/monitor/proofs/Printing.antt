@@ -11,7 +11,7 @@ use Rattle.watch.specs.declared.Lead.{Lead}
 use Rattle.watch.specs.declared.Plan.{Plan}
 use Rattle.watch.specs.declared.Written.{Written}
 use Rattle.watch.specs.Text.{Held, waiting, step, limit}
-use Rattle.watch.specs.Model.{asked, bufferMost, linesTold, Laid, Writes}
+use Rattle.watch.specs.Model.{asked, linesMost, Laid, Writes}
 use Rattle.watch.proofs.Output.{laid-bytes}
 use Rattle.monitor.specs.declared.Status.{Status}
 use Rattle.monitor.specs.declared.Status.the-variants.{More, Line, Last, Over}
@@ -80,7 +80,7 @@ printed r′ held′ buf′ seen ls d d′ first len c l = record {
   lines = laid-bytes _ d d′ first len l;
 }
 
-pub told-bytes : (line : List ℕ) (lead : Lead) (plan : Plan) (answer : Answer) (walk d d′ : List ℕ) (w : Written) → length d ≡ bufferMost → plan ≡ asked lead (recordOf line)
+pub told-bytes : (line : List ℕ) (lead : Lead) (plan : Plan) (answer : Answer) (walk d d′ : List ℕ) (w : Written) → length d ≡ linesMost → plan ≡ asked lead (recordOf line)
     → Writes plan answer walk d d′ w → take (w .len) d′ ≡ bytesTold line lead answer walk
 unfolding bytesTold
 told-bytes line lead plan answer walk d d′ w e f t =

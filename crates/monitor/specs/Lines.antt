@@ -11,7 +11,7 @@ use Rattle.line.specs.declared.Record.{Record}
 use Rattle.answer.specs.Rendering.{rendered}
 use Rattle.session.specs.declared.Answer.{Answer}
 use Rattle.watch.specs.declared.Lead.{Lead}
-use Rattle.watch.specs.Model.{asked, bufferMost, linesTold}
+use Rattle.watch.specs.Model.{asked, linesMost, linesTold}
 use Rattle.watch.specs.Text.{Held, waiting, step, limit}
 use Rattle.monitor.specs.declared.Status.{Status}
 use Rattle.monitor.specs.declared.Status.the-variants.{More, Line, Last, Over}
@@ -22,12 +22,12 @@ abbrev pub chunk : ℕ
 chunk = 512
 
 -- of a line above 32 bytes the 33rd is enough to see that
-abbrev pub lineMost : ℕ
-lineMost = 33
+abbrev pub heldMost : ℕ
+heldMost = 33
 
 -- a byte behind what is held of a line
 unfoldable pub pushed : List ℕ → ℕ → List ℕ
-pushed held b = cond (ltb (length held) lineMost) (held ++ (b ∷ [])) held
+pushed held b = cond (ltb (length held) heldMost) (held ++ (b ∷ [])) held
 
 abbrev pub last : List ℕ → List (List ℕ)
 last [] = []
@@ -57,12 +57,12 @@ Goes Over held left bytes held′ left′ bytes′ = (more : List ℕ) → hande
 pub record Within (r : Reader) (size : ℕ) : Type 0 where
   pub at : r .at ≤ r .end
   pub end : r .end ≤ size
-  pub len : r .len ≤ lineMost
+  pub len : r .len ≤ heldMost
 
 -- the bytes that a reader has taken between two of its states count off what may still come
 pub record Took (r : Reader) (held buf : List ℕ) (r′ : Reader) (held′ : List ℕ) : Type 0 where
   pub within : Within r′ (length buf)
-  pub size : length held′ ≡ lineMost
+  pub size : length held′ ≡ heldMost
   pub end : r′ .end ≡ r .end
   pub falls : r′ .left + (r′ .at - r .at) ≡ r .left
   pub moved : r′ .status ≡ Line → r .at < r′ .at
@@ -96,7 +96,7 @@ endOf r = cond (eqb (r .len) 0)
 
 -- the bytes of the lines told for what a line asks of a lead, with an answer and the list of the walk, in the box's buffer
 unfoldable pub bytesTold : List ℕ → Lead → Answer → List ℕ → List ℕ
-bytesTold line lead answer walk = rendered (linesTold (asked lead (recordOf line)) answer walk bufferMost)
+bytesTold line lead answer walk = rendered (linesTold (asked lead (recordOf line)) answer walk linesMost)
 
 -- what is held behind some records, one after the other
 unfoldable pub heldBehind : Held → List Record → Held
@@ -123,7 +123,7 @@ Found Over held left bytes brought held′ left′ bytes′ = handed held left (
 
 pub record Next (r : Reader) (held buf : List ℕ) (r′ : Reader) (held′ buf′ : List ℕ) : Type 0 where
   pub within : Within r′ chunk
-  pub size : length held′ ≡ lineMost
+  pub size : length held′ ≡ heldMost
   pub space : length buf′ ≡ chunk
   pub falls : r′ .status ≡ Line → r′ .left < r .left
   pub brought : List ℕ

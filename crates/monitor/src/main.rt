@@ -6,7 +6,7 @@ use watch::Lead;
 use watch::Task;
 ghost use mathlib.Core.Path.{_≡_};
 ghost use lib.ListN.{length};
-ghost use Rattle.monitor.specs.Lines.{chunk, lineMost, Within, Took, Next, isMore, hasLine, isLine, endOf, bytesTold, Printed};
+ghost use Rattle.monitor.specs.Lines.{chunk, heldMost, Within, Took, Next, isMore, hasLine, isLine, endOf, bytesTold, Printed};
 
 // A read brings at most so many bytes.
 const CHUNK: usize = 512;
@@ -46,7 +46,7 @@ fn standing(at: usize, end: usize, len: usize, left: usize, status: Status) -> R
 
 // Takes bytes up to a newline or the end of the read.
 fn take_bytes(buf: &[u8], held: &mut [u8; HELD], r: Reader) -> Reader
-    requires { ⌜ Within r (length (now buf)) × (length (now held) ≡ lineMost) ⌝ }
+    requires { ⌜ Within r (length (now buf)) × (length (now held) ≡ heldMost) ⌝ }
     ensures { λ s. ⌜ Took r (now (held .entry)) (now (buf .entry)) s (now (held .exit)) ⌝ }
 {
     let end = r.end;
@@ -96,7 +96,7 @@ fn at_end(r: Reader) -> Reader
 
 // The next line, read on as far as it takes. A read that fails counts as the end of the input.
 fn next_line(buf: &mut [u8; CHUNK], held: &mut [u8; HELD], r: Reader) -> Reader
-    requires { ⌜ Within r chunk × (length (now buf) ≡ chunk) × (length (now held) ≡ lineMost) ⌝ }
+    requires { ⌜ Within r chunk × (length (now buf) ≡ chunk) × (length (now held) ≡ heldMost) ⌝ }
     ensures { λ s. ⌜ Next r (now (held .entry)) (now (buf .entry)) s (now (held .exit)) (now (buf .exit)) ⌝ }
 {
     let mut s = take_bytes(buf, held, r);

@@ -1,6 +1,6 @@
 -- The numbers of a `move` that is taken, put behind those of the moves before it. Assumes nothing.
 use Prim.Native.Nat.{ℕ, _+_, _≤_, _<_}
-use mathlib.Core.Path.{_≡_, refl, sym, ap, _∙_}
+use mathlib.Core.Path.{_≡_, refl, ap, _∙_}
 use mathlib.Core.Bool.{Bool, true, false, _&&_, and-false, cond}
 use mathlib.Core.List.{List, [], _∷_, _++_, append-assoc}
 use native.Mathlib.Omega.{arith}
@@ -10,7 +10,7 @@ use lib.ListN.{length, take, drop, set, length-set, length-append}
 use lib.Seq.{length-take-le, take-append-seam, take-append-le, take-take}
 use Rattle.plain.proofs.Tests.{and-true}
 use Rattle.line.specs.declared.Record.{Record}
-use Rattle.answer.specs.Bytes.{overwritten, Put}
+use Rattle.answer.specs.Bytes.{overwritten}
 use Rattle.answer.proofs.Laws.{put-set, put-then}
 use Rattle.watch.specs.declared.Lead.{Lead}
 use Rattle.watch.specs.Model.{takesMove, filedMove}

@@ -5,14 +5,14 @@ use mathlib.Core.List.{List, [], _∷_, _++_, map, append-nil}
 use native.Mathlib.Decide.{decLe}
 use native.Mathlib.Omega.{arith}
 use borrow.Author.Tests.{le-leb, lt-leb}
-use lib.ListN.{length, take, drop, length-append, length-take, length-drop}
+use lib.ListN.{length, take, drop, length-append, length-take}
 use lib.Seq.{take-take, take-append-seam}
 use Rattle.plain.specs.Machine.{Line}
 use Rattle.answer.specs.Bytes.{overwritten, Put}
 use Rattle.answer.specs.Rendering.{render, rendered}
 use Rattle.answer.proofs.Laws.{overwritten-append, length-overwritten, put-none, take-put}
 use Rattle.watch.specs.Text.{fitted, stopped, Fitted}
-use Rattle.watch.specs.Model.{fits, firstOf, bufferMost, Laid}
+use Rattle.watch.specs.Model.{fits, firstOf, Laid}
 
 -- ---- how much of two lines fits
 

@@ -1,17 +1,17 @@
 -- One line: what the functions of a line do, taken together, is the plain definition's step. Assumes nothing.
-use Prim.Native.Nat.{ℕ, _+_, _*_, _/_, _≤_, _<_}
+use Prim.Native.Nat.{ℕ, _+_, _*_, _/_, _<_}
 use mathlib.Core.Path.{_≡_, refl, sym, ap, subst, subst⁻¹, _∙_}
 use mathlib.Core.Bool.{Bool, true, false, _&&_, cond}
 use mathlib.Core.List.{List, [], _∷_, _++_}
 use native.Mathlib.Omega.{arith}
 use native.Mathlib.Decide.{decLe}
 use borrow.Author.Tests.{eq-eqb, ne-eqb, le-leb, lt-leb, leb-false}
-use lib.Dec.{eqb, leb}
-use lib.ListN.{length, take, length-append, replicate}
+use lib.Dec.{eqb}
+use lib.ListN.{length, take, length-append}
 use Rattle.plain.specs.Search.{Edge, Verdict, none, lasso, unfinished, verdict, count}
 use Rattle.plain.specs.Table.{final, withMark, acceptingCount}
-use Rattle.plain.specs.Refusals.{Trial, accepted, refused, Load, loadTrial, full}
-use Rattle.plain.specs.Machine.{Answer as PlainAnswer, refusal, answer, loadAnswer, tableOf, answerTo, Line, gameLine, roundLine, noneLine, noLine, answerLine}
+use Rattle.plain.specs.Refusals.{Trial, accepted, refused, loadTrial, full}
+use Rattle.plain.specs.Machine.{Answer as PlainAnswer, answer, loadAnswer, tableOf, answerTo, Line, gameLine, roundLine, noneLine, noLine, answerLine}
 use Rattle.plain.proofs.Tests.{and-true}
 use Rattle.line.specs.Words.{isWord}
 use Rattle.line.specs.declared.Word.the-variants.{Game, Pay, Move, Go}
@@ -23,11 +23,11 @@ use Rattle.session.specs.declared.Answer.{Answer}
 use Rattle.session.specs.declared.Answer.the-variants.{Refused, Clear, Round}
 use Rattle.session.specs.declared.Session.{Session}
 use Rattle.session.specs.declared.Outcome.{Outcome}
-use Rattle.session.specs.Promises.{shown, changeOf, callOf, Holds, Loads}
+use Rattle.session.specs.Promises.{shown, changeOf, Holds, Loads}
 use Rattle.watch.specs.declared.Stage.{Stage}
 use Rattle.watch.specs.declared.Stage.the-variants.{Waiting, Gathering, Playing, Over}
 use Rattle.watch.specs.declared.Lead.{Lead}
-use Rattle.watch.specs.declared.Ask.the-variants.{Load as AskLoad, Change}
+use Rattle.watch.specs.declared.Ask.the-variants.{Load as AskLoad}
 use Rattle.watch.specs.declared.Task.{Task}
 use Rattle.watch.specs.declared.Task.the-variants.{Nothing, Refuse, Ask as Asks}
 use Rattle.watch.specs.declared.Plan.{Plan}

@@ -25,7 +25,7 @@ use Rattle.watch.specs.declared.Task.the-variants.{Nothing, Refuse, Ask 
 use Rattle.watch.specs.Text.{Held, waiting, gathering, playing, ended, room, step, printed}
 use Rattle.watch.specs.declared.Plan.{Plan}
 use Rattle.watch.specs.declared.Written.{Written}
-use Rattle.watch.specs.Model.{numbersMost, asked, filedMove, isRefused, Serves, bufferMost, linesFor, linesTold, leadFor, Laid, Writes, isOver}
+use Rattle.watch.specs.Model.{numbersMost, asked, filedMove, isRefused, Serves, linesMost, linesFor, linesTold, Laid, Writes, isOver}
 use Rattle.watch.proofs.Task.{the-type}
 use Rattle.watch.proofs.Output.{AtMostTwo}
 use Rattle.watch.proofs.Steps.{Tracks, Follows, stepped}
@@ -104,7 +104,7 @@ pub record Behind (p : Held) (r : Record) (ns : List ℕ) (s : Session) (d d′ 
 
 -- the three functions of a line, one after the other
 module _ (l : Lead) (ns : List ℕ) (s : Session) (p : Held) (walk : List ℕ) (r : Record) (ns′ : List ℕ) (c : Outcome) (walk′ d d′ : List ℕ) (w : Written)
-    (n : length ns ≡ numbersMost) (k : length walk ≡ room) (b : length d ≡ bufferMost) (h : Tracks l ns s p) (f : ns′ ≡ filedMove l r ns) where
+    (n : length ns ≡ numbersMost) (k : length walk ≡ room) (b : length d ≡ linesMost) (h : Tracks l ns s p) (f : ns′ ≡ filedMove l r ns) where
   behind-asked : Done (asked l r .task) l ns′ s walk c walk′ → Writes (asked l r) (c .answer) walk′ d d′ w → Behind p r ns′ (c .session) d d′ w
   behind-asked v t =
       let q = asked l r in

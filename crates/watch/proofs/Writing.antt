@@ -23,7 +23,7 @@ use Rattle.session.specs.Promises.{shown}
 use Rattle.watch.specs.declared.Plan.{Plan}
 use Rattle.watch.specs.declared.Lengths.{Lengths}
 use Rattle.watch.specs.Text.{room}
-use Rattle.watch.specs.Model.{bufferMost, linesFor, linesTold, Laid}
+use Rattle.watch.specs.Model.{linesMost, linesFor, linesTold, Laid}
 
 -- ---- the walk, as far as it goes
 
@@ -114,14 +114,14 @@ few-paying words = count-le 512 (accepts words)
 -- ---- by whether there is room
 
 module _ (p : Plan) (answer : Answer) (walk : List ℕ) (size : ℕ) where
-  pub told-lines : length walk ≤ room → bufferMost ≤ size → linesFor (p .task) (p .lead) answer walk ≡ linesTold p answer walk size
+  pub told-lines : length walk ≤ room → linesMost ≤ size → linesFor (p .task) (p .lead) answer walk ≡ linesTold p answer walk size
   unfolding linesTold
-  told-lines h k = rw (le-leb (length walk) room h, le-leb bufferMost size k)
+  told-lines h k = rw (le-leb (length walk) room h, le-leb linesMost size k)
 
   pub long-walk : room < length walk → [] ≡ linesTold p answer walk size
   unfolding linesTold
   long-walk h = rw (lt-leb (length walk) room h)
 
-  pub short-buffer : size < bufferMost → [] ≡ linesTold p answer walk size
+  pub short-buffer : size < linesMost → [] ≡ linesTold p answer walk size
   unfolding linesTold
-  short-buffer h = rw (lt-leb bufferMost size h, and-false (leb (length walk) room))
+  short-buffer h = rw (lt-leb linesMost size h, and-false (leb (length walk) room))

@@ -43,18 +43,23 @@ firstLead = record { stage = Waiting; size = 0; start = 0; words = replicate 8 0
 abbrev pub staged : Stage → Lead → Lead
 staged stage l = record { stage = stage; size = l .size; start = l .start; words = l .words; count = l .count }
 
+-- nothing is to be done
 abbrev pub noTask : Lead → Plan
 noTask l = record { lead = l; task = Nothing }
 
+-- the line is refused
 abbrev pub refusing : Stage → Lead → ℕ → Plan
 refusing stage l n = record { lead = staged stage l; task = Refuse (record { number = n }) }
 
+-- what was gathered is to be loaded
 abbrev pub loading : Lead → Plan
 loading l = record { lead = l; task = Asks AskLoad }
 
+-- a change is asked of the session
 abbrev pub changing : Op → Lead → Plan
 changing op l = record { lead = l; task = Asks (Change op) }
 
+-- "Order: one `game`"
 unfoldable pub askedFirst : Lead → Record → Plan
 askedFirst l r = cond (isWord (r .word) Game)
     (noTask (record { stage = Gathering; size = r .first; start = r .second; words = replicate 8 0; count = 0 }))
@@ -68,11 +73,12 @@ numbersMost = 4096
 unfoldable pub isFull : Lead → Bool
 isFull l = leb numbersMost (l .count)
 
--- a `move` before `go`
+-- "a 2,049th `move` line gets 5 as it is read"
 unfoldable pub askedMove : Lead → Plan
 askedMove l = cond (isFull l) (refusing Over l 5)
     (noTask (record { stage = Gathering; size = l .size; start = l .start; words = l .words; count = l .count + 2 }))
 
+-- ".. any `pay`, any `move`, one `go`"
 unfoldable pub askedBefore : Lead → Record → Plan
 askedBefore l r =
     cond (isWord (r .word) Pay && eqb (l .count) 0)
@@ -81,6 +87,7 @@ askedBefore l r =
     (cond (isWord (r .word) Go) (loading l)
     (refusing Over l 1)))
 
+-- ".. then `add` and `cut`"
 unfoldable pub askedAfter : Lead → Record → Plan
 askedAfter l r =
     cond (isWord (r .word) Word.Add) (changing (Add (r .first) (r .second)) l)
@@ -98,13 +105,14 @@ asked l r = askedAt (l .stage) l r
 
 -- ---- the moves' numbers
 
+-- is the line a `move`, where moves are gathered?
 abbrev pub moveAt : Stage → Record → Bool
 moveAt Waiting r = false
 moveAt Gathering r = isWord (r .word) Move
 moveAt Playing r = false
 moveAt Over r = false
 
--- is the line a `move` that is taken: before `go`, and fewer than 2,048 so far?
+-- is it one that is taken: are there fewer than 2,048 so far?
 unfoldable pub takesMove : Lead → Record → Bool
 takesMove l r = not (isFull l) && moveAt (l .stage) r
 
@@ -115,20 +123,22 @@ filedMove l r ns = cond (takesMove l r && leb (l .count + 2) (length ns)) (overw
 
 -- ---- what the session is asked
 
+-- what the lead and the list of the moves' numbers gathered
 abbrev pub gathered : Lead → List ℕ → Load
 gathered l ns = record { size = l .size; start = l .start; words = l .words; numbers = take (l .count) ns }
 
+-- by what is asked, the session's own promise
 abbrev pub Serves : Ask → Lead → List ℕ → Session → List ℕ → Outcome → List ℕ → Type 0
 Serves AskLoad l ns s walk r walk′ = Loads (gathered l ns) walk r walk′
 Serves (Change op) l ns s walk r walk′ = Changes op s walk r walk′
 
 -- ---- the lines that tell it
 
--- a buffer of so many bytes holds every answer's lines
-abbrev pub bufferMost : ℕ
-bufferMost = 3200
+-- the lines that tell an answer have no more bytes
+abbrev pub linesMost : ℕ
+linesMost = 3200
 
--- the line `game` has no more bytes
+-- of these, the line `game`
 abbrev pub gameMost : ℕ
 gameMost = 23
 
@@ -137,6 +147,7 @@ isRefused (Refused refusal) = true
 isRefused (Clear spent kept) = false
 isRefused (Round spent kept stem cycle) = false
 
+-- "An accepted load writes `game`, N, the count of moves and the count of paying states. Then come the load's answer .."
 abbrev pub linesOfLoad : Lead → Answer → List ℕ → List Line
 linesOfLoad l answer walk = cond (isRefused answer) (shown answer walk ∷ [])
     (gameLine (l .size) (l .count / 2) (acceptingCount (l .words)) ∷ shown answer walk ∷ [])
@@ -148,10 +159,10 @@ linesFor (Refuse refusal) l answer walk = shown (Refused refusal) walk ∷ []
 linesFor (Asks AskLoad) l answer walk = linesOfLoad l answer walk
 linesFor (Asks (Change op)) l answer walk = shown answer walk ∷ []
 
--- the lines told of a line's plan and an answer, with the list of the walk, in a buffer of so many bytes: where the one is longer than the box's or the
--- other shorter, none
+-- The lines told of a plan and an answer, with the list of the walk, in a buffer of so many bytes. Where that list is longer than the box's own, or the
+-- buffer too short for some answer, none is told.
 unfoldable pub linesTold : Plan → Answer → List ℕ → ℕ → List Line
-linesTold p answer walk size = cond (leb (length walk) room && leb bufferMost size) (linesFor (p .task) (p .lead) answer walk) []
+linesTold p answer walk size = cond (leb (length walk) room && leb linesMost size) (linesFor (p .task) (p .lead) answer walk) []
 
 -- "A refusal up to and with `go` .. ends the program"
 abbrev pub leadLoaded : Lead → Answer → Lead

@@ -87,9 +87,11 @@ loadStep (refused n) d = stop n
 abbrev pub draftOf : Record → Draft
 draftOf r = record { size = r .first; start = r .second; marks = replicate 8 0; moves = [] }
 
+-- "`pay` (state)"; "Two `pay` lines for one state count as one."
 abbrev pub withPay : Record → Draft → Draft
 withPay r d = record { size = d .size; start = d .start; marks = withMark (d .marks) (r .first); moves = d .moves }
 
+-- "`move` (from, to)": behind the others, in the order of arrival
 abbrev pub withMove : Record → Draft → Draft
 withMove r d = record { size = d .size; start = d .start; marks = d .marks; moves = d .moves ++ ((r .first, r .second) ∷ []) }
 

@@ -17,7 +17,7 @@ ghost use Rattle.answer.specs.Rendering.{render};
 ghost use Rattle.line.specs.Records.{recordOf};
 ghost use Rattle.session.specs.Promises.{shown};
 ghost use Rattle.session.specs.Model.{noGame};
-ghost use Rattle.watch.specs.Model.{firstLead, staged as Model·staged, noTask, refusing as Model·refusing, changing as Model·changing, isFull, askedFirst, askedMove, askedBefore, askedAfter, asked, takesMove, filedMove, Serves, isRefused, gameMost, bufferMost, linesFor, linesOfLoad, leadLoaded, leadFor, Laid, Writes, isOver, fits};
+ghost use Rattle.watch.specs.Model.{firstLead, staged as Model·staged, noTask, refusing as Model·refusing, changing as Model·changing, isFull, askedFirst, askedMove, askedBefore, askedAfter, asked, takesMove, filedMove, Serves, isRefused, gameMost, linesMost, linesFor, linesOfLoad, leadLoaded, leadFor, Laid, Writes, isOver, fits};
 ghost use Rattle.watch.specs.Text.{room, counted, outputOf, outputMost, Fitted, Watched};
 
 // "An input of more than 4,294,967,295 bytes counts as ending behind the last newline among these."
@@ -32,7 +32,7 @@ pub const NUMBERS: usize = 4096;
 // The box's own list for the walk has an entry for each of 512 states.
 pub const WALK: usize = 512;
 
-// The lines that tell an answer have no more bytes: 23 for `game`, and 30 and 6 for each entry of the walk.
+// The lines that tell an answer have no more bytes: `game` has 23 at most, and a round 30 and 6 for each of 512 entries.
 pub const LINES: usize = 3200;
 
 // How far the lead has come: no line yet, before `go`, after it, or past a refusal that ends the run.
@@ -319,7 +319,7 @@ fn is_refused(answer: Answer) -> bool
 
 // Puts the line of an answer at a place.
 fn put_answer(out: &mut [u8], at: usize, answer: Answer, walk: &[u16]) -> usize
-    requires { ⌜ (length (now walk) ≤ room) × (at ≤ gameMost) × (bufferMost ≤ length (now out)) ⌝ }
+    requires { ⌜ (length (now walk) ≤ room) × (at ≤ gameMost) × (linesMost ≤ length (now out)) ⌝ }
     ensures { λ r. ⌜ Put (now (out .entry)) at (render (shown answer (now (walk .entry)))) (now (out .exit)) r ⌝ }
 {
     match answer {
@@ -339,7 +339,7 @@ fn put_answer(out: &mut [u8], at: usize, answer: Answer, walk: &[u16]) -> usize
 
 // The line of an answer at the head of a buffer.
 fn put_one(answer: Answer, walk: &[u16], out: &mut [u8]) -> Lengths
-    requires { ⌜ (length (now walk) ≤ room) × (bufferMost ≤ length (now out)) ⌝ }
+    requires { ⌜ (length (now walk) ≤ room) × (linesMost ≤ length (now out)) ⌝ }
     ensures { λ r. ⌜ Laid (shown answer (now (walk .entry)) ∷ []) (now (out .entry)) (now (out .exit)) (r .first) (r .len) ⌝ }
 {
     let n = put_answer(out, 0, answer, walk);
@@ -348,7 +348,7 @@ fn put_one(answer: Answer, walk: &[u16], out: &mut [u8]) -> Lengths
 
 // The lines of a load: `game` and the answer, or the refusal.
 fn put_load(lead: Lead, answer: Answer, walk: &[u16], out: &mut [u8]) -> Lengths
-    requires { ⌜ (length (now walk) ≤ room) × (bufferMost ≤ length (now out)) ⌝ }
+    requires { ⌜ (length (now walk) ≤ room) × (linesMost ≤ length (now out)) ⌝ }
     ensures { λ r. ⌜ Laid (linesOfLoad lead answer (now (walk .entry))) (now (out .entry)) (now (out .exit)) (r .first) (r .len) ⌝ }
 {
     if is_refused(answer) {
@@ -363,7 +363,7 @@ fn put_load(lead: Lead, answer: Answer, walk: &[u16], out: &mut [u8]) -> Lengths
 
 // The lines that tell what came of a line.
 fn put_lines(plan: Plan, answer: Answer, walk: &[u16], out: &mut [u8]) -> Lengths
-    requires { ⌜ (length (now walk) ≤ room) × (bufferMost ≤ length (now out)) ⌝ }
+    requires { ⌜ (length (now walk) ≤ room) × (linesMost ≤ length (now out)) ⌝ }
     ensures { λ r. ⌜ Laid (linesFor (plan .task) (plan .lead) answer (now (walk .entry))) (now (out .entry)) (now (out .exit)) (r .first) (r .len) ⌝ }
 {
     let lead = plan.lead;

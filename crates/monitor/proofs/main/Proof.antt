@@ -12,14 +12,15 @@ use lib.ListN.{length, replicate}
 use lib.Seq.{length-take-le}
 use Rattle.line.specs.Records.{recordOf}
 use Rattle.watch.specs.declared.Lead.{Lead}
-use Rattle.watch.specs.Text.{waiting, limit}
+use Rattle.watch.specs.Text.{waiting, room, limit}
+use Rattle.watch.specs.Model.{numbersMost, linesMost}
 use Rattle.watch.proofs.Steps.{Tracks}
-use Rattle.watch.proofs.Output.{laid-within}
+use Rattle.watch.proofs.Output.{laid-within, laid-first}
 use Rattle.watch.proofs.Turns.{Done, done-asked, done-not, Behind, behind}
 use Rattle.monitor.specs.declared.Status.{Status}
 use Rattle.monitor.specs.declared.Status.the-variants.{More, Line, Last, Over}
 use Rattle.monitor.specs.declared.Reader.{Reader}
-use Rattle.monitor.specs.Lines.{Within, heldIn, isLine, hasLine, heldBehind}
+use Rattle.monitor.specs.Lines.{chunk, heldMost, Within, heldIn, isLine, hasLine, heldBehind}
 use Rattle.monitor.proofs.Reading.{within-same}
 use Rattle.monitor.proofs.Printing.{Read, read-start, Come, come, onwards, printed, told-bytes, one-behind}
 use Rattle.monitor.proofs.main.Statement.{statement}
@@ -33,7 +34,7 @@ line-status Over e = absurd (true≢false (sym e))
 
 abbrev Inv-loop : tie.InvT-loop
 Inv-loop numbers₀ walk₀ lines₀ buf₀ held₀ lead₀ c₀ r₀ numbers walk lines buf held lead c r =
-    (length numbers ≡ 4096) × (length walk ≡ 512) × (length lines ≡ 3200) × (length buf ≡ 512) × (length held ≡ 33) × Within r 512
+    (length numbers ≡ numbersMost) × (length walk ≡ room) × (length lines ≡ linesMost) × (length buf ≡ chunk) × (length held ≡ heldMost) × Within r chunk
     × ((ls : List (List ℕ)) × ((seen : List ℕ) × (Read r held buf seen ls × Tracks lead numbers (c .session) (heldBehind waiting (map recordOf ls)))))
 
 abbrev μ-loop : tie.MeasureT-loop
@@ -166,9 +167,9 @@ came : (w : tie.After-write Inv-loop μ-loop)
     → Come (found w .next-line .result) (found w .next-line .last .1 .0) (found w .next-line .last .0) (seen-by w) (before-it w)
 came w = come (at-loop w .loop .r) (at-loop w .loop .held) (at-loop w .loop .buf) _ _ _ _ _ (found w .next-line .ensures) (there w) (at-loop w .loop .inv .6 .1 .1 .0)
 
--- the lines end within the buffer
-within : (w : tie.After-write Inv-loop μ-loop) → w .write .result .len ≤ length (w .write .last .1 .1 .1 .0)
-within w = laid-within _ _ _ _ _ (told w .laid)
+-- the lines end within the buffer, and the first within both
+within : (w : tie.After-write Inv-loop μ-loop) → (w .write .result .len ≤ length (w .write .last .1 .1 .1 .0)) × (w .write .result .first ≤ w .write .result .len)
+within w = (laid-within _ _ _ _ _ (told w .laid), laid-first _ _ _ _ _ (told w .laid))
 
 array-share-prefix-held-2 : tie.Need-array-share-prefix-held-2 Inv-loop μ-loop
 array-share-prefix-held-2 c = omega (arith, found (c .before) .next-line .ensures .within .len)
@@ -189,7 +190,7 @@ array-share-prefix-lines c =
 slice-aggregate-print-3 : tie.Need-slice-aggregate-print-3 Inv-loop μ-loop
 slice-aggregate-print-3 c =
     let w = c .before .before .before .before in
-    sym (length-take-le (w .write .result .len) (w .write .last .1 .1 .1 .0) (within w))
+    sym (length-take-le _ (w .write .last .1 .1 .1 .0) (omega (arith, within w)))
 
 print-requires : tie.Need-print-requires Inv-loop μ-loop
 print-requires c κs =

@@ -1,7 +1,5 @@
 -- `watch::read`: the plan is that of the stage, and the list has the numbers of a `move` that is taken.
 use mathlib.Core.Path.{_≡_, ap, _∙_}
-use mathlib.Core.List.{List}
-use Prim.Native.Nat.{ℕ}
 use Rattle.line.specs.Records.{recordOf}
 use Rattle.line.specs.declared.Record.{Record}
 use Rattle.watch.specs.declared.Stage.the-variants.{Waiting, Gathering, Playing, Over}

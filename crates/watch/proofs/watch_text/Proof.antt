@@ -2,7 +2,7 @@
 use Prim.Native.Nat.{ℕ, _+_, _-_, _≤_}
 use mathlib.Core.Path.{_≡_, refl, sym, ap, subst, _∙_}
 use mathlib.Core.Logic.{⊎-elim}
-use mathlib.Core.List.{List, [], _++_, map}
+use mathlib.Core.List.{List, _++_, map}
 use native.Mathlib.Omega.{arith}
 use borrow.Author.Needs.{needs}
 use lib.ListN.{length, take, drop}
@@ -12,7 +12,8 @@ use Rattle.line.specs.declared.Record.{Record}
 use Rattle.line.proofs.Fields.{end-within}
 use Rattle.answer.specs.Rendering.{render}
 use Rattle.watch.specs.declared.Lead.{Lead}
-use Rattle.watch.specs.Text.{Held, waiting, step, outputOf}
+use Rattle.watch.specs.Text.{Held, waiting, room, step, outputOf}
+use Rattle.watch.specs.Model.{numbersMost, linesMost}
 use Rattle.watch.proofs.Steps.{Tracks}
 use Rattle.watch.proofs.Output.{Rest, rest-start, rest-end, all-put, not-put, fits-within, laid-within, laid-first}
 use Rattle.watch.proofs.Turns.{toTell, turn, told-all, over-told, Done, done-asked, done-not, Behind, behind}
@@ -21,7 +22,7 @@ use Rattle.watch.proofs.watch_text.Tie as tie
 
 abbrev Inv-loop : tie.InvT-loop
 Inv-loop text out₀ space numbers₀ walk₀ lines₀ lead₀ c₀ from₀ at₀ out numbers walk lines lead c from at =
-    (at ≤ space) × (length out ≡ length out₀) × (length numbers ≡ 4096) × (length walk ≡ 512) × (length lines ≡ 3200)
+    (at ≤ space) × (length out ≡ length out₀) × (length numbers ≡ numbersMost) × (length walk ≡ room) × (length lines ≡ linesMost)
     × ((p : Held) × (Tracks lead numbers (c .session) p × Rest out₀ space (outputOf text) out at (toTell p text from)))
 
 abbrev μ-loop : tie.MeasureT-loop
@@ -133,7 +134,7 @@ fitting-requires c κs = search needs
 
 -- what fits is within the space and within the buffer
 sizes : (c : tie.After-fitting Inv-loop μ-loop)
-    → (c .fitting .result ≤ the-start (at-loop (c .before .before)) .args .space - at-loop (c .before .before) .loop .at) × (c .fitting .result ≤ c .before .before .write .result .len) × (c .before .before .write .result .len ≤ 3200)
+    → (c .fitting .result ≤ the-start (at-loop (c .before .before)) .args .space - at-loop (c .before .before) .loop .at) × (c .fitting .result ≤ c .before .before .write .result .len) × (c .before .before .write .result .len ≤ linesMost)
 sizes c =
     let t = told (c .before .before) .laid in
     let e = c .fitting .ensures in

@@ -1,5 +1,5 @@
 -- `watch::write`: where there is room, the lines of the plan; else none.
-use mathlib.Core.Path.{_≡_, ap, _∙_}
+use mathlib.Core.Path.{ap, _∙_}
 use mathlib.Core.Logic.{⊎-elim}
 use lib.ListN.{length}
 use Rattle.watch.specs.declared.Lengths.{Lengths}
