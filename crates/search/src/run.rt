@@ -74,7 +74,7 @@ fn over(phase: Phase) -> bool
     }
 }
 
-// So many phases, unless the search is over before. A phase is a step or more, so that steps for each phase are enough.
+// So many phases, unless the search is over before. Each phase is a step or more.
 fn run(
     targets: &[u16; 2048],
     starts: &[u16; 513],
