@@ -8,7 +8,7 @@ use native.Mathlib.Omega.{arith}
 use lib.Dec.{eqb}
 use lib.ListN.{length, getD, set, drop, length-append, length-set, length-drop}
 use lib.Seq.{getD-set-same, getD-set-other}
-use borrow.Author.Tests.{lt-ltb, le-ltb, le-leb, lt-leb, eq-eqb, ne-eqb, eqb-true, eqb-false}
+use borrow.Author.Tests.{eqb-true, eqb-false}
 use Rattle.plain.specs.Lists.{elem, In, before, from}
 use Rattle.plain.specs.Search.{Graph, Edge, Frame, frame, onPath, Config, outer, nested, exhausted as ended, found, discoveredOf, markedOf, count, visit, finish as finishes, probe, step as stepOf, statesOf, stemOf, cycleOf}
 use Rattle.plain.specs.Notes.{Note, Notes, put, noteVisit, noteMark, noteProbe, noteOf, noted, Below}
@@ -19,11 +19,11 @@ use Rattle.plain.proofs.Lassos.{path-run, before-from}
 use Rattle.plain.proofs.Restore.{put-same, put-hit, put-other, ShapeOf, Counted}
 use Rattle.search.specs.declared.Phase.the-variants.{Outer, Nested, Exhausted, Found}
 use Rattle.search.specs.declared.Walker.{Walker}
-use Rattle.search.specs.Core.{noNumber, choose, Game, rowOf, Core, Sized, coreOf, up, plus, skipped, left, nesting, finished, returned, emptied, exhausted, closed, withWalker, probed, discover, leaveRoot, deepen, onOpenPath, targetOf, hasEdge, outerProbe, finish, outerStep, nestedProbe, nestedStep, step}
+use Rattle.search.specs.Core.{noNumber, choose, Game, rowOf, Core, coreOf, up, plus, skipped, left, nesting, finished, returned, emptied, exhausted, closed, withWalker, probed, discover, leaveRoot, deepen, onOpenPath, targetOf, finish, outerStep, nestedStep, step}
 use Rattle.search.specs.Archive.{Begins, rootOf, stampIn}
 use Rattle.search.proofs.Counting.{up-more, plus-more, further-more, no-edge, edge-left, drop-further}
 use Rattle.search.proofs.Represents.{noteIn, Records, Placed, AtOuter, AtNested, AtReturn, Stands, Matches, Limits}
-use Rattle.search.proofs.Ways.{step-at}
+use Rattle.search.proofs.Ways.{same-sized, outer-ends, outer-discovers, outer-skips, outer-finishes, nested-leaves, nested-closes, nested-deepens, nested-skips, nested-returns, nested-empties, step-at}
 use Rattle.search.proofs.Places.{begins-push, begins-pop, begins-at, states-length, placed-set, on-test, stem-length, cursors-set}
 
 -- ---- stamps
@@ -47,24 +47,12 @@ not-one x b n = not-true (elem x (b ∷ [])) (λ i. n (in-one x b i))
 
 -- ---- the records
 
-records-sized : (s : Core) (w : Walker) (spent : ℕ) → Sized s → Sized (coreOf w spent (s .number) (s .parent) (s .index) (s .probes) (s .stamp) (s .walk) (s .depth) (s .cursor))
-records-sized s w spent z = record {
-  number-size = z .number-size;
-  parent-size = z .parent-size;
-  index-size = z .index-size;
-  probes-size = z .probes-size;
-  stamp-size = z .stamp-size;
-  walk-size = z .walk-size;
-  depth-size = z .depth-size;
-  cursor-size = z .cursor-size;
-}
-
 -- a step that discovers and marks nothing: the walker and the count change
 records-idle : (s : Core) (r : Notes) (c c′ : Config) (w : Walker) (spent : ℕ) → discoveredOf c′ ≡ discoveredOf c → markedOf c′ ≡ markedOf c → rootOf c′ ≡ rootOf c
     → w .met ≡ s .walker .met → w .kept + spent ≡ count c′ → Records s r c
     → Records (coreOf w spent (s .number) (s .parent) (s .index) (s .probes) (s .stamp) (s .walk) (s .depth) (s .cursor)) r c′
 records-idle s r c c′ w spent e f ρ m n h = record {
-  sized = records-sized s w spent (h .sized);
+  sized = same-sized s (h .sized) w spent;
   notes-right = λ x i. h .notes-right x (rw e at i);
   stamps-right = λ x i. stamp-same c c′ (s .stamp) x e ρ ∙ h .stamps-right x (rw f at i);
   undiscovered = λ x b o. h .undiscovered x b (rw e at o);
@@ -79,7 +67,7 @@ records-nest : (s : Core) (r : Notes) (c c′ : Config) (w : Walker) (b : ℕ) �
     → rootOf c′ ≡ b ∷ [] → elem b (markedOf c) ≡ false → b < 512 → w .met ≡ s .walker .met → w .kept + s .spent ≡ count c′ → Records s r c
     → Records (withWalker s w) (record { of = r .of; stamp = put b (length (discoveredOf c)) (r .stamp) }) c′
 records-nest s r c c′ w b e f ρ ρ′ u l m n h = record {
-  sized = records-sized s w (s .spent) (h .sized);
+  sized = same-sized s (h .sized) w (s .spent);
   notes-right = λ x i. h .notes-right x (rw e at i);
   stamps-right = λ x i. ⊎-elim
       (λ z. let i : In x (b ∷ []) = rw z (in-head b []) in stamp-root c′ (s .stamp) x (rw ρ′ i) ∙ ap length e ∙ sym (put-hit b (length (discoveredOf c)) (r .stamp) x z))
@@ -247,43 +235,6 @@ stem-is : (depth : List ℕ) (t b : ℕ) (p : List Frame) → Placed depth (fram
 unfolding stemOf
 stem-is depth t b p h d o = sym (stem-length depth t (frame b [] ∷ p) h d o)
 
--- ---- tests
-
-new-test : (array : List ℕ) (t : ℕ) (a b : Core) → getD array t 0 ≡ noNumber → choose (eqb (getD array t 0) noNumber) a b ≡ a
-new-test array t a b e = rw (eq-eqb (getD array t 0) noNumber e)
-
-old-test : (array : List ℕ) (t : ℕ) (a b : Core) → getD array t 0 < noNumber → choose (eqb (getD array t 0) noNumber) a b ≡ b
-old-test array t a b h = rw (ne-eqb (getD array t 0) noNumber (λ e. omega arith))
-
-module _ (game : Game) (s : Core) where
-  outer-end : s .walker .height ≡ 0 → outerStep game s ≡ withWalker s (exhausted (s .walker))
-  unfolding outerStep
-  outer-end e = rw (eq-eqb (s .walker .height) 0 e)
-
-  outer-edge : 0 < s .walker .height → hasEdge game s ≡ true → outerStep game s ≡ outerProbe game s
-  unfolding outerStep
-  outer-edge h e = rw (ne-eqb (s .walker .height) 0 (λ z. omega arith), e)
-
-  outer-last : 0 < s .walker .height → hasEdge game s ≡ false → outerStep game s ≡ finish game s
-  unfolding outerStep
-  outer-last h e = rw (ne-eqb (s .walker .height) 0 (λ z. omega arith), e)
-
-  nested-end : s .walker .top < s .walker .height → nestedStep game s ≡ leaveRoot s
-  unfolding nestedStep
-  nested-end h = rw (lt-ltb (s .walker .top) (s .walker .height) h)
-
-  nested-edge : s .walker .height ≤ s .walker .top → hasEdge game s ≡ true → nestedStep game s ≡ nestedProbe game s
-  unfolding nestedStep
-  nested-edge h e = rw (le-ltb (s .walker .top) (s .walker .height) h, e)
-
-  nested-out : s .walker .height ≡ s .walker .top → hasEdge game s ≡ false → nestedStep game s ≡ withWalker s (emptied (s .walker))
-  unfolding nestedStep
-  nested-out h e = rw (le-ltb (s .walker .top) (s .walker .height) (omega arith), e, le-leb (s .walker .top) (s .walker .height) (omega arith))
-
-  nested-last : s .walker .height < s .walker .top → hasEdge game s ≡ false → nestedStep game s ≡ withWalker s (returned (s .walk) (s .cursor) (s .walker))
-  unfolding nestedStep
-  nested-last h e = rw (le-ltb (s .walker .top) (s .walker .height) (omega arith), e, lt-leb (s .walker .top) (s .walker .height) h)
-
 -- what the outcome of a step has to be
 abbrev pub Fits : Graph → Core → Notes → Config → Type 0
 Fits g s r c = Records s r c × Stands g s c
@@ -292,16 +243,16 @@ module _ (g : Graph) (game : Game) (m : Matches g game) where
   row-size : (v : ℕ) → length (g .successors v) ≡ length (rowOf game v)
   row-size v = ap length (m .rows v)
 
-  has-edge : (s : Core) (x : ℕ) → s .walker .cur ≡ x → s .walker .next < length (g .successors x) → hasEdge game s ≡ true
-  has-edge s x e h = lt-ltb (s .walker .next) (length (rowOf game (s .walker .cur))) (omega (arith, row-size (s .walker .cur), ap (λ (v : ℕ). length (g .successors v)) e))
+  has-edge : (s : Core) (x : ℕ) → s .walker .cur ≡ x → s .walker .next < length (g .successors x) → s .walker .next < length (rowOf game (s .walker .cur))
+  has-edge s x e h = omega (arith, row-size (s .walker .cur), ap (λ (v : ℕ). length (g .successors v)) e)
 
-  edges-done : (s : Core) (x : ℕ) → s .walker .cur ≡ x → length (g .successors x) ≤ s .walker .next → hasEdge game s ≡ false
-  edges-done s x e h = le-ltb (s .walker .next) (length (rowOf game (s .walker .cur))) (omega (arith, row-size (s .walker .cur), ap (λ (v : ℕ). length (g .successors v)) e))
+  edges-done : (s : Core) (x : ℕ) → s .walker .cur ≡ x → length (g .successors x) ≤ s .walker .next → length (rowOf game (s .walker .cur)) ≤ s .walker .next
+  edges-done s x e h = omega (arith, row-size (s .walker .cur), ap (λ (v : ℕ). length (g .successors v)) e)
 
-  target-is : (s : Core) (x t : ℕ) → s .walker .cur ≡ x → getD (g .successors x) (s .walker .next) 0 ≡ t → targetOf game s ≡ t
+  target-is : (s : Core) (x t : ℕ) → s .walker .cur ≡ x → getD (g .successors x) (s .walker .next) 0 ≡ t → t ≡ targetOf game s
   target-is s x t e h =
-      ap (λ (row : List ℕ). getD row (s .walker .next) 0) (sym (m .rows (s .walker .cur)))
-      ∙ ap (λ (v : ℕ). getD (g .successors v) (s .walker .next) 0) e ∙ h
+      sym (ap (λ (row : List ℕ). getD row (s .walker .next) 0) (sym (m .rows (s .walker .cur)))
+      ∙ ap (λ (v : ℕ). getD (g .successors v) (s .walker .next) 0) e ∙ h)
 
   -- ---- the outer search
 
@@ -554,17 +505,19 @@ module _ (g : Graph) (game : Game) (m : Matches g game) where
 
   -- ---- all steps
 
+  -- an edge of the outer search: does it lead to a discovered state?
   visit-fits : (v : Bool) (s : Core) (r : Notes) (x t : ℕ) (ts : List ℕ) (p : List Frame) (d k : List ℕ) (l : List Edge) → elem t d ≡ v
+      → t ≡ targetOf game s → s .walker .next < length (rowOf game (s .walker .cur))
       → OuterInv g (frame x (t ∷ ts) ∷ p) d → Counted g r (outer (frame x (t ∷ ts) ∷ p) d k l)
       → Limits g (outer (frame x (t ∷ ts) ∷ p) d k l) → Limits g (visit g v x t ts p d k ((x, t) ∷ l))
       → Records s r (outer (frame x (t ∷ ts) ∷ p) d k l) → AtOuter g s x (t ∷ ts) p
-      → Fits g (choose (eqb (getD (s .number) t 0) noNumber) (discover (probed s) t) (withWalker (probed s) (skipped (s .walker)))) (noteVisit v t (noteOf g x ts d l) r) (visit g v x t ts p d k ((x, t) ∷ l))
+      → Fits g (outerStep game s) (noteVisit v t (noteOf g x ts d l) r) (visit g v x t ts p d k ((x, t) ∷ l))
   unfolding onPath
-  visit-fits true s r x t ts p d k l e o n u u′ h a =
-      rw (old-test (s .number) t (discover (probed s) t) (withWalker (probed s) (skipped (s .walker)))
-      (omega (arith, ap (λ (y : Note). y .number) (h .notes-right t e), n .0 t e, u .few))) (outer-skip s r x t ts p d k l u h a)
-  visit-fits false s r x t ts p d k l e o n u u′ h a =
-      rw (new-test (s .number) t (discover (probed s) t) (withWalker (probed s) (skipped (s .walker))) (h .undiscovered t (u′ .below t (in-head t d)) e))
+  visit-fits true s r x t ts p d k l e at there o n u u′ h a =
+      rw (sym (outer-skips game s at refl there (λ z. omega (arith, a .height-is))
+      (λ z. omega (arith, ap (λ (y : Note). y .number) (h .notes-right t e), n .0 t e, u .few)))) (outer-skip s r x t ts p d k l u h a)
+  visit-fits false s r x t ts p d k l e at there o n u u′ h a =
+      rw (sym (outer-discovers game s at refl there (λ z. omega (arith, a .height-is)) (h .undiscovered t (u′ .below t (in-head t d)) e)))
       (outer-new s r x t ts p d k l u (omega (arith, u′ .walk-few)) (u′ .below t (in-head t d)) e (not-true (onPath t (frame x ts ∷ p)) (λ i. contra (o .known t i) e)) h a)
 
   finish-fits : (v : Bool) (s : Core) (r : Notes) (x : ℕ) (p : List Frame) (d k : List ℕ) (l : List Edge) → OuterInv g (frame x [] ∷ p) d → Marks g (frame x [] ∷ p) d k → Below g r x p
@@ -590,74 +543,58 @@ module _ (g : Graph) (game : Game) (m : Matches g game) where
       let away : elem t (b ∷ []) ≡ false = not-one t b (λ z. contra (rw z (on-head b [] p)) off) in
       omega (arith, stamp-there (nested b p q d k l) (s .stamp) t away, h .stamps-right t i, c .1 t i, u .few)
 
-  -- the ways of a probe
-  abbrev probes-to : Core → ℕ → Core
-  probes-to s t = choose (eqb (getD (s .stamp) t 0) noNumber)
-      (choose (onOpenPath (s .walk) (s .depth) (s .walker .height) t) (withWalker (probed s) (closed (s .walker) (getD (s .depth) t 0))) (deepen (probed s) t))
-      (withWalker (probed s) (skipped (s .walker)))
-
-  probe-closes : (s : Core) (t : ℕ) → getD (s .stamp) t 0 ≡ noNumber → onOpenPath (s .walk) (s .depth) (s .walker .height) t ≡ true
-      → probes-to s t ≡ withWalker (probed s) (closed (s .walker) (getD (s .depth) t 0))
-  probe-closes s t e f = rw (eq-eqb (getD (s .stamp) t 0) noNumber e, f)
-
-  probe-deepens : (s : Core) (t : ℕ) → getD (s .stamp) t 0 ≡ noNumber → onOpenPath (s .walk) (s .depth) (s .walker .height) t ≡ false
-      → probes-to s t ≡ deepen (probed s) t
-  probe-deepens s t e f = rw (eq-eqb (getD (s .stamp) t 0) noNumber e, f)
-
+  -- an edge of the nested search: does it lead to the open path? to a marked state?
   probe-fits : (v w : Bool) (s : Core) (r : Notes) (b : ℕ) (p : List Frame) (x t : ℕ) (ts : List ℕ) (q : List Frame) (d k : List ℕ) (l : List Edge) → onPath t (frame b [] ∷ p) ≡ v → elem t k ≡ w
-      → onOpenPath (s .walk) (s .depth) (s .walker .height) t ≡ v
+      → onOpenPath (s .walk) (s .depth) (s .walker .height) t ≡ v → t ≡ targetOf game s → s .walker .next < length (rowOf game (s .walker .cur))
       → OuterInv g (frame b [] ∷ p) d → (old : List ℕ) → NestedInv g b p (frame x (t ∷ ts) ∷ q) d k old → Counted g r (nested b p (frame x (t ∷ ts) ∷ q) d k l)
       → Limits g (nested b p (frame x (t ∷ ts) ∷ q) d k l) → Limits g (probe g v w b p x t ts q d k ((x, t) ∷ l))
       → Records s r (nested b p (frame x (t ∷ ts) ∷ q) d k l) → AtNested g s b p x (t ∷ ts) q
-      → Fits g (probes-to s t) (noteProbe v w t (length d) r) (probe g v w b p x t ts q d k ((x, t) ∷ l))
-  probe-fits true w s r b p x t ts q d k l e f z o old n c u u′ h a =
-      rw (probe-closes s t (path-unmarked s r b p x t ts q d k l e o old n u h) z) (nested-found s r b p x t ts q d k l u (n .chain) (o .distinct) e h a)
-  probe-fits false true s r b p x t ts q d k l e f z o old n c u u′ h a =
-      rw (old-test (s .stamp) t _ (withWalker (probed s) (skipped (s .walker))) (off-marked s r b p (frame x (t ∷ ts) ∷ q) t d k l e f c u h)) (nested-skip s r b p x t ts q d k l u h a)
-  probe-fits false false s r b p x t ts q d k l e f z o old n c u u′ h a =
+      → Fits g (nestedStep game s) (noteProbe v w t (length d) r) (probe g v w b p x t ts q d k ((x, t) ∷ l))
+  probe-fits true w s r b p x t ts q d k l e f z at there o old n c u u′ h a =
+      rw (sym (nested-closes game s at refl there (omega (arith, a .top-is, a .height-is)) (path-unmarked s r b p x t ts q d k l e o old n u h) refl z))
+      (nested-found s r b p x t ts q d k l u (n .chain) (o .distinct) e h a)
+  probe-fits false true s r b p x t ts q d k l e f z at there o old n c u u′ h a =
+      let marked = off-marked s r b p (frame x (t ∷ ts) ∷ q) t d k l e f c u h in
+      rw (sym (nested-skips game s at refl there (omega (arith, a .top-is, a .height-is)) (λ y. omega arith))) (nested-skip s r b p x t ts q d k l u h a)
+  probe-fits false false s r b p x t ts q d k l e f z at there o old n c u u′ h a =
       let i : t < 512 = u .below t (next-known g b p x t ts q d k old o n) in
-      rw (probe-deepens s t (h .unmarked t i f) z) (nested-deepen s r b p x t ts q d k l u (omega (arith, u′ .walk-few)) i (n .base) f h a)
+      rw (sym (nested-deepens game s at refl there (omega (arith, a .top-is, a .height-is)) (h .unmarked t i f) z))
+      (nested-deepen s r b p x t ts q d k l u (omega (arith, u′ .walk-few)) i (n .base) f h a)
 
   accepts-is : (s : Core) (x : ℕ) → s .walker .cur ≡ x → finish game s ≡ withWalker s (finished (g .accepting x) (s .parent) (s .index) (s .walker))
   unfolding finish
   accepts-is s x e = ap (λ (v : Bool). withWalker s (finished v (s .parent) (s .index) (s .walker))) (sym (m .acceptance (s .walker .cur)) ∙ ap (g .accepting) e)
-
-  outer-probes : (s : Core) (t : ℕ) → targetOf game s ≡ t
-      → outerProbe game s ≡ choose (eqb (getD (s .number) t 0) noNumber) (discover (probed s) t) (withWalker (probed s) (skipped (s .walker)))
-  unfolding outerProbe
-  outer-probes s t e = ap (λ (y : ℕ). choose (eqb (getD (s .number) y 0) noNumber) (discover (probed s) y) (withWalker (probed s) (skipped (s .walker)))) e
-
-  nested-probes : (s : Core) (t : ℕ) → targetOf game s ≡ t → nestedProbe game s ≡ probes-to s t
-  unfolding nestedProbe
-  nested-probes s t e = ap (probes-to s) e
 
   -- ONE STEP of the arrays is one step of the plain search, and notes what that notes
   pub one-step : (s : Core) (r : Notes) (c : Config) → Inv g c → ShapeOf g r c → Counted g r c → Limits g c → Limits g (stepOf g c) → Records s r c → Stands g s c
       → Fits g (step game s) (noted g c r) (stepOf g c)
   unfolding stepOf noted
   one-step s r (outer [] d k l) v z n u u′ h a =
-      rw (sym (step-at game s Outer (a .0)), outer-end game s (a .1))
+      rw (sym (step-at game s Outer (a .0)), sym (outer-ends game s (a .1)))
       (records-idle s r (outer [] d k l) (ended d k l) (exhausted (s .walker)) (s .spent) refl refl refl refl (h .probes-right) h, (refl, refl))
   one-step s r (outer (frame x [] ∷ p) d k l) (o, w) z n u u′ h a =
-      rw (sym (step-at game s Outer (a .phase-is)), outer-last game s (omega (arith, a .height-is)) (edges-done s x (a .cur-is) (no-edge (g .successors x) (s .walker .next) (a .pending-is))), accepts-is s x (a .cur-is))
+      let done = edges-done s x (a .cur-is) (no-edge (g .successors x) (s .walker .next) (a .pending-is)) in
+      rw (sym (step-at game s Outer (a .phase-is)), sym (outer-finishes game s done (λ y. omega (arith, a .height-is))), accepts-is s x (a .cur-is))
       (finish-fits (g .accepting x) s r x p d k l o w (z .0) u h a)
   one-step s r (outer (frame x (t ∷ ts) ∷ p) d k l) (o, w) z n u u′ h a =
       let e = edge-left (g .successors x) (s .walker .next) t ts (a .pending-is) in
-      rw (sym (step-at game s Outer (a .phase-is)), outer-edge game s (omega (arith, a .height-is)) (has-edge s x (a .cur-is) (e .there)), outer-probes s t (target-is s x t (a .cur-is) (e .target)))
-      (visit-fits (elem t d) s r x t ts p d k l refl o n u u′ h a)
+      rw (sym (step-at game s Outer (a .phase-is)))
+      (visit-fits (elem t d) s r x t ts p d k l refl (target-is s x t (a .cur-is) (e .target)) (has-edge s x (a .cur-is) (e .there)) o n u u′ h a)
   one-step s r (nested b p [] d k l) (o, (old, w)) z n u u′ h a =
-      rw (sym (step-at game s Nested (a .phase-is)), nested-end game s (omega (arith, a .top-is, a .height-is)))
+      rw (sym (step-at game s Nested (a .phase-is)), sym (nested-leaves game s (omega (arith, a .top-is, a .height-is))))
       (nested-leave s r b p d k l u (o .known b (on-head b [] p)) (w .base) (z .0) h a)
   one-step s r (nested b p (frame x [] ∷ []) d k l) (o, (old, w)) z n u u′ h a =
-      rw (sym (step-at game s Nested (a .phase-is)), nested-out game s (omega (arith, a .top-is, a .height-is)) (edges-done s x (a .cur-is) (no-edge (g .successors x) (s .walker .next) (a .pending-is))))
+      let done = edges-done s x (a .cur-is) (no-edge (g .successors x) (s .walker .next) (a .pending-is)) in
+      rw (sym (step-at game s Nested (a .phase-is)), sym (nested-empties game s done (omega (arith, a .top-is, a .height-is)) (omega (arith, a .top-is, a .height-is))))
       (nested-empty s r b p x d k l (w .chain) h a)
   one-step s r (nested b p (frame x [] ∷ frame y us ∷ q) d k l) (o, (old, w)) z n u u′ h a =
-      rw (sym (step-at game s Nested (a .phase-is)), nested-last game s (omega (arith, a .top-is, a .height-is)) (edges-done s x (a .cur-is) (no-edge (g .successors x) (s .walker .next) (a .pending-is))))
+      let done = edges-done s x (a .cur-is) (no-edge (g .successors x) (s .walker .next) (a .pending-is)) in
+      rw (sym (step-at game s Nested (a .phase-is)), sym (nested-returns game s done (omega (arith, a .top-is, a .height-is)) (omega (arith, a .top-is, a .height-is))))
       (nested-back s r b p x y us q d k l u h a)
   one-step s r (nested b p (frame x (t ∷ ts) ∷ q) d k l) (o, (old, w)) z n u u′ h a =
       let e = edge-left (g .successors x) (s .walker .next) t ts (a .pending-is) in
       let test = on-test (s .walk) (s .depth) (s .walker .height) t (frame b [] ∷ p) (a .height-is) (path-first s b p x (t ∷ ts) q (w .chain) (a .walk-is)) (a .places) in
-      rw (sym (step-at game s Nested (a .phase-is)), nested-edge game s (omega (arith, a .top-is, a .height-is)) (has-edge s x (a .cur-is) (e .there)), nested-probes s t (target-is s x t (a .cur-is) (e .target)))
-      (probe-fits (onPath t (frame b [] ∷ p)) (elem t k) s r b p x t ts q d k l refl refl test o old w n u u′ h a)
+      rw (sym (step-at game s Nested (a .phase-is)))
+      (probe-fits (onPath t (frame b [] ∷ p)) (elem t k) s r b p x t ts q d k l refl refl test (target-is s x t (a .cur-is) (e .target)) (has-edge s x (a .cur-is) (e .there)) o old w n u u′ h a)
   one-step s r (ended d k l) v z n u u′ h a = rw (sym (step-at game s Exhausted (a .0))) (h, a)
   one-step s r (found y p q d k l) v z n u u′ h a = rw (sym (step-at game s Found (a .phase-is))) (h, a)

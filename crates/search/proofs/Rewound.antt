@@ -22,7 +22,7 @@ use Rattle.search.specs.Core.{noNumber, Core, up, coreOf, upTo, forgetAb
 use Rattle.search.specs.Archive.{notesOf}
 use Rattle.search.proofs.Counting.{up-more}
 use Rattle.search.proofs.Represents.{Placed, Limits}
-use Rattle.search.proofs.Ways.{forget-length, forget-below, forget-behind}
+use Rattle.search.proofs.Ways.{forget-length, forget-below, forget-behind, walk-size, depth-size}
 use Rattle.search.proofs.OneStep.{Fits, stamp-all}
 
 -- ---- what is numbered up to a limit
@@ -118,16 +118,6 @@ module _ (g : Graph) (parent index : List ℕ) where
           → Placed (retraceDepth parent (suc (length p)) (getD parent x 0) (set depth x (suc (length p)))) (frame x ts ∷ frame y us ∷ p)
       shifted e w = subst (λ (v : ℕ). Placed (retraceDepth parent (suc (length p)) v (set depth x (suc (length p)))) (frame x ts ∷ frame y us ∷ p)) e w
 
-length-retrace-walk : (parent : List ℕ) (n x : ℕ) (walk : List ℕ) → length (retraceWalk parent n x walk) ≡ length walk
-unfolding retraceWalk
-length-retrace-walk parent zero x walk = refl
-length-retrace-walk parent (suc n) x walk = length-retrace-walk parent n (getD parent x 0) (set walk n x) ∙ length-set walk n x
-
-length-retrace-depth : (parent : List ℕ) (n x : ℕ) (depth : List ℕ) → length (retraceDepth parent n x depth) ≡ length depth
-unfolding retraceDepth
-length-retrace-depth parent zero x depth = refl
-length-retrace-depth parent (suc n) x depth = length-retrace-depth parent n (getD parent x 0) (set depth x n) ∙ length-set depth x n
-
 zeros-size : length (replicate 512 zero) ≡ 512
 zeros-size = length-replicate 512 zero
 
@@ -177,8 +167,8 @@ module _ (g : Graph) (r : Notes) (size s : ℕ) (p : List Frame) (d k : List ℕ
         index-size = a .sizes .index-size;
         probes-size = a .sizes .probes-size;
         stamp-size = forget-length (length d) stamp size ∙ a .sizes .stamp-size;
-        walk-size = length-retrace-walk parent (suc (length p)) s walk ∙ a .sizes .walk-size;
-        depth-size = length-retrace-depth parent (suc (length p)) s (replicate 512 0) ∙ zeros-size;
+        walk-size = walk-size parent (suc (length p)) s walk ∙ a .sizes .walk-size;
+        depth-size = depth-size parent (suc (length p)) s (replicate 512 0) ∙ zeros-size;
         cursor-size = zeros-size;
       };
       notes-right = λ x i. ap (λ (n : ℕ). note n x) (numbers x i) ∙ a .notes-right x i;

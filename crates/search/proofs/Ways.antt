@@ -207,7 +207,7 @@ phase-sized Exhausted x y s p q r = r
 phase-sized Found x y s p q r = r
 
 module _ (s : Core) (z : Sized s) where
-  same-sized : (w : Walker) (n : ℕ) → Sized (coreOf w n (s .number) (s .parent) (s .index) (s .probes) (s .stamp) (s .walk) (s .depth) (s .cursor))
+  pub same-sized : (w : Walker) (n : ℕ) → Sized (coreOf w n (s .number) (s .parent) (s .index) (s .probes) (s .stamp) (s .walk) (s .depth) (s .cursor))
   same-sized w n = sized _ (z .number-size) (z .parent-size) (z .index-size) (z .probes-size) (z .stamp-size) (z .walk-size) (z .depth-size) (z .cursor-size)
 
   discover-sized : (t : ℕ) → Sized (discover s t)
@@ -475,12 +475,12 @@ module _ (parent : List ℕ) (x : ℕ) where
   unfolding retraceDepth
   depth-none depth = refl
 
-walk-size : (parent : List ℕ) (n x : ℕ) (walk : List ℕ) → length (retraceWalk parent n x walk) ≡ length walk
+pub walk-size : (parent : List ℕ) (n x : ℕ) (walk : List ℕ) → length (retraceWalk parent n x walk) ≡ length walk
 unfolding retraceWalk
 walk-size parent zero x walk = refl
 walk-size parent (suc n) x walk = walk-size parent n (getD parent x 0) (set walk n x) ∙ length-set walk n x
 
-depth-size : (parent : List ℕ) (n x : ℕ) (depth : List ℕ) → length (retraceDepth parent n x depth) ≡ length depth
+pub depth-size : (parent : List ℕ) (n x : ℕ) (depth : List ℕ) → length (retraceDepth parent n x depth) ≡ length depth
 unfolding retraceDepth
 depth-size parent zero x depth = refl
 depth-size parent (suc n) x depth = depth-size parent n (getD parent x 0) (set depth x n) ∙ length-set depth x n

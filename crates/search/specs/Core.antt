@@ -14,6 +14,13 @@ use Rattle.search.specs.declared.Walker.{Walker}
 use Rattle.search.specs.declared.Row.{Row}
 use Rattle.search.specs.declared.Scanned.{Scanned}
 
+-- the entries of an array that goes by state, and of the array of targets
+abbrev pub mostStates : ℕ
+mostStates = 512
+
+abbrev pub mostTargets : ℕ
+mostTargets = 2048
+
 -- what stands in an array for "no number"
 abbrev pub noNumber : ℕ
 noNumber = 65535
@@ -31,12 +38,13 @@ pub record Game : Type 0 where
   pub starts : List ℕ
   pub words : List ℕ
 
+-- the game of lent arrays
 abbrev pub gameOf : List ℕ → List ℕ → List ℕ → Game
 gameOf targets starts words = record { targets = targets; starts = starts; words = words }
 
--- is v below 512, and does its row end within the array of targets?
+-- is v a state that a table can have, and does its row end within the array of targets?
 abbrev pub fits : List ℕ → ℕ → Bool
-fits starts v = ltb v 512 && leb (getD starts (suc v) 0) 2048
+fits starts v = ltb v mostStates && leb (getD starts (suc v) 0) mostTargets
 
 -- the row of v; one that does not fit counts as empty
 unfoldable pub rowIn : List ℕ → List ℕ → ℕ → List ℕ
@@ -51,6 +59,7 @@ acceptsAt g v = accepts (g .words) v
 
 -- ---- the arrays
 
+-- the arrays of a search, the count of its probes, and where it stands
 pub record Core : Type 0 where
   -- by state: discovery number, parent, index of the edge in the parent's row, probes made by then
   pub number : List ℕ
@@ -69,6 +78,7 @@ pub record Core : Type 0 where
   pub spent : ℕ
   pub walker : Walker
 
+-- the same of lent arrays
 abbrev pub coreOf : Walker → ℕ → List ℕ → List ℕ → List ℕ → List ℕ → List ℕ → List ℕ → List ℕ → List ℕ → Core
 coreOf w spent number parent index probes stamp walk depth cursor = record {
   number = number;
@@ -85,46 +95,46 @@ coreOf w spent number parent index probes stamp walk depth cursor = record {
 
 -- lengths that the arrays have by their types
 pub record Sized (s : Core) : Type 0 where
-  pub number-size : length (s .number) ≡ 512
-  pub parent-size : length (s .parent) ≡ 512
-  pub index-size : length (s .index) ≡ 512
-  pub probes-size : length (s .probes) ≡ 512
-  pub stamp-size : length (s .stamp) ≡ 512
-  pub walk-size : length (s .walk) ≡ 512
-  pub depth-size : length (s .depth) ≡ 512
-  pub cursor-size : length (s .cursor) ≡ 512
+  pub number-size : length (s .number) ≡ mostStates
+  pub parent-size : length (s .parent) ≡ mostStates
+  pub index-size : length (s .index) ≡ mostStates
+  pub probes-size : length (s .probes) ≡ mostStates
+  pub stamp-size : length (s .stamp) ≡ mostStates
+  pub walk-size : length (s .walk) ≡ mostStates
+  pub depth-size : length (s .depth) ≡ mostStates
+  pub cursor-size : length (s .cursor) ≡ mostStates
 
 -- the arrays that the outer search is lent
 pub record Recorded (number parent index probes walk depth : List ℕ) : Type 0 where
-  pub number-size : length number ≡ 512
-  pub parent-size : length parent ≡ 512
-  pub index-size : length index ≡ 512
-  pub probes-size : length probes ≡ 512
-  pub walk-size : length walk ≡ 512
-  pub depth-size : length depth ≡ 512
+  pub number-size : length number ≡ mostStates
+  pub parent-size : length parent ≡ mostStates
+  pub index-size : length index ≡ mostStates
+  pub probes-size : length probes ≡ mostStates
+  pub walk-size : length walk ≡ mostStates
+  pub depth-size : length depth ≡ mostStates
 
 -- those that the nested search is lent
 pub record Trailed (parent index stamp walk depth cursor : List ℕ) : Type 0 where
-  pub parent-size : length parent ≡ 512
-  pub index-size : length index ≡ 512
-  pub stamp-size : length stamp ≡ 512
-  pub walk-size : length walk ≡ 512
-  pub depth-size : length depth ≡ 512
-  pub cursor-size : length cursor ≡ 512
+  pub parent-size : length parent ≡ mostStates
+  pub index-size : length index ≡ mostStates
+  pub stamp-size : length stamp ≡ mostStates
+  pub walk-size : length walk ≡ mostStates
+  pub depth-size : length depth ≡ mostStates
+  pub cursor-size : length cursor ≡ mostStates
 
 -- those that outlive a search
 pub record Lengths (number parent index probes stamp walk : List ℕ) : Type 0 where
-  pub number-size : length number ≡ 512
-  pub parent-size : length parent ≡ 512
-  pub index-size : length index ≡ 512
-  pub probes-size : length probes ≡ 512
-  pub stamp-size : length stamp ≡ 512
-  pub walk-size : length walk ≡ 512
+  pub number-size : length number ≡ mostStates
+  pub parent-size : length parent ≡ mostStates
+  pub index-size : length index ≡ mostStates
+  pub probes-size : length probes ≡ mostStates
+  pub stamp-size : length stamp ≡ mostStates
+  pub walk-size : length walk ≡ mostStates
 
 -- those of the game's rows
 pub record Tabled (targets starts : List ℕ) : Type 0 where
-  pub targets-size : length targets ≡ 2048
-  pub starts-size : length starts ≡ 513
+  pub targets-size : length targets ≡ mostTargets
+  pub starts-size : length starts ≡ suc mostStates
 
 -- ---- numbers of 16 bits
 
@@ -208,6 +218,7 @@ exhausted w = record { phase = Exhausted; cur = w .cur; next = w .next; height =
 abbrev pub closed : Walker → ℕ → Walker
 closed w h = record { phase = Found; cur = w .cur; next = 0; height = w .height; top = w .top; stem = h; met = w .met; kept = w .kept }
 
+-- the arrays with another walker
 abbrev pub withWalker : Core → Walker → Core
 withWalker s w = coreOf w (s .spent) (s .number) (s .parent) (s .index) (s .probes) (s .stamp) (s .walk) (s .depth) (s .cursor)
 
@@ -292,6 +303,7 @@ module _ (g : Game) where
   unfoldable pub finish : Core → Core
   finish s = withWalker s (finished (acceptsAt g (s .walker .cur)) (s .parent) (s .index) (s .walker))
 
+  -- a step of the outer search; where the open path is empty, the search is over
   unfoldable pub outerStep : Core → Core
   outerStep s = choose (eqb (s .walker .height) 0) (withWalker s (exhausted (s .walker))) (choose (hasEdge s) (outerProbe s) (finish s))
 
@@ -303,12 +315,13 @@ module _ (g : Game) where
       (deepen (probed s) (targetOf s)))
       (withWalker (probed s) (skipped (s .walker)))
 
-  -- where the path of the nested search is empty, its first state is left
+  -- a step of the nested search; where its path is empty, its first state is left
   unfoldable pub nestedStep : Core → Core
   nestedStep s = choose (ltb (s .walker .top) (s .walker .height)) (leaveRoot s)
       (choose (hasEdge s) (nestedProbe s)
       (withWalker s (choose (leb (s .walker .top) (s .walker .height)) (emptied (s .walker)) (returned (s .walk) (s .cursor) (s .walker)))))
 
+  -- one step
   unfoldable pub step : Core → Core
   step s = byPhase (s .walker .phase) (outerStep s) (nestedStep s) s
 
@@ -324,11 +337,11 @@ pub record Spans (starts : List ℕ) (v : ℕ) (r : Row) : Type 0 where
   pub whole : fits starts v ≡ true → (r .from ≡ getD starts v 0) × (r .stop ≡ getD starts (suc v) 0)
   pub empty : fits starts v ≡ false → (r .from ≡ 0) × (r .stop ≡ 0)
   pub from-small : r .from < 65536
-  pub stop-small : r .stop ≤ 2048
+  pub stop-small : r .stop ≤ mostTargets
 
 -- a place of the row of v, or behind it; the array of starts has the length of its type
 pub record Places (starts : List ℕ) (v at : ℕ) : Type 0 where
-  pub starts-size : length starts ≡ 513
+  pub starts-size : length starts ≡ suc mostStates
   pub first : getD starts v 0 ≤ at
   pub near : at < getD starts v 0 + 65536
 
@@ -374,6 +387,7 @@ pub record Result : Type 0 where
   pub stamp : List ℕ
   pub walk : List ℕ
 
+-- the same of lent arrays
 abbrev pub resultOf : Walker → ℕ → List ℕ → List ℕ → List ℕ → List ℕ → List ℕ → List ℕ → Result
 resultOf w spent number parent index probes stamp walk = record {
   walker = w;
@@ -386,6 +400,7 @@ resultOf w spent number parent index probes stamp walk = record {
   walk = walk;
 }
 
+-- what a search leaves of its arrays
 abbrev pub result : Core → Result
 result s = resultOf (s .walker) (s .spent) (s .number) (s .parent) (s .index) (s .probes) (s .stamp) (s .walk)
 
@@ -426,15 +441,15 @@ retraceDepth parent (suc n) x depth = retraceDepth parent n (getD parent x 0) (s
 unfoldable pub rewound : ℕ → ℕ → ℕ → ℕ → List ℕ → List ℕ → List ℕ → List ℕ → List ℕ → List ℕ → Core
 rewound size start s spent number parent index probes stamp walk =
     let limit = getD number s 0 in
-    let height = climb parent start 512 s in
+    let height = climb parent start mostStates s in
     coreOf (record { phase = Outer; cur = s; next = 0; height = height; top = height; stem = 0; met = up limit; kept = getD probes s 0 }) spent
     (forgetAbove limit size number) parent index probes (forgetAbove limit size stamp)
-    (retraceWalk parent height s walk) (retraceDepth parent height s (replicate 512 0)) (replicate 512 0)
+    (retraceWalk parent height s walk) (retraceDepth parent height s (replicate mostStates 0)) (replicate mostStates 0)
 
 -- the arrays of a search that has discovered only the start state, and marked none
 pub record Fresh (start : ℕ) (number parent index probes stamp : List ℕ) : Type 0 where
-  pub number-is : number ≡ set (replicate 512 noNumber) start 0
-  pub parent-is : parent ≡ replicate 512 start
-  pub index-is : index ≡ replicate 512 0
-  pub probes-is : probes ≡ replicate 512 0
-  pub stamp-is : stamp ≡ replicate 512 noNumber
+  pub number-is : number ≡ set (replicate mostStates noNumber) start 0
+  pub parent-is : parent ≡ replicate mostStates start
+  pub index-is : index ≡ replicate mostStates 0
+  pub probes-is : probes ≡ replicate mostStates 0
+  pub stamp-is : stamp ≡ replicate mostStates noNumber

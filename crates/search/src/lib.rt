@@ -65,8 +65,8 @@ const STATES: usize = 512;
 
 const TARGETS: usize = 2048;
 
-// The most states of a path: no state stands on it twice.
+// The most states of a chain of parents: on a game's own arrays no state stands in it twice.
 const LONGEST: u16 = 512;
 
-// The turns of a loop that ends by itself long before: it makes its end plain.
+// The turns of a loop. On a game's own arrays it ends by itself long before; on any others this makes it end.
 const TURNS: u16 = 65535;

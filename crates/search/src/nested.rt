@@ -136,7 +136,7 @@ fn nested_stopped(phase: Phase) -> bool
     }
 }
 
-// Steps of the nested search until it stops, in a loop of their own.
+// Steps of the nested search until it stops, or the turns are used up.
 pub fn nested_steps(
     targets: &[u16; 2048],
     starts: &[u16; 513],

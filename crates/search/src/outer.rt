@@ -162,7 +162,7 @@ fn outer_stopped(phase: Phase) -> bool
     }
 }
 
-// Steps of the outer search until it stops, in a loop of their own, so that no turn has to tell the phase first.
+// Steps of the outer search until it stops, or the turns are used up. They have a loop of their own, so that no turn has to tell the phase first.
 pub fn outer_steps(
     targets: &[u16; 2048],
     starts: &[u16; 513],

@@ -11,7 +11,7 @@ use crate::rewind::retrace;
 ghost use mathlib.Core.Path.{_≡_};
 ghost use Rattle.search.specs.Core.{gameOf, Sized, Tabled, Lengths, Deep, coreOf, Advanced, Ran, over as isOver, rewound, resultOf};
 
-// Steps of the outer or of the nested search, until that stops; none once the search is over.
+// A phase: steps of the outer or of the nested search, until that stops; none once the search is over.
 fn one_phase(
     targets: &[u16; 2048],
     starts: &[u16; 513],
@@ -74,7 +74,7 @@ fn over(phase: Phase) -> bool
     }
 }
 
-// So many phases, unless the search is over before. A phase is a step or more, so that steps for each phase are enough.
+// So many phases, unless the search is over before. Each phase is a step or more.
 fn run(
     targets: &[u16; 2048],
     starts: &[u16; 513],
