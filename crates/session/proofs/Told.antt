@@ -9,7 +9,7 @@ use lib.ListN.{length, take, drop, length-append}
 use lib.Seq.{take-at, take-append-seam}
 use borrow.Author.Tests.{eq-eqb, ne-eqb}
 use Rattle.plain.specs.Search.{Verdict as PlainVerdict, none, lasso, unfinished}
-use Rattle.plain.specs.Machine.{answer, written, roundLine, noneLine, answerLine}
+use Rattle.plain.specs.Machine.{answer, numbered, written, Line, gameLine, roundLine, noneLine, noLine, answerLine}
 use Rattle.session.specs.declared.Answer.{Answer}
 use Rattle.session.specs.declared.Answer.the-variants.{Refused, Clear, Round}
 use Rattle.session.specs.declared.Refusal.{Refusal}
@@ -69,3 +69,20 @@ never-refused v n e = by-test (eqb (v .length) 0) e
     by-test : (b : Bool) → cond b (Clear (v .spent) (v .kept)) (Round (v .spent) (v .kept) (v .stem) (v .length - v .stem)) ≡ Refused n → ⊥
     by-test true e = let z : _≡_ {A = ℕ} 0 1 = cc in omega arith
     by-test false e = let z : _≡_ {A = ℕ} 0 1 = cc in omega arith
+
+-- an answer that is told as a refusal is that refusal
+told-number : Line → ℕ
+told-number (gameLine size moves paying) = 0
+told-number (roundLine spent kept stem cycle walk) = 0
+told-number (noneLine spent kept) = 0
+told-number (noLine r) = r .number
+
+first-line : List Line → Line
+first-line [] = gameLine 0 0 0
+first-line (l ∷ ls) = l
+
+pub shown-refused : (a : Answer) (list : List ℕ) (n : ℕ) → noLine (numbered n) ∷ [] ≡ shown a list ∷ [] → a ≡ Refused (record { number = n })
+unfolding shown told-number first-line
+shown-refused (Refused r) list n e = ap (λ (k : ℕ). Refused (record { number = k })) (sym (ap told-number (ap first-line e)))
+shown-refused (Clear spent kept) list n e = let z : _≡_ {A = ℕ} 0 1 = cc in absurd (omega arith)
+shown-refused (Round spent kept stem cycle) list n e = let z : _≡_ {A = ℕ} 0 1 = cc in absurd (omega arith)

@@ -99,7 +99,7 @@ pub fn first_lead() -> Lead
 
 // What stands in place of a session before the first load: a load of nothing, which is refused.
 pub fn no_session() -> Outcome
-    ensures { λ r. ⌜ r .session ≡ noGame ⌝ }
+    ensures { λ r. ⌜ (r .answer ≡ Answer.Refused (record { number = 2 })) × (r .session ≡ noGame) ⌝ }
 {
     let numbers: [u16; 1] = [0; 1];
     let mut lent: [u16; 1] = [0; 1];

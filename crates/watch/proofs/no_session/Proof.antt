@@ -2,6 +2,8 @@
 use mathlib.Core.Path.{refl}
 use borrow.Author.Needs.{needs}
 use Rattle.plain.specs.Refusals.{firstHeld, badSize, loadTrial}
+use Rattle.plain.specs.Machine.{loadAnswer, answerLine}
+use Rattle.session.proofs.Told.{shown-refused}
 use Rattle.watch.proofs.no_session.Statement.{statement}
 use Rattle.watch.proofs.no_session.Tie as tie
 
@@ -15,8 +17,8 @@ load-requires : tie.Need-load-requires
 load-requires c κs = search needs
 
 returns : tie.Need-returns
-unfolding firstHeld badSize loadTrial
-returns c = c .before .load .ensures .empty 2 refl
+unfolding firstHeld badSize loadTrial loadAnswer answerLine
+returns c = let l = c .before .load in (shown-refused (l .result .answer) _ 2 (l .ensures .answers), l .ensures .empty 2 refl)
 
 pub no-session-spec : {M : Type 1} → statement M
 no-session-spec =
