@@ -1,32 +1,14 @@
--- What a search that has ended has come to, read off the walker. Assumes nothing.
+-- What a search was told to keep it keeps to its end, and a rewind leaves the count of probes. Assumes nothing.
 use mathlib.Core.Path.{_≡_, refl, _∙_}
-use mathlib.Core.Logic.{_≢_}
 use mathlib.Core.Bool.{Bool, true, false}
 use mathlib.Core.List.{List}
 use Prim.Native.Nat.{ℕ, zero, suc}
 use lib.Dec.{eqb, ltb, leb}
 use lib.ListN.{getD}
-use Rattle.plain.specs.Search.{Graph, Frame, Config, outer, nested, exhausted, found, Verdict, none, lasso, unfinished, verdict}
 use Rattle.search.specs.declared.Phase.{Phase}
 use Rattle.search.specs.declared.Phase.the-variants.{Outer, Nested, Exhausted, Found}
 use Rattle.search.specs.Core.{noNumber, choose, Game, Core, withWalker, probed, skipped, finished, emptied, returned, exhausted as over′, closed, discover, deepen, leaveRoot, onOpenPath, byPhase, targetOf, hasEdge, outerProbe, finish, outerStep, nestedProbe, nestedStep, step, runFor, rewound, acceptsAt}
 use Rattle.search.specs.declared.Walker.{Walker}
-use Rattle.search.proofs.Represents.{AtFound, Stands}
-
--- no cycle; or the walk of one, and the open path at the stop
-abbrev pub Spoken : Graph → Core → Verdict → Type 0
-Spoken g s none = (s .walker .phase ≡ Exhausted) × (s .walker .height ≡ 0)
-Spoken g s (lasso stem cycle) = (p : List Frame) × AtFound g s p stem cycle
-Spoken g s unfinished = ⊥
-
-pub spoken : (g : Graph) (s : Core) (c : Config) → Stands g s c → verdict c ≢ unfinished → Spoken g s (verdict c)
-unfolding verdict
-spoken g s (outer p d k l) a n = absurd (n refl)
-spoken g s (nested b p q d k l) a n = absurd (n refl)
-spoken g s (exhausted d k l) a n = a
-spoken g s (found h p q d k l) a n = (p, a)
-
--- ---- what was kept stays as it was
 
 choose-kept : (b : Bool) (x y : Core) (k : ℕ) → x .walker .kept ≡ k → y .walker .kept ≡ k → choose b x y .walker .kept ≡ k
 choose-kept true x y k e f = e
