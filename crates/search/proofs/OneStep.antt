@@ -1,7 +1,7 @@
 -- One step of the arrays is one step of the plain search. Assumes nothing.
 use mathlib.Core.Path.{_≡_, refl, sym, ap, subst, _∙_}
 use mathlib.Core.Logic.{⊎-elim}
-use mathlib.Core.Bool.{Bool, true, false}
+use mathlib.Core.Bool.{Bool, true, false, cond}
 use mathlib.Core.List.{List, [], _∷_, _++_, append-assoc}
 use Prim.Native.Nat.{ℕ, suc, _+_, _-_, _≤_, _<_}
 use native.Mathlib.Omega.{arith}
@@ -19,7 +19,7 @@ use Rattle.plain.proofs.Lassos.{path-run, before-from}
 use Rattle.plain.proofs.Restore.{put-same, put-hit, put-other, ShapeOf, Counted}
 use Rattle.search.specs.declared.Phase.the-variants.{Outer, Nested, Exhausted, Found}
 use Rattle.search.specs.declared.Walker.{Walker}
-use Rattle.search.specs.Core.{noNumber, choose, Game, rowOf, Core, coreOf, up, plus, skipped, left, nesting, finished, returned, emptied, exhausted, closed, withWalker, probed, discover, leaveRoot, deepen, onOpenPath, targetOf, finish, outerStep, nestedStep, step}
+use Rattle.search.specs.Core.{noNumber, Game, rowOf, Core, coreOf, up, plus, skipped, left, nesting, finished, returned, emptied, exhausted, closed, withWalker, probed, discover, leaveRoot, deepen, onOpenPath, targetOf, finish, outerStep, nestedStep, step}
 use Rattle.search.specs.Archive.{Begins, rootOf, stampIn}
 use Rattle.search.proofs.Counting.{up-more, plus-more, further-more, no-edge, edge-left, drop-further}
 use Rattle.search.proofs.Represents.{noteIn, Records, Placed, AtOuter, AtNested, AtReturn, Stands, Matches, Limits}
@@ -40,7 +40,7 @@ pub stamp-all : (c : Config) (stamp : List ℕ) (x : ℕ) → rootOf c ≡ [] �
 stamp-all c stamp x e = stamp-there c stamp x (ap (elem x) e ∙ out-nil x)
 
 stamp-same : (c c′ : Config) (stamp : List ℕ) (x : ℕ) → discoveredOf c′ ≡ discoveredOf c → rootOf c′ ≡ rootOf c → stampIn c′ stamp x ≡ stampIn c stamp x
-stamp-same c c′ stamp x e ρ = λ i. choose (elem x (ρ i)) (length (e i)) (getD stamp x 0)
+stamp-same c c′ stamp x e ρ = λ i. cond (elem x (ρ i)) (length (e i)) (getD stamp x 0)
 
 not-one : (x b : ℕ) → (x ≡ b → ⊥) → elem x (b ∷ []) ≡ false
 not-one x b n = not-true (elem x (b ∷ [])) (λ i. n (in-one x b i))
@@ -108,7 +108,7 @@ records-mark s r c c′ w spent t walk cursor lw lc e f ρ rooted u b m n h = re
       ∙ sym (put-hit t (length (discoveredOf c)) (r .stamp) x z))
       (λ j. let ne = in-out x t (markedOf c) j u in
       stamp-same c c′ (set (s .stamp) t (s .walker .met)) x e ρ
-      ∙ ap (λ (v : ℕ). choose (elem x (rootOf c)) (length (discoveredOf c)) v) (getD-set-other (s .stamp) t x (s .walker .met) 0 ne)
+      ∙ ap (λ (v : ℕ). cond (elem x (rootOf c)) (length (discoveredOf c)) v) (getD-set-other (s .stamp) t x (s .walker .met) 0 ne)
       ∙ h .stamps-right x j ∙ sym (put-other t (length (discoveredOf c)) (r .stamp) x ne))
       (in-cases x t (markedOf c) (rw f at i));
   undiscovered = λ x l o. h .undiscovered x l (rw e at o);

@@ -1,6 +1,6 @@
 -- What the model is on each way that the code goes, and the laws of its loops. Assumes nothing.
 use mathlib.Core.Path.{_≡_, refl, sym, ap, subst, _∙_}
-use mathlib.Core.Bool.{Bool, true, false}
+use mathlib.Core.Bool.{Bool, true, false, cond}
 use mathlib.Core.List.{List, [], _∷_, _++_, map}
 use Prim.Native.Nat.{ℕ, zero, suc, _+_, _-_, _≤_, _<_}
 use native.Mathlib.Nat.{le-of-suc-le-suc, not-suc-le-zero}
@@ -13,7 +13,7 @@ use Rattle.rows.proofs.Paste.{same-place}
 use Rattle.search.specs.declared.Phase.{Phase}
 use Rattle.search.specs.declared.Phase.the-variants.{Outer, Nested, Exhausted, Found}
 use Rattle.search.specs.declared.Walker.{Walker}
-use Rattle.search.specs.Core.{noNumber, choose, Game, rowOf, Core, coreOf, Sized, Recorded, Trailed, Lengths, up, plus, further, skipped, left, nesting, finished, returned, emptied, exhausted, closed, withWalker, probed, discover, deepen, leaveRoot, goBack, onOpenPath, byPhase, over, targetOf, hasEdge, outerProbe, finish, outerStep, nestedProbe, nestedStep, step, runFor, Deep, upTo, forgetAbove, climb, retraceWalk, retraceDepth, rewound}
+use Rattle.search.specs.Core.{noNumber, Game, rowOf, Core, coreOf, Sized, Recorded, Trailed, Lengths, up, plus, further, skipped, left, nesting, finished, returned, emptied, exhausted, closed, withWalker, probed, discover, deepen, leaveRoot, goBack, onOpenPath, byPhase, over, targetOf, hasEdge, outerProbe, finish, outerStep, nestedProbe, nestedStep, step, runFor, Deep, upTo, forgetAbove, climb, retraceWalk, retraceDepth, rewound}
 use Rattle.search.proofs.Counting.{further-above}
 
 -- two walkers, and two cores, with the same fields
@@ -196,7 +196,7 @@ sized s a b c d e f g h = record {
   cursor-size = h;
 }
 
-either-sized : (b : Bool) (x y : Core) → Sized x → Sized y → Sized (choose b x y)
+either-sized : (b : Bool) (x y : Core) → Sized x → Sized y → Sized (cond b x y)
 either-sized true x y p q = p
 either-sized false x y p q = q
 
@@ -345,7 +345,7 @@ pub back-deep : (s : Core) → 0 < s .walker .height → Deep (goBack s .walker)
 unfolding goBack leaveRoot
 back-deep s h = by-test (leb (s .walker .top) (s .walker .height)) refl
   where
-    by-test : (b : Bool) → leb (s .walker .top) (s .walker .height) ≡ b → Deep (choose b (leaveRoot s) (withWalker s (returned (s .walk) (s .cursor) (s .walker))) .walker)
+    by-test : (b : Bool) → leb (s .walker .top) (s .walker .height) ≡ b → Deep (cond b (leaveRoot s) (withWalker s (returned (s .walk) (s .cursor) (s .walker))) .walker)
     by-test true e = outer-deep _ refl
     by-test false e = record { high = λ z. h; above = λ z. omega (arith, leb-false (s .walker .top) (s .walker .height) e) }
 

@@ -1,13 +1,13 @@
 -- The arrays that outlive a search, as the notes of the plain search. Assumes nothing.
 use Prim.Native.Nat.{ℕ, _<_}
 use mathlib.Core.Path.{_≡_}
-use mathlib.Core.Bool.{false}
+use mathlib.Core.Bool.{false, cond}
 use mathlib.Core.List.{List, [], _∷_, _++_}
 use lib.ListN.{length, getD}
 use Rattle.plain.specs.Lists.{elem, In}
 use Rattle.plain.specs.Search.{Graph, Frame, frame, Config, outer, nested, exhausted, found, discoveredOf, markedOf, run}
 use Rattle.plain.specs.Notes.{Notes, Faithful}
-use Rattle.search.specs.Core.{noNumber, choose, Lengths}
+use Rattle.search.specs.Core.{noNumber, Lengths}
 
 -- xs begins with ys
 abbrev pub Begins : List ℕ → List ℕ → Type 0
@@ -27,7 +27,7 @@ rootOf (found h p q d k l) = topOf p
 
 -- The stamp of a marked state. That state is marked in the array only when it is left: until then its stamp is the count of discovered states.
 abbrev pub stampIn : Config → List ℕ → ℕ → ℕ
-stampIn c stamp x = choose (elem x (rootOf c)) (length (discoveredOf c)) (getD stamp x 0)
+stampIn c stamp x = cond (elem x (rootOf c)) (length (discoveredOf c)) (getD stamp x 0)
 
 -- the arrays as notes of a search that stands at c
 abbrev pub notesOf : Config → List ℕ → List ℕ → List ℕ → List ℕ → List ℕ → Notes

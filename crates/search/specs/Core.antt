@@ -2,7 +2,7 @@
 -- to the plain search. Assumes nothing.
 use Prim.Native.Nat.{ℕ, zero, suc, _+_, _-_, _%_, _≤_, _<_}
 use mathlib.Core.Path.{_≡_}
-use mathlib.Core.Bool.{Bool, true, false, _&&_}
+use mathlib.Core.Bool.{Bool, true, false, _&&_, cond}
 use mathlib.Core.List.{List, [], _++_, map}
 use lib.Dec.{eqb, ltb, leb}
 use lib.ListN.{length, getD, set, take, drop, replicate}
@@ -25,11 +25,6 @@ mostTargets = 2048
 abbrev pub noNumber : ℕ
 noNumber = 65535
 
--- one of two
-abbrev pub choose : {A : Type 0} → Bool → A → A → A
-choose true a b = a
-choose false a b = b
-
 -- ---- the game
 
 -- the moves as compressed rows, and the words of the paying marks
@@ -48,7 +43,7 @@ fits starts v = ltb v mostStates && leb (getD starts (suc v) 0) mostTargets
 
 -- the row of v; one that does not fit counts as empty
 unfoldable pub rowIn : List ℕ → List ℕ → ℕ → List ℕ
-rowIn targets starts v = choose (fits starts v) (rowAt targets starts v) []
+rowIn targets starts v = cond (fits starts v) (rowAt targets starts v) []
 
 -- The steps read a game through these two alone: the targets of the edges that leave v, oldest first; and whether v is accepting.
 abbrev pub rowOf : Game → ℕ → List ℕ
@@ -147,7 +142,7 @@ up x = (x + 1) % 65536
 
 -- one more, at most 65,535
 unfoldable pub further : ℕ → ℕ
-further x = choose (ltb x 65535) (x + 1) x
+further x = cond (ltb x 65535) (x + 1) x
 
 -- one more, n times
 unfoldable pub raised : ℕ → ℕ → ℕ
@@ -187,7 +182,7 @@ nesting w = record { phase = Nested; cur = w .cur; next = 0; height = w .height;
 
 -- after the last edge of `cur`: is it accepting?
 unfoldable pub finished : Bool → List ℕ → List ℕ → Walker → Walker
-finished accepting parent index w = choose accepting (nesting w) (left parent index w)
+finished accepting parent index w = cond accepting (nesting w) (left parent index w)
 
 -- the nested search goes on to t
 abbrev pub deepened : Walker → ℕ → Walker
@@ -253,7 +248,7 @@ leaveRoot s = coreOf (left (s .parent) (s .index) (s .walker)) (s .spent) (s .nu
 
 -- the nested search goes back: out of its first state it ends at once
 unfoldable pub goBack : Core → Core
-goBack s = choose (leb (s .walker .top) (s .walker .height)) (leaveRoot s) (withWalker s (returned (s .walk) (s .cursor) (s .walker)))
+goBack s = cond (leb (s .walker .top) (s .walker .height)) (leaveRoot s) (withWalker s (returned (s .walk) (s .cursor) (s .walker)))
 
 -- is t on the open path of that height?
 abbrev pub onOpenPath : List ℕ → List ℕ → ℕ → ℕ → Bool
@@ -297,7 +292,7 @@ module _ (g : Game) where
 
   -- a probe of the outer search: was the target discovered?
   unfoldable pub outerProbe : Core → Core
-  outerProbe s = choose (eqb (getD (s .number) (targetOf s) 0) noNumber) (discover (probed s) (targetOf s)) (withWalker (probed s) (skipped (s .walker)))
+  outerProbe s = cond (eqb (getD (s .number) (targetOf s) 0) noNumber) (discover (probed s) (targetOf s)) (withWalker (probed s) (skipped (s .walker)))
 
   -- after the last edge
   unfoldable pub finish : Core → Core
@@ -305,21 +300,21 @@ module _ (g : Game) where
 
   -- a step of the outer search; where the open path is empty, the search is over
   unfoldable pub outerStep : Core → Core
-  outerStep s = choose (eqb (s .walker .height) 0) (withWalker s (exhausted (s .walker))) (choose (hasEdge s) (outerProbe s) (finish s))
+  outerStep s = cond (eqb (s .walker .height) 0) (withWalker s (exhausted (s .walker))) (cond (hasEdge s) (outerProbe s) (finish s))
 
   -- a probe of the nested search: is the target unmarked? on the open path? (The first state of the nested search is not marked yet.)
   unfoldable pub nestedProbe : Core → Core
-  nestedProbe s = choose (eqb (getD (s .stamp) (targetOf s) 0) noNumber)
-      (choose (onOpenPath (s .walk) (s .depth) (s .walker .height) (targetOf s))
+  nestedProbe s = cond (eqb (getD (s .stamp) (targetOf s) 0) noNumber)
+      (cond (onOpenPath (s .walk) (s .depth) (s .walker .height) (targetOf s))
       (withWalker (probed s) (closed (s .walker) (getD (s .depth) (targetOf s) 0)))
       (deepen (probed s) (targetOf s)))
       (withWalker (probed s) (skipped (s .walker)))
 
   -- a step of the nested search; where its path is empty, its first state is left
   unfoldable pub nestedStep : Core → Core
-  nestedStep s = choose (ltb (s .walker .top) (s .walker .height)) (leaveRoot s)
-      (choose (hasEdge s) (nestedProbe s)
-      (withWalker s (choose (leb (s .walker .top) (s .walker .height)) (emptied (s .walker)) (returned (s .walk) (s .cursor) (s .walker)))))
+  nestedStep s = cond (ltb (s .walker .top) (s .walker .height)) (leaveRoot s)
+      (cond (hasEdge s) (nestedProbe s)
+      (withWalker s (cond (leb (s .walker .top) (s .walker .height)) (emptied (s .walker)) (returned (s .walk) (s .cursor) (s .walker)))))
 
   -- one step
   unfoldable pub step : Core → Core
@@ -416,7 +411,7 @@ pub record Ran (g : Game) (phases : ℕ) (s : Core) (r : Result) : Type 0 where
 
 -- a number up to the limit stays
 unfoldable pub upTo : ℕ → ℕ → ℕ
-upTo limit x = choose (leb x limit) x noNumber
+upTo limit x = cond (leb x limit) x noNumber
 
 -- of the first `size` entries, those up to the limit stay
 unfoldable pub forgetAbove : ℕ → ℕ → List ℕ → List ℕ
@@ -425,7 +420,7 @@ forgetAbove limit size xs = map (upTo limit) (take size xs) ++ drop size xs
 -- the count of states from x up to the start state, at most n
 unfoldable pub climb : List ℕ → ℕ → ℕ → ℕ → ℕ
 climb parent start zero x = 0
-climb parent start (suc n) x = choose (eqb x start) 1 (suc (climb parent start n (getD parent x 0)))
+climb parent start (suc n) x = cond (eqb x start) 1 (suc (climb parent start n (getD parent x 0)))
 
 -- the chain of parents of x on the first n places of the walk
 unfoldable pub retraceWalk : List ℕ → ℕ → ℕ → List ℕ → List ℕ

@@ -216,4 +216,3 @@ pub record ChangedIn (op : Op) (words : List ℕ) (size start : ℕ) (old : Verd
       → (r ≡ record { answer = refusing n; verdict = old }) × (rows′ ≡ rows) × (a′ ≡ a) × (lent′ ≡ lent)
   pub on-acceptance : trialIn op size (rows .targets) (rows .starts) (length lent) ≡ accepted
       → (rows′ ≡ filedIn op size rows) × Settles (gameOf (rows′ .targets) (rows′ .starts) words) size start (resumptionAt (a .number) (sourceOf op)) old a lent r a′ lent′
-

@@ -190,12 +190,7 @@ fn is_there(targets: &[u16; 2048], starts: &[u16; 513], from: u16, to: u16) -> b
 }
 
 // Files the moves of the list, in their order, until one stands twice: was there one?
-fn file_all(
-    numbers: &[u16],
-    size: u16,
-    targets: &mut [u16; 2048],
-    starts: &mut [u16; 513],
-) -> bool
+fn file_all(numbers: &[u16], size: u16, targets: &mut [u16; 2048], starts: &mut [u16; 513]) -> bool
     requires { ⌜ Tabled (now targets) (now starts) ⌝ }
     ensures { λ r. ⌜ FiledAll size (now (numbers .entry)) (now (targets .entry)) (now (starts .entry)) r (now (targets .exit)) (now (starts .exit)) ⌝ }
     ensures { λ r. ⌜ Tabled (now (targets .exit)) (now (starts .exit)) ⌝ }
