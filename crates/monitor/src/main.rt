@@ -129,7 +129,7 @@ fn print(line: &[u8], lead: Lead, answer: Answer, walk: &[u16], bytes: &[u8]) ->
     true
 }
 
-// Is there a line to answer, and is it not the last?
+// Is there a line to answer?
 fn has_line(r: Reader) -> bool
     ensures { λ b. ⌜ b ≡ hasLine (r .status) ⌝ }
 {
@@ -142,6 +142,7 @@ fn has_line(r: Reader) -> bool
     }
 }
 
+// Did its newline come, so that another line may follow?
 fn is_line(r: Reader) -> bool
     ensures { λ b. ⌜ b ≡ isLine (r .status) ⌝ }
 {
