@@ -12,9 +12,9 @@ use Rattle.plain.specs.Claims.{Arises, loaded, changed, Report, clear, r
 use Rattle.plain.proofs.Demands.{report-right, demand-3-kept}
 
 -- the first line of some
-first : List Line → Line
-first [] = gameLine 0 0 0
-first (l ∷ ls) = l
+unfoldable pub first-line : List Line → Line
+first-line [] = gameLine 0 0 0
+first-line (l ∷ ls) = l
 
 -- a list of no line is no list of one
 no-line : {l : Line} → [] ≡ l ∷ [] → ⊥
@@ -22,15 +22,15 @@ no-line e = let z : _≡_ {A = ℕ} 0 1 = cc in omega arith
 
 -- a verdict of the plain search, told by a line
 verdict-told : (t : Table) (w : Verdict) (spent kept : ℕ) (l : Line) → ReportRight (reportOf w) t → answerLine (answer w spent kept) ≡ l ∷ [] → LineTrue l t
-unfolding answerLine reportOf first
-verdict-told t none spent kept l r e = subst (λ (x : Line). LineTrue x t) (ap first e) r
-verdict-told t (lasso stem cycle) spent kept l r e = subst (λ (x : Line). LineTrue x t) (ap first e) r
+unfolding answerLine reportOf first-line
+verdict-told t none spent kept l r e = subst (λ (x : Line). LineTrue x t) (ap first-line e) r
+verdict-told t (lasso stem cycle) spent kept l r e = subst (λ (x : Line). LineTrue x t) (ap first-line e) r
 verdict-told t unfinished spent kept l r e = absurd (no-line e)
 
 counts-told : (c : Change) (t : Table) (w : Verdict) (spent kept : ℕ) (l : Line) → KeptRight c t spent kept → answerLine (answer w spent kept) ≡ l ∷ [] → LineCounted l c t
-unfolding answerLine first
-counts-told c t none spent kept l r e = subst (λ (x : Line). LineCounted x c t) (ap first e) r
-counts-told c t (lasso stem cycle) spent kept l r e = subst (λ (x : Line). LineCounted x c t) (ap first e) r
+unfolding answerLine first-line
+counts-told c t none spent kept l r e = subst (λ (x : Line). LineCounted x c t) (ap first-line e) r
+counts-told c t (lasso stem cycle) spent kept l r e = subst (λ (x : Line). LineCounted x c t) (ap first-line e) r
 counts-told c t unfinished spent kept l r e = absurd (no-line e)
 
 -- of a load that is accepted
@@ -46,7 +46,7 @@ pub record Told (c : Call) (t : Table) (l : Line) : Type 0 where
   pub counts : LineCounted l (c .change) t
 
 pub call-told : (c : Call) (t : Table) (l : Line) → Arises t → answerLine (answerTo c t) ≡ l ∷ [] → Told c t l
-unfolding answerTo changeAnswer answerLine tableAfter first
+unfolding answerTo changeAnswer answerLine tableAfter first-line
 call-told c t l a e = by-trial (trialOf c t) refl e
   where
     by-trial : (x : Trial) → trialOf c t ≡ x → answerLine (changeAnswer x (c .change) t) ≡ l ∷ [] → Told c t l
@@ -58,6 +58,6 @@ call-told c t l a e = by-trial (trialOf c t) refl e
           counts = counts-told (c .change) t (verdict (final t′)) _ _ l (demand-3-kept c t a k) f;
         }
     by-trial (refused n) k f = record {
-      truth = subst (λ (x : Line). LineTrue x (tableAfter c t)) (ap first f) tt;
-      counts = subst (λ (x : Line). LineCounted x (c .change) t) (ap first f) tt;
+      truth = subst (λ (x : Line). LineTrue x (tableAfter c t)) (ap first-line f) tt;
+      counts = subst (λ (x : Line). LineCounted x (c .change) t) (ap first-line f) tt;
     }

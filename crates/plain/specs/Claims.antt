@@ -3,7 +3,7 @@ use Prim.Native.Nat.{ℕ, _+_, _*_, _≤_}
 use mathlib.Core.Path.{_≡_}
 use mathlib.Core.Logic.{_≢_}
 use mathlib.Core.Bool.{Bool, true, false}
-use mathlib.Core.List.{List, _∷_, _++_}
+use mathlib.Core.List.{List, [], _∷_, _++_}
 use lib.ListN.{length, take, drop}
 use Rattle.plain.specs.Lists.{any, filter}
 use Rattle.plain.specs.Search.{Edge, Verdict, none, lasso, unfinished, verdict, count, taken}
@@ -38,11 +38,12 @@ pub data Report : Type 0 where
   clear : Report
   round : ℕ → ℕ → List ℕ → Report
 
--- The verdict of the plain search as a caller gets it. Of no table that a session can hold is it `unfinished` (VerdictRight, `ends`).
+-- The verdict of the plain search as a caller gets it. Of no table that a session can hold is it `unfinished` (VerdictRight, `ends`): that would be
+-- a round without a state, which is right of no table.
 unfoldable pub reportOf : Verdict → Report
 reportOf none = clear
 reportOf (lasso stem cycle) = round (length stem) (length cycle) (stem ++ cycle)
-reportOf unfinished = clear
+reportOf unfinished = round 0 0 []
 
 -- Demand 2 of such a verdict: "none" exactly when no free round can be reached; otherwise the walk has the lengths told, and is a stem and a round of
 -- the table.
@@ -56,6 +57,7 @@ pub record ReportRight (r : Report) (t : Table) : Type 0 where
 pub record KeptRight (c : Change) (t : Table) (spent kept : ℕ) : Type 0 where
   -- "Kept is the looks which that search makes before it first meets the state that the changed move leaves (all if never)"
   pub kept-is : kept ≡ count (firstMeeting (named c) (apply c t))
+  -- they are the first looks of that search
   pub new-run : take kept (taken (final (apply c t))) ≡ taken (firstMeeting (named c) (apply c t))
   -- "the run before began with these looks, move for move"
   pub run-before : take kept (taken (final t)) ≡ taken (firstMeeting (named c) (apply c t))

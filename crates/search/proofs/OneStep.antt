@@ -22,7 +22,7 @@ use Rattle.search.specs.declared.Walker.{Walker}
 use Rattle.search.specs.Core.{noNumber, Game, rowOf, Core, coreOf, up, plus, skipped, left, nesting, finished, returned, emptied, exhausted, closed, withWalker, probed, discover, leaveRoot, deepen, onOpenPath, targetOf, finish, outerStep, nestedStep, step}
 use Rattle.search.specs.Archive.{Begins, rootOf, stampIn}
 use Rattle.search.proofs.Counting.{up-more, plus-more, further-more, no-edge, edge-left, drop-further}
-use Rattle.search.proofs.Represents.{noteIn, Records, Placed, AtOuter, AtNested, AtReturn, Stands, Matches, Limits}
+use Rattle.search.proofs.Represents.{noteIn, Mirrors, Placed, AtOuter, AtNested, AtReturn, Stands, Matches, Limits}
 use Rattle.search.proofs.Ways.{same-sized, outer-ends, outer-discovers, outer-skips, outer-finishes, nested-leaves, nested-closes, nested-deepens, nested-skips, nested-returns, nested-empties, step-at}
 use Rattle.search.proofs.Places.{begins-push, begins-pop, begins-at, states-length, placed-set, on-test, stem-length, cursors-set}
 
@@ -49,8 +49,8 @@ not-one x b n = not-true (elem x (b ∷ [])) (λ i. n (in-one x b i))
 
 -- a step that discovers and marks nothing: the walker and the count change
 records-idle : (s : Core) (r : Notes) (c c′ : Config) (w : Walker) (spent : ℕ) → discoveredOf c′ ≡ discoveredOf c → markedOf c′ ≡ markedOf c → rootOf c′ ≡ rootOf c
-    → w .met ≡ s .walker .met → w .kept + spent ≡ count c′ → Records s r c
-    → Records (coreOf w spent (s .number) (s .parent) (s .index) (s .probes) (s .stamp) (s .walk) (s .depth) (s .cursor)) r c′
+    → w .met ≡ s .walker .met → w .kept + spent ≡ count c′ → Mirrors s r c
+    → Mirrors (coreOf w spent (s .number) (s .parent) (s .index) (s .probes) (s .stamp) (s .walk) (s .depth) (s .cursor)) r c′
 records-idle s r c c′ w spent e f ρ m n h = record {
   sized = same-sized s (h .sized) w spent;
   notes-right = λ x i. h .notes-right x (rw e at i);
@@ -64,8 +64,8 @@ records-idle s r c c′ w spent e f ρ m n h = record {
 
 -- a nested search starts from b, which is marked, and not yet in the array
 records-nest : (s : Core) (r : Notes) (c c′ : Config) (w : Walker) (b : ℕ) → discoveredOf c′ ≡ discoveredOf c → markedOf c′ ≡ b ∷ markedOf c → rootOf c ≡ []
-    → rootOf c′ ≡ b ∷ [] → elem b (markedOf c) ≡ false → b < 512 → w .met ≡ s .walker .met → w .kept + s .spent ≡ count c′ → Records s r c
-    → Records (withWalker s w) (record { of = r .of; stamp = put b (length (discoveredOf c)) (r .stamp) }) c′
+    → rootOf c′ ≡ b ∷ [] → elem b (markedOf c) ≡ false → b < 512 → w .met ≡ s .walker .met → w .kept + s .spent ≡ count c′ → Mirrors s r c
+    → Mirrors (withWalker s w) (record { of = r .of; stamp = put b (length (discoveredOf c)) (r .stamp) }) c′
 records-nest s r c c′ w b e f ρ ρ′ u l m n h = record {
   sized = same-sized s (h .sized) w (s .spent);
   notes-right = λ x i. h .notes-right x (rw e at i);
@@ -87,8 +87,8 @@ records-nest s r c c′ w b e f ρ ρ′ u l m n h = record {
 -- a nested search marks t
 records-mark : (s : Core) (r : Notes) (c c′ : Config) (w : Walker) (spent t : ℕ) (walk cursor : List ℕ) → length walk ≡ 512 → length cursor ≡ 512
     → discoveredOf c′ ≡ discoveredOf c → markedOf c′ ≡ t ∷ markedOf c → rootOf c′ ≡ rootOf c → ((x : ℕ) → In x (rootOf c) → In x (markedOf c))
-    → elem t (markedOf c) ≡ false → t < 512 → w .met ≡ s .walker .met → w .kept + spent ≡ count c′ → Records s r c
-    → Records (coreOf w spent (s .number) (s .parent) (s .index) (s .probes) (set (s .stamp) t (s .walker .met)) walk (s .depth) cursor)
+    → elem t (markedOf c) ≡ false → t < 512 → w .met ≡ s .walker .met → w .kept + spent ≡ count c′ → Mirrors s r c
+    → Mirrors (coreOf w spent (s .number) (s .parent) (s .index) (s .probes) (set (s .stamp) t (s .walker .met)) walk (s .depth) cursor)
     (record { of = r .of; stamp = put t (length (discoveredOf c)) (r .stamp) }) c′
 records-mark s r c c′ w spent t walk cursor lw lc e f ρ rooted u b m n h = record {
   sized = record {
@@ -128,8 +128,8 @@ records-mark s r c c′ w spent t walk cursor lw lc e f ρ rooted u b m n h = re
 
 -- a nested search is left: its first state b is marked in the array
 records-left : (s : Core) (r : Notes) (c c′ : Config) (w : Walker) (b : ℕ) → discoveredOf c′ ≡ discoveredOf c → markedOf c′ ≡ markedOf c → rootOf c ≡ b ∷ []
-    → rootOf c′ ≡ [] → In b (markedOf c) → b < 512 → w .met ≡ s .walker .met → w .kept + s .spent ≡ count c′ → Records s r c
-    → Records (coreOf w (s .spent) (s .number) (s .parent) (s .index) (s .probes) (set (s .stamp) b (s .walker .met)) (s .walk) (s .depth) (s .cursor)) r c′
+    → rootOf c′ ≡ [] → In b (markedOf c) → b < 512 → w .met ≡ s .walker .met → w .kept + s .spent ≡ count c′ → Mirrors s r c
+    → Mirrors (coreOf w (s .spent) (s .number) (s .parent) (s .index) (s .probes) (set (s .stamp) b (s .walker .met)) (s .walk) (s .depth) (s .cursor)) r c′
 records-left s r c c′ w b e f ρ ρ′ k l m n h = record {
   sized = record {
     number-size = h .sized .number-size;
@@ -176,8 +176,8 @@ records-new : (s : Core) (r : Notes) (n : Note) (t cur next : ℕ) (spent : ℕ)
     → discoveredOf c′ ≡ t ∷ discoveredOf c → markedOf c′ ≡ markedOf c → rootOf c ≡ [] → rootOf c′ ≡ [] → elem t (discoveredOf c) ≡ false
     → n .number ≡ length (discoveredOf c) → n .parent ≡ cur → n .index ≡ next → n .probes ≡ spent
     → w .met ≡ suc (length (discoveredOf c)) → (walk depth : List ℕ) → length walk ≡ 512 → length depth ≡ 512
-    → (total : ℕ) → w .kept + total ≡ count c′ → Records s r c
-    → Records (coreOf w total (set (s .number) t (s .walker .met)) (set (s .parent) t cur) (set (s .index) t next) (set (s .probes) t spent) (s .stamp) walk depth (s .cursor))
+    → (total : ℕ) → w .kept + total ≡ count c′ → Mirrors s r c
+    → Mirrors (coreOf w total (set (s .number) t (s .walker .met)) (set (s .parent) t cur) (set (s .index) t next) (set (s .probes) t spent) (s .stamp) walk depth (s .cursor))
     (record { of = put t n (r .of); stamp = r .stamp }) c′
 records-new s r n t cur next spent w c c′ b e f ρ ρ′ u e₁ e₂ e₃ e₄ m walk depth lw ld total pr h = record {
   sized = record {
@@ -237,7 +237,7 @@ stem-is depth t b p h d o = sym (stem-length depth t (frame b [] ∷ p) h d o)
 
 -- what the outcome of a step has to be
 abbrev pub Fits : Graph → Core → Notes → Config → Type 0
-Fits g s r c = Records s r c × Stands g s c
+Fits g s r c = Mirrors s r c × Stands g s c
 
 module _ (g : Graph) (game : Game) (m : Matches g game) where
   row-size : (v : ℕ) → length (g .successors v) ≡ length (rowOf game v)
@@ -257,7 +257,7 @@ module _ (g : Graph) (game : Game) (m : Matches g game) where
   -- ---- the outer search
 
   outer-skip : (s : Core) (r : Notes) (x t : ℕ) (ts : List ℕ) (p : List Frame) (d k : List ℕ) (l : List Edge) → Limits g (outer (frame x (t ∷ ts) ∷ p) d k l)
-      → Records s r (outer (frame x (t ∷ ts) ∷ p) d k l) → AtOuter g s x (t ∷ ts) p
+      → Mirrors s r (outer (frame x (t ∷ ts) ∷ p) d k l) → AtOuter g s x (t ∷ ts) p
       → Fits g (withWalker (probed s) (skipped (s .walker))) r (outer (frame x ts ∷ p) d k ((x, t) ∷ l))
   unfolding statesOf
   outer-skip s r x t ts p d k l b h a =
@@ -276,7 +276,7 @@ module _ (g : Graph) (game : Game) (m : Matches g game) where
 
   outer-new : (s : Core) (r : Notes) (x t : ℕ) (ts : List ℕ) (p : List Frame) (d k : List ℕ) (l : List Edge) → Limits g (outer (frame x (t ∷ ts) ∷ p) d k l)
       → suc (length p) < 512 → t < 512 → elem t d ≡ false → Off t (frame x ts ∷ p)
-      → Records s r (outer (frame x (t ∷ ts) ∷ p) d k l) → AtOuter g s x (t ∷ ts) p
+      → Mirrors s r (outer (frame x (t ∷ ts) ∷ p) d k l) → AtOuter g s x (t ∷ ts) p
       → Fits g (discover (probed s) t) (record { of = put t (noteOf g x ts d l) (r .of); stamp = r .stamp }) (outer (frame t (g .successors t) ∷ frame x ts ∷ p) (t ∷ d) k ((x, t) ∷ l))
   unfolding discover statesOf
   outer-new s r x t ts p d k l b few tb new off h a =
@@ -321,7 +321,7 @@ module _ (g : Graph) (game : Game) (m : Matches g game) where
   }
 
   outer-leave : (s : Core) (r : Notes) (x : ℕ) (p : List Frame) (d k : List ℕ) (l : List Edge) → Limits g (outer (frame x [] ∷ p) d k l) → In x d → Below g r x p
-      → Records s r (outer (frame x [] ∷ p) d k l) → AtOuter g s x [] p → Fits g (withWalker s (left (s .parent) (s .index) (s .walker))) r (outer p d k l)
+      → Mirrors s r (outer (frame x [] ∷ p) d k l) → AtOuter g s x [] p → Fits g (withWalker s (left (s .parent) (s .index) (s .walker))) r (outer p d k l)
   unfolding statesOf
   outer-leave s r x p d k l b i below h a = (
     records-idle s r (outer (frame x [] ∷ p) d k l) (outer p d k l) (left (s .parent) (s .index) (s .walker)) (s .spent) refl refl refl refl (h .probes-right) h,
@@ -329,7 +329,7 @@ module _ (g : Graph) (game : Game) (m : Matches g game) where
   )
 
   outer-nest : (s : Core) (r : Notes) (x : ℕ) (p : List Frame) (d k : List ℕ) (l : List Edge) → x < 512 → elem x k ≡ false
-      → Records s r (outer (frame x [] ∷ p) d k l) → AtOuter g s x [] p
+      → Mirrors s r (outer (frame x [] ∷ p) d k l) → AtOuter g s x [] p
       → Fits g (withWalker s (nesting (s .walker))) (record { of = r .of; stamp = put x (length d) (r .stamp) }) (nested x p (frame x (g .successors x) ∷ []) d (x ∷ k) l)
   unfolding statesOf
   outer-nest s r x p d k l xb new h a = (
@@ -350,7 +350,7 @@ module _ (g : Graph) (game : Game) (m : Matches g game) where
   -- ---- the nested search
 
   nested-skip : (s : Core) (r : Notes) (b : ℕ) (p : List Frame) (x t : ℕ) (ts : List ℕ) (q : List Frame) (d k : List ℕ) (l : List Edge) → Limits g (nested b p (frame x (t ∷ ts) ∷ q) d k l)
-      → Records s r (nested b p (frame x (t ∷ ts) ∷ q) d k l) → AtNested g s b p x (t ∷ ts) q
+      → Mirrors s r (nested b p (frame x (t ∷ ts) ∷ q) d k l) → AtNested g s b p x (t ∷ ts) q
       → Fits g (withWalker (probed s) (skipped (s .walker))) r (nested b p (frame x ts ∷ q) d k ((x, t) ∷ l))
   unfolding statesOf
   nested-skip s r b p x t ts q d k l u h a =
@@ -371,7 +371,7 @@ module _ (g : Graph) (game : Game) (m : Matches g game) where
 
   nested-deepen : (s : Core) (r : Notes) (b : ℕ) (p : List Frame) (x t : ℕ) (ts : List ℕ) (q : List Frame) (d k : List ℕ) (l : List Edge) → Limits g (nested b p (frame x (t ∷ ts) ∷ q) d k l)
       → length p + suc (length q) < 512 → t < 512 → In b k → elem t k ≡ false
-      → Records s r (nested b p (frame x (t ∷ ts) ∷ q) d k l) → AtNested g s b p x (t ∷ ts) q
+      → Mirrors s r (nested b p (frame x (t ∷ ts) ∷ q) d k l) → AtNested g s b p x (t ∷ ts) q
       → Fits g (deepen (probed s) t) (record { of = r .of; stamp = put t (length d) (r .stamp) }) (nested b p (frame t (g .successors t) ∷ frame x ts ∷ q) d (t ∷ k) ((x, t) ∷ l))
   unfolding deepen statesOf
   nested-deepen s r b p x t ts q d k l u few tb base new h a =
@@ -402,10 +402,10 @@ module _ (g : Graph) (game : Game) (m : Matches g game) where
       )
 
   nested-leave : (s : Core) (r : Notes) (b : ℕ) (p : List Frame) (d k : List ℕ) (l : List Edge) → Limits g (nested b p [] d k l) → In b d → In b k → Below g r b p
-      → Records s r (nested b p [] d k l) → AtReturn g s b p → Fits g (leaveRoot s) r (outer p d k l)
+      → Mirrors s r (nested b p [] d k l) → AtReturn g s b p → Fits g (leaveRoot s) r (outer p d k l)
   unfolding leaveRoot
   nested-leave s r b p d k l u i base below h a = (
-    subst (λ (v : ℕ). Records (coreOf (left (s .parent) (s .index) (s .walker)) (s .spent) (s .number) (s .parent) (s .index) (s .probes) (set (s .stamp) v (s .walker .met))
+    subst (λ (v : ℕ). Mirrors (coreOf (left (s .parent) (s .index) (s .walker)) (s .spent) (s .number) (s .parent) (s .index) (s .probes) (set (s .stamp) v (s .walker .met))
         (s .walk) (s .depth) (s .cursor)) r (outer p d k l)) (sym (a .cur-is))
         (records-left s r (nested b p [] d k l) (outer p d k l) (left (s .parent) (s .index) (s .walker)) b refl refl refl refl base (u .below b i) refl (h .probes-right) h),
     leaves s (set (s .stamp) (s .walker .cur) (s .walker .met)) r b p d k l (u .rows-short) (a .cur-is) (a .height-is) (a .walk-is) (a .places .1) (h .notes-right b i) below,
@@ -413,7 +413,7 @@ module _ (g : Graph) (game : Game) (m : Matches g game) where
 
   -- the path of the nested search is taken back by one state: out of its first
   nested-empty : (s : Core) (r : Notes) (b : ℕ) (p : List Frame) (x : ℕ) (d k : List ℕ) (l : List Edge) → Linked g b x []
-      → Records s r (nested b p (frame x [] ∷ []) d k l) → AtNested g s b p x [] []
+      → Mirrors s r (nested b p (frame x [] ∷ []) d k l) → AtNested g s b p x [] []
       → Fits g (withWalker s (emptied (s .walker))) r (nested b p [] d k l)
   unfolding statesOf
   nested-empty s r b p x d k l e h a = (
@@ -431,7 +431,7 @@ module _ (g : Graph) (game : Game) (m : Matches g game) where
   -- to the state below
   nested-back : (s : Core) (r : Notes) (b : ℕ) (p : List Frame) (x y : ℕ) (us : List ℕ) (q : List Frame) (d k : List ℕ) (l : List Edge)
       → Limits g (nested b p (frame x [] ∷ frame y us ∷ q) d k l)
-      → Records s r (nested b p (frame x [] ∷ frame y us ∷ q) d k l) → AtNested g s b p x [] (frame y us ∷ q)
+      → Mirrors s r (nested b p (frame x [] ∷ frame y us ∷ q) d k l) → AtNested g s b p x [] (frame y us ∷ q)
       → Fits g (withWalker s (returned (s .walk) (s .cursor) (s .walker))) r (nested b p (frame y us ∷ q) d k l)
   unfolding statesOf
   nested-back s r b p x y us q d k l u h a =
@@ -478,7 +478,7 @@ module _ (g : Graph) (game : Game) (m : Matches g game) where
 
   nested-found : (s : Core) (r : Notes) (b : ℕ) (p : List Frame) (x t : ℕ) (ts : List ℕ) (q : List Frame) (d k : List ℕ) (l : List Edge) → Limits g (nested b p (frame x (t ∷ ts) ∷ q) d k l)
       → Linked g b x q → Distinct (frame b [] ∷ p) → On t (frame b [] ∷ p)
-      → Records s r (nested b p (frame x (t ∷ ts) ∷ q) d k l) → AtNested g s b p x (t ∷ ts) q
+      → Mirrors s r (nested b p (frame x (t ∷ ts) ∷ q) d k l) → AtNested g s b p x (t ∷ ts) q
       → Fits g (withWalker (probed s) (closed (s .walker) (getD (s .depth) t 0))) r (found t (frame b [] ∷ p) (frame x ts ∷ q) d k ((x, t) ∷ l))
   unfolding statesOf
   nested-found s r b p x t ts q d k l u c dis on h a =
@@ -510,7 +510,7 @@ module _ (g : Graph) (game : Game) (m : Matches g game) where
       → t ≡ targetOf game s → s .walker .next < length (rowOf game (s .walker .cur))
       → OuterInv g (frame x (t ∷ ts) ∷ p) d → Counted g r (outer (frame x (t ∷ ts) ∷ p) d k l)
       → Limits g (outer (frame x (t ∷ ts) ∷ p) d k l) → Limits g (visit g v x t ts p d k ((x, t) ∷ l))
-      → Records s r (outer (frame x (t ∷ ts) ∷ p) d k l) → AtOuter g s x (t ∷ ts) p
+      → Mirrors s r (outer (frame x (t ∷ ts) ∷ p) d k l) → AtOuter g s x (t ∷ ts) p
       → Fits g (outerStep game s) (noteVisit v t (noteOf g x ts d l) r) (visit g v x t ts p d k ((x, t) ∷ l))
   unfolding onPath
   visit-fits true s r x t ts p d k l e at there o n u u′ h a =
@@ -521,7 +521,7 @@ module _ (g : Graph) (game : Game) (m : Matches g game) where
       (outer-new s r x t ts p d k l u (omega (arith, u′ .walk-few)) (u′ .below t (in-head t d)) e (not-true (onPath t (frame x ts ∷ p)) (λ i. contra (o .known t i) e)) h a)
 
   finish-fits : (v : Bool) (s : Core) (r : Notes) (x : ℕ) (p : List Frame) (d k : List ℕ) (l : List Edge) → OuterInv g (frame x [] ∷ p) d → Marks g (frame x [] ∷ p) d k → Below g r x p
-      → Limits g (outer (frame x [] ∷ p) d k l) → Records s r (outer (frame x [] ∷ p) d k l) → AtOuter g s x [] p
+      → Limits g (outer (frame x [] ∷ p) d k l) → Mirrors s r (outer (frame x [] ∷ p) d k l) → AtOuter g s x [] p
       → Fits g (withWalker s (finished v (s .parent) (s .index) (s .walker))) (noteMark v x (length d) r) (finishes g v x p d k l)
   unfolding finished
   finish-fits true s r x p d k l o w b u h a =
@@ -531,14 +531,14 @@ module _ (g : Graph) (game : Game) (m : Matches g game) where
   -- a state of the open path is not marked in the array
   path-unmarked : (s : Core) (r : Notes) (b : ℕ) (p : List Frame) (x t : ℕ) (ts : List ℕ) (q : List Frame) (d k : List ℕ) (l : List Edge) → On t (frame b [] ∷ p)
       → OuterInv g (frame b [] ∷ p) d → (old : List ℕ) → NestedInv g b p (frame x (t ∷ ts) ∷ q) d k old → Limits g (nested b p (frame x (t ∷ ts) ∷ q) d k l)
-      → Records s r (nested b p (frame x (t ∷ ts) ∷ q) d k l) → getD (s .stamp) t 0 ≡ noNumber
+      → Mirrors s r (nested b p (frame x (t ∷ ts) ∷ q) d k l) → getD (s .stamp) t 0 ≡ noNumber
   path-unmarked s r b p x t ts q d k l e o old n u h = ⊎-elim
       (λ z. h .root-unmarked t (rw z (in-head b [])))
       (λ i. h .unmarked t (u .below t (o .known t e)) (not-true (elem t k) (λ j. contra i (n .done t j .1)))) (on-cases t b [] p e)
 
   -- a marked state that is not on the open path is marked in the array
   off-marked : (s : Core) (r : Notes) (b : ℕ) (p q : List Frame) (t : ℕ) (d k : List ℕ) (l : List Edge) → Off t (frame b [] ∷ p) → In t k → Counted g r (nested b p q d k l)
-      → Limits g (nested b p q d k l) → Records s r (nested b p q d k l) → getD (s .stamp) t 0 < noNumber
+      → Limits g (nested b p q d k l) → Mirrors s r (nested b p q d k l) → getD (s .stamp) t 0 < noNumber
   off-marked s r b p q t d k l off i c u h =
       let away : elem t (b ∷ []) ≡ false = not-one t b (λ z. contra (rw z (on-head b [] p)) off) in
       omega (arith, stamp-there (nested b p q d k l) (s .stamp) t away, h .stamps-right t i, c .1 t i, u .few)
@@ -548,7 +548,7 @@ module _ (g : Graph) (game : Game) (m : Matches g game) where
       → onOpenPath (s .walk) (s .depth) (s .walker .height) t ≡ v → t ≡ targetOf game s → s .walker .next < length (rowOf game (s .walker .cur))
       → OuterInv g (frame b [] ∷ p) d → (old : List ℕ) → NestedInv g b p (frame x (t ∷ ts) ∷ q) d k old → Counted g r (nested b p (frame x (t ∷ ts) ∷ q) d k l)
       → Limits g (nested b p (frame x (t ∷ ts) ∷ q) d k l) → Limits g (probe g v w b p x t ts q d k ((x, t) ∷ l))
-      → Records s r (nested b p (frame x (t ∷ ts) ∷ q) d k l) → AtNested g s b p x (t ∷ ts) q
+      → Mirrors s r (nested b p (frame x (t ∷ ts) ∷ q) d k l) → AtNested g s b p x (t ∷ ts) q
       → Fits g (nestedStep game s) (noteProbe v w t (length d) r) (probe g v w b p x t ts q d k ((x, t) ∷ l))
   probe-fits true w s r b p x t ts q d k l e f z at there o old n c u u′ h a =
       rw (sym (nested-closes game s at refl there (omega (arith, a .top-is, a .height-is)) (path-unmarked s r b p x t ts q d k l e o old n u h) refl z))
@@ -566,7 +566,7 @@ module _ (g : Graph) (game : Game) (m : Matches g game) where
   accepts-is s x e = ap (λ (v : Bool). withWalker s (finished v (s .parent) (s .index) (s .walker))) (sym (m .acceptance (s .walker .cur)) ∙ ap (g .accepting) e)
 
   -- ONE STEP of the arrays is one step of the plain search, and notes what that notes
-  pub one-step : (s : Core) (r : Notes) (c : Config) → Inv g c → ShapeOf g r c → Counted g r c → Limits g c → Limits g (stepOf g c) → Records s r c → Stands g s c
+  pub one-step : (s : Core) (r : Notes) (c : Config) → Inv g c → ShapeOf g r c → Counted g r c → Limits g c → Limits g (stepOf g c) → Mirrors s r c → Stands g s c
       → Fits g (step game s) (noted g c r) (stepOf g c)
   unfolding stepOf noted
   one-step s r (outer [] d k l) v z n u u′ h a =

@@ -16,7 +16,7 @@ abbrev pub noteIn : Core → ℕ → Note
 noteIn s x = record { number = getD (s .number) x 0; parent = getD (s .parent) x 0; index = getD (s .index) x 0; probes = getD (s .probes) x 0 }
 
 -- the arrays hold the notes r of what c has discovered and marked, and nothing else
-pub record Records (s : Core) (r : Notes) (c : Config) : Type 0 where
+pub record Mirrors (s : Core) (r : Notes) (c : Config) : Type 0 where
   pub sized : Sized s
   pub notes-right : (x : ℕ) → In x (discoveredOf c) → noteIn s x ≡ r .of x
   pub stamps-right : (x : ℕ) → In x (markedOf c) → stampIn c (s .stamp) x ≡ r .stamp x

@@ -3,17 +3,16 @@
 use mathlib.Core.Path.{_≡_, refl, sym, ap, subst, _∙_}
 use Prim.Native.Nat.{ℕ}
 use mathlib.Core.List.{List, [], _∷_, _++_, map}
-use native.Mathlib.Omega.{arith}
 use lib.ListN.{length}
 use Rattle.plain.specs.Table.{Table}
 use Rattle.plain.specs.Refusals.{Trial, Load, accepted, refused, loadTrial}
-use Rattle.plain.specs.Machine.{tableOf, numbered, loadAnswer, answerTo, tableAfter, answers, written, Line, roundLine, noneLine, noLine, answerLine, answerLines}
+use Rattle.plain.specs.Machine.{tableOf, loadAnswer, answerTo, tableAfter, answers, written, Line, answerLine, answerLines}
 use Rattle.plain.proofs.Answers.{load-told, call-told}
 use Rattle.session.specs.declared.Answer.{Answer}
-use Rattle.session.specs.declared.Answer.the-variants.{Refused, Clear, Round}
 use Rattle.session.specs.declared.Session.{Session}
 use Rattle.session.specs.declared.Outcome.{Outcome}
-use Rattle.session.specs.Promises.{shown, Accepted, callOf, callIn, Holds, Loads, Changes, Exchange, Served, done, call, CallRight, AllRight, Demand3}
+use Rattle.session.specs.Promises.{shown, NoRefusal, callIn, Holds, Loads, Changes, Exchange, Served, done, call, CallRight, AllRight, Demand3}
+use Rattle.session.proofs.Told.{shown-refused}
 
 -- one call, by its contract alone
 call-right : (x : Exchange) (s : Session) (t : Table) (r : Outcome) → Holds s t → Changes (x .op) s (x .lent) r (x .after) → x .answered ≡ r .answer → CallRight x t
@@ -38,18 +37,16 @@ same-lines (x ∷ xs) t a =
     ∙ ap (λ (ls : List Line). ls ++ answerLines (answers (map callIn xs) (tableAfter (callIn x) t))) (sym (a .0 .answers))
 
 -- an answer that is no refusal is that of an accepted load
-load-accepted : (l : Load) (lent : List ℕ) (r : Outcome) (lent′ : List ℕ) → Loads l lent r lent′ → Accepted (r .answer) → loadTrial l (length lent) ≡ accepted
-unfolding loadAnswer answerLine shown
+load-accepted : (l : Load) (lent : List ℕ) (r : Outcome) (lent′ : List ℕ) → Loads l lent r lent′ → NoRefusal (r .answer) → loadTrial l (length lent) ≡ accepted
+unfolding loadAnswer answerLine
 load-accepted l lent r lent′ a y = by-trial (loadTrial l (length lent)) (r .answer) (a .answers) y
   where
-    by-trial : (x : Trial) (b : Answer) → answerLine (loadAnswer x (tableOf l)) ≡ shown b lent′ ∷ [] → Accepted b → x ≡ accepted
+    by-trial : (x : Trial) (b : Answer) → answerLine (loadAnswer x (tableOf l)) ≡ shown b lent′ ∷ [] → NoRefusal b → x ≡ accepted
     by-trial accepted b e y = refl
-    by-trial (refused n) (Refused m) e y = absurd y
-    by-trial (refused n) (Clear spent kept) e y = let z : _≡_ {A = ℕ} 0 1 = cc in absurd (omega arith)
-    by-trial (refused n) (Round spent kept stem cycle) e y = let z : _≡_ {A = ℕ} 0 1 = cc in absurd (omega arith)
+    by-trial (refused n) b e y = absurd (subst NoRefusal (shown-refused b lent′ n e) y)
 
 -- DEMAND 3
-pub demand-3 : (l : Load) (lent : List ℕ) (r : Outcome) (lent′ : List ℕ) → Loads l lent r lent′ → Accepted (r .answer)
+pub demand-3 : (l : Load) (lent : List ℕ) (r : Outcome) (lent′ : List ℕ) → Loads l lent r lent′ → NoRefusal (r .answer)
     → (xs : List Exchange) → Served (r .session) xs → Demand3 l lent r lent′ xs
 demand-3 l lent r lent′ a y xs w =
     let e = load-accepted l lent r lent′ a y in

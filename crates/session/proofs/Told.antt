@@ -10,6 +10,7 @@ use lib.Seq.{take-at, take-append-seam}
 use borrow.Author.Tests.{eq-eqb, ne-eqb}
 use Rattle.plain.specs.Search.{Verdict as PlainVerdict, none, lasso, unfinished}
 use Rattle.plain.specs.Machine.{answer, numbered, written, Line, gameLine, roundLine, noneLine, noLine, answerLine}
+use Rattle.plain.proofs.Answers.{first-line}
 use Rattle.session.specs.declared.Answer.{Answer}
 use Rattle.session.specs.declared.Answer.the-variants.{Refused, Clear, Round}
 use Rattle.session.specs.declared.Refusal.{Refusal}
@@ -76,10 +77,6 @@ told-number (gameLine size moves paying) = 0
 told-number (roundLine spent kept stem cycle walk) = 0
 told-number (noneLine spent kept) = 0
 told-number (noLine r) = r .number
-
-first-line : List Line → Line
-first-line [] = gameLine 0 0 0
-first-line (l ∷ ls) = l
 
 pub shown-refused : (a : Answer) (list : List ℕ) (n : ℕ) → noLine (numbered n) ∷ [] ≡ shown a list ∷ [] → a ≡ Refused (record { number = n })
 unfolding shown told-number first-line

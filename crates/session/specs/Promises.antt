@@ -28,10 +28,10 @@ shown (Clear spent kept) list = noneLine spent kept
 shown (Round spent kept stem cycle) list = roundLine spent kept stem cycle (take (stem + cycle) list)
 
 -- An answer that is no refusal: what a caller sees of an accepted call.
-abbrev pub Accepted : Answer → Type 0
-Accepted (Refused r) = ⊥
-Accepted (Clear spent kept) = Unit {0}
-Accepted (Round spent kept stem cycle) = Unit {0}
+abbrev pub NoRefusal : Answer → Type 0
+NoRefusal (Refused r) = ⊥
+NoRefusal (Clear spent kept) = Unit {0}
+NoRefusal (Round spent kept stem cycle) = Unit {0}
 
 -- the change of the plain table, and the call: the change, and the length of the list that is lent
 abbrev pub changeOf : Op → Change

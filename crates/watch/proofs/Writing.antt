@@ -21,7 +21,7 @@ use Rattle.session.specs.declared.Answer.the-variants.{Refused, Clear, Round}
 use Rattle.session.specs.declared.Refusal.{Refusal}
 use Rattle.session.specs.Promises.{shown}
 use Rattle.watch.specs.declared.Plan.{Plan}
-use Rattle.watch.specs.declared.Lengths.{Lengths}
+use Rattle.watch.specs.declared.LineLengths.{LineLengths}
 use Rattle.watch.specs.Text.{room}
 use Rattle.watch.specs.Model.{linesMost, linesFor, linesTold, Laid}
 
@@ -102,7 +102,7 @@ two-lines l m d d1 d2 r s p q =
     record { made = both .made ∙ ap (overwritten d 0) (sym e); split = omega (arith, p .next); ends = omega (arith, both .next, ap length e) }
 
 -- the same lines, buffer and lengths by other names
-pub laid-as : (ls ms : List Line) (d d′ d″ : List ℕ) (n m : Lengths) → ls ≡ ms → d″ ≡ d′ → m ≡ n → Laid ls d d′ (n .first) (n .len) → Laid ms d d″ (m .first) (m .len)
+pub laid-as : (ls ms : List Line) (d d′ d″ : List ℕ) (n m : LineLengths) → ls ≡ ms → d″ ≡ d′ → m ≡ n → Laid ls d d′ (n .first) (n .len) → Laid ms d d″ (m .first) (m .len)
 laid-as ls ms d d′ d″ n m e f g h = rw (← e, f, g) h
 
 -- ---- the paying states are at most 512

@@ -72,7 +72,7 @@ pub struct Plan {
 }
 
 // The lengths of a first line and of all.
-struct Lengths {
+struct LineLengths {
     first: usize,
     len: usize,
 }
@@ -338,16 +338,16 @@ fn put_answer(out: &mut [u8], at: usize, answer: Answer, walk: &[u16]) -> usize
 }
 
 // The line of an answer at the head of a buffer.
-fn put_one(answer: Answer, walk: &[u16], out: &mut [u8]) -> Lengths
+fn put_one(answer: Answer, walk: &[u16], out: &mut [u8]) -> LineLengths
     requires { ⌜ (length (now walk) ≤ room) × (linesMost ≤ length (now out)) ⌝ }
     ensures { λ r. ⌜ Laid (shown answer (now (walk .entry)) ∷ []) (now (out .entry)) (now (out .exit)) (r .first) (r .len) ⌝ }
 {
     let n = put_answer(out, 0, answer, walk);
-    Lengths { first: n, len: n }
+    LineLengths { first: n, len: n }
 }
 
 // The lines of a load: `game` and the answer, or the refusal.
-fn put_load(lead: Lead, answer: Answer, walk: &[u16], out: &mut [u8]) -> Lengths
+fn put_load(lead: Lead, answer: Answer, walk: &[u16], out: &mut [u8]) -> LineLengths
     requires { ⌜ (length (now walk) ≤ room) × (linesMost ≤ length (now out)) ⌝ }
     ensures { λ r. ⌜ Laid (linesOfLoad lead answer (now (walk .entry))) (now (out .entry)) (now (out .exit)) (r .first) (r .len) ⌝ }
 {
@@ -358,18 +358,18 @@ fn put_load(lead: Lead, answer: Answer, walk: &[u16], out: &mut [u8]) -> Lengths
     let paying = marks::count(words) as u16;
     let n = answer::put_game(out, 0, lead.size, lead.count / 2, paying);
     let m = put_answer(out, n, answer, walk);
-    Lengths { first: n, len: m }
+    LineLengths { first: n, len: m }
 }
 
 // The lines that tell what came of a line.
-fn put_lines(plan: Plan, answer: Answer, walk: &[u16], out: &mut [u8]) -> Lengths
+fn put_lines(plan: Plan, answer: Answer, walk: &[u16], out: &mut [u8]) -> LineLengths
     requires { ⌜ (length (now walk) ≤ room) × (linesMost ≤ length (now out)) ⌝ }
     ensures { λ r. ⌜ Laid (linesFor (plan .task) (plan .lead) answer (now (walk .entry))) (now (out .entry)) (now (out .exit)) (r .first) (r .len) ⌝ }
 {
     let lead = plan.lead;
     let task = plan.task;
     match task {
-        Task::Nothing => Lengths { first: 0, len: 0 },
+        Task::Nothing => LineLengths { first: 0, len: 0 },
         Task::Refuse(refusal) => put_one(Answer::Refused(refusal), walk, out),
         Task::Ask(ask) => match ask {
             Ask::Load => put_load(lead, answer, walk, out),
@@ -409,7 +409,7 @@ fn lead_behind(plan: Plan, answer: Answer) -> Lead
 pub fn write(plan: Plan, answer: Answer, walk: &[u16], out: &mut [u8]) -> Written
     ensures { λ r. ⌜ Writes plan answer (now (walk .entry)) (now (out .entry)) (now (out .exit)) r ⌝ }
 {
-    let mut n = Lengths { first: 0, len: 0 };
+    let mut n = LineLengths { first: 0, len: 0 };
     if walk.len() <= WALK {
         if LINES <= out.len() {
             n = put_lines(plan, answer, walk, out);

@@ -2,7 +2,7 @@
 use mathlib.Core.Path.{ap, _∙_}
 use mathlib.Core.Logic.{⊎-elim}
 use lib.ListN.{length}
-use Rattle.watch.specs.declared.Lengths.{Lengths}
+use Rattle.watch.specs.declared.LineLengths.{LineLengths}
 use Rattle.watch.specs.Model.{linesTold, Laid}
 use Rattle.watch.proofs.Writing.{no-lines, laid-as, told-lines, long-walk, short-buffer}
 use borrow.Author.Needs.{needs}
@@ -19,7 +19,7 @@ same-length : tie.Need-same-length
 same-length c = ⊎-elim (λ w. ap length (w .6) ∙ w .3 .kept .1 .1 .1 .0) (λ o. ⊎-elim (λ w. ap length (w .2)) (λ w. ap length (w .1)) o) (c .before .if1 .came)
 
 -- the lengths where no line is told
-abbrev nothing : Lengths
+abbrev nothing : LineLengths
 nothing = record { first = 0; len = 0 }
 
 abbrev Told : tie.Joined1 → Type 0
