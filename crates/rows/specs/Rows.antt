@@ -28,6 +28,11 @@ unfoldable pub placeOf : ℕ → List ℕ → ℕ
 placeOf t [] = 0
 placeOf t (x ∷ xs) = elim (eqb t x) [ true ↦ 0 | false ↦ suc (placeOf t xs) ]
 
+-- lengths that the arrays of the rows have by their types
+pub record Tabled (targets starts : List ℕ) : Type 0 where
+  pub targets-size : length targets ≡ 2048
+  pub starts-size : length starts ≡ 513
+
 -- The rows of the states below a size stand one behind the other, from the first place on; every start behind them is 0.
 -- So a state of the size or above has an empty row.
 pub record Compressed (size : ℕ) (targets starts : List ℕ) : Type 0 where

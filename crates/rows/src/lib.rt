@@ -21,7 +21,7 @@ const EDGES: usize = 2048;
 const LARGEST: u16 = 65535;
 
 // A number as an index.
-fn wide(x: u16) -> usize
+pub fn wide(x: u16) -> usize
     ensures { λ r. ⌜ (r ≡ x) × (r < 65536) ⌝ }
 {
     x as usize

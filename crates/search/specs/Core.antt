@@ -126,11 +126,6 @@ pub record Lengths (number parent index probes stamp walk : List ℕ) : Type 0 w
   pub stamp-size : length stamp ≡ mostStates
   pub walk-size : length walk ≡ mostStates
 
--- those of the game's rows
-pub record Tabled (targets starts : List ℕ) : Type 0 where
-  pub targets-size : length targets ≡ mostTargets
-  pub starts-size : length starts ≡ suc mostStates
-
 -- ---- numbers of 16 bits
 
 -- a sum, and one more, modulo 65,536

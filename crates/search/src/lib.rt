@@ -15,7 +15,6 @@ mod rewind; // the arrays as they stood when a state was discovered
 mod run; // the search, begun or resumed, to its end
 
 pub use numbers::plus;
-pub use numbers::wide;
 pub use rewind::begin;
 pub use run::resume;
 

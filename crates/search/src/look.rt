@@ -7,11 +7,12 @@ use crate::TARGETS;
 use crate::numbers::get;
 use crate::numbers::narrow;
 use crate::numbers::up;
-use crate::numbers::wide;
+use rows::wide;
 ghost use mathlib.Core.Path.{_≡_};
 ghost use Prim.Native.Nat.{_+_, _-_, _%_, _<_};
 ghost use lib.ListN.{length, getD};
-ghost use Rattle.search.specs.Core.{Tabled, Places, Spans, rowIn, Swept};
+ghost use Rattle.rows.specs.Rows.{Tabled};
+ghost use Rattle.search.specs.Core.{Places, Spans, rowIn, Swept};
 
 // The one function that hands a target to the search: the entry at that place. The count that it is lent rises by one.
 fn look(targets: &[u16; 2048], spent: &mut u16, at: usize) -> u16

@@ -14,7 +14,8 @@ ghost use mathlib.Core.List.{List};
 ghost use Prim.Native.Nat.{ℕ, _-_};
 ghost use lib.ListN.{length, getD};
 ghost use Rattle.search.specs.declared.Phase.the-variants.{Nested};
-ghost use Rattle.search.specs.Core.{gameOf, Tabled, Trailed, Places, Deep, coreOf, placed, goBack, deepen as deepens, onOpenPath, Advanced, nestedStopped};
+ghost use Rattle.rows.specs.Rows.{Tabled};
+ghost use Rattle.search.specs.Core.{gameOf, Trailed, Places, Deep, coreOf, placed, goBack, deepen as deepens, onOpenPath, Advanced, nestedStopped};
 
 // Is t on the open path of that height?
 fn on_path(walk: &[u16; 512], depth: &[u16; 512], height: u16, t: u16) -> bool

@@ -1,15 +1,10 @@
 // 16-bit numbers, and arrays of them.
 use crate::STATES;
+use rows::wide;
 ghost use mathlib.Core.Path.{_≡_};
 ghost use Prim.Native.Nat.{_+_, _-_, _<_};
 ghost use lib.ListN.{length, getD, set, replicate};
 ghost use Rattle.search.specs.Core.{up as upped, further as oneFurther, plus as added};
-
-pub fn wide(x: u16) -> usize
-    ensures { λ r. ⌜ (r ≡ x) × (r < 65536) ⌝ }
-{
-    x as usize
-}
 
 pub fn narrow(x: usize) -> u16
     requires { ⌜ x < 65536 ⌝ }

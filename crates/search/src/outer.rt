@@ -10,14 +10,15 @@ use crate::numbers::get;
 use crate::numbers::plus;
 use crate::numbers::put;
 use crate::numbers::up;
-use crate::numbers::wide;
+use rows::wide;
 ghost use mathlib.Core.Path.{_≡_};
 ghost use mathlib.Core.List.{List};
 ghost use Prim.Native.Nat.{ℕ, _-_};
 ghost use lib.ListN.{length, getD};
 ghost use Rattle.plain.specs.Table.{accepts};
 ghost use Rattle.search.specs.declared.Phase.the-variants.{Outer};
-ghost use Rattle.search.specs.Core.{gameOf, Tabled, Recorded, Places, coreOf, placed, left, exhausted, discover as discovered, finished, Advanced, outerStopped};
+ghost use Rattle.rows.specs.Rows.{Tabled};
+ghost use Rattle.search.specs.Core.{gameOf, Recorded, Places, coreOf, placed, left, exhausted, discover as discovered, finished, Advanced, outerStopped};
 
 // The target t is discovered, by the edge at a place of the current state's row. That edge's index is worked out behind the first stores: so the scan
 // keeps one variable, the place.

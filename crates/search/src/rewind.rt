@@ -5,7 +5,7 @@ use crate::STATES;
 use crate::numbers::fill;
 use crate::numbers::get;
 use crate::numbers::put;
-use crate::numbers::wide;
+use rows::wide;
 ghost use mathlib.Core.Path.{_≡_};
 ghost use lib.ListN.{length};
 ghost use Rattle.search.specs.Core.{upTo, forgetAbove, climb as climbed, retraceWalk, retraceDepth, Fresh};

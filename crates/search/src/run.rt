@@ -9,7 +9,8 @@ use crate::rewind::climb;
 use crate::rewind::forget_above;
 use crate::rewind::retrace;
 ghost use mathlib.Core.Path.{_≡_};
-ghost use Rattle.search.specs.Core.{gameOf, Sized, Tabled, Lengths, Deep, coreOf, Advanced, Ran, over as isOver, rewound, resultOf};
+ghost use Rattle.rows.specs.Rows.{Tabled};
+ghost use Rattle.search.specs.Core.{gameOf, Sized, Lengths, Deep, coreOf, Advanced, Ran, over as isOver, rewound, resultOf};
 
 // A phase: steps of the outer or of the nested search, until that stops; none once the search is over.
 fn one_phase(

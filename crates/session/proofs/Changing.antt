@@ -7,7 +7,8 @@ use lib.ListN.{length}
 use Rattle.plain.specs.Refusals.{Trial as PlainTrial, accepted, refused}
 use Rattle.rows.specs.Change.{Rows}
 use Rattle.rows.proofs.Change.{inserted-lengths, removed-lengths}
-use Rattle.search.specs.Core.{gameOf, Tabled}
+use Rattle.rows.specs.Rows.{Tabled}
+use Rattle.search.specs.Core.{gameOf}
 use Rattle.session.specs.declared.Answer.{Answer}
 use Rattle.session.specs.declared.Op.{Op}
 use Rattle.session.specs.declared.Op.the-variants.{Add, Cut}

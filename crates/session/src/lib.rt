@@ -1,5 +1,5 @@
 // One session: the game's table and the records of its search. It is made by a load and by nothing else.
-use search::wide;
+use rows::wide;
 ghost use mathlib.Core.Path.{_≡_};
 ghost use mathlib.Core.List.{_++_};
 ghost use Prim.Native.Nat.{_+_, _≤_};
@@ -7,7 +7,8 @@ ghost use lib.ListN.{length, take, drop};
 ghost use Rattle.plain.specs.Lists.{any};
 ghost use Rattle.plain.specs.Refusals.{badMarks, outside, selfLoop, pairs};
 ghost use Rattle.rows.specs.Change.{rowsOf};
-ghost use Rattle.search.specs.Core.{gameOf, Tabled, Lengths, plus};
+ghost use Rattle.rows.specs.Rows.{Tabled};
+ghost use Rattle.search.specs.Core.{gameOf, Lengths, plus};
 ghost use Rattle.session.specs.Model.{tried, earlyTrial, there, addTrialIn, cutTrialIn, trialIn, sourceOf, filedIn, Attempted, FiledAll, Tried, resumptionAt, isFound, verdictOf, noVerdict, recordsOf, Sought, answerIs, refusing, noGame, shownWalk, Settles, ChangedIn};
 ghost use Rattle.session.specs.Promises.{Loads, Changes};
 

@@ -2,7 +2,7 @@
 use line::Record;
 use line::Word;
 use line::is_word;
-use search::wide;
+use rows::wide;
 use session::Answer;
 use session::Op;
 use session::Outcome;

@@ -6,7 +6,7 @@ use lib.ListN.{length}
 use borrow.Author.Needs.{needs}
 use Rattle.rows.specs.Change.{rowsOf}
 use Rattle.rows.proofs.Change.{inserted-lengths}
-use Rattle.search.specs.Core.{Tabled}
+use Rattle.rows.specs.Rows.{Tabled}
 use Rattle.session.proofs.Filing.{Limits, FiledTo, filed-none, ended, refused, went-on}
 use Rattle.session.proofs.file_all.Statement.{statement}
 use Rattle.session.proofs.file_all.Tie as tie
