@@ -31,17 +31,21 @@ use Rattle.search.proofs.Scans.{ran-from}
 use Rattle.search.proofs.Ended.{rewound-spent}
 use Rattle.search.proofs.Resumed.{Small, resume-fits, limits}
 use Rattle.session.specs.declared.Answer.{Answer}
-use Rattle.session.specs.declared.Op.{Op}
-use Rattle.session.specs.declared.Op.the-variants.{Add, Cut}
+use Rattle.table.specs.declared.Op.{Op}
+use Rattle.table.specs.declared.Op.the-variants.{Add, Cut}
 use Rattle.session.specs.declared.Session.{Session}
 use Rattle.session.specs.declared.Settled.{Settled}
 use Rattle.session.specs.declared.Resumption.{Resumption}
 use Rattle.session.specs.declared.Verdict.{Verdict}
-use Rattle.session.specs.Model.{addTrialIn, cutTrialIn, trialIn, sourceOf, filedIn, Records, recordsOf, recordsIn, resumptionAt, backAt, Sought, verdictOf, sessionOf, refusing, answerIs, shownWalk, Settles, ChangedIn}
-use Rattle.session.specs.Promises.{shown, changeOf, Tells, heightOf, Holds, Changes}
-use Rattle.session.proofs.Pairs.{outside-from}
-use Rattle.session.proofs.Trying.{tried-refused, stop}
-use Rattle.session.proofs.Held.{size-few, small, trial-same, source-below, Refiled, refiled}
+use Rattle.table.specs.Trials.{addTrialIn, cutTrialIn, trialIn}
+use Rattle.table.specs.Filing.{sourceOf, filedIn, Filed}
+use Rattle.session.specs.Model.{Records, recordsOf, recordsIn, resumptionAt, backAt, Sought, verdictOf, sessionOf, refusing, answerIs, shownWalk, Settles, ChangedIn}
+use Rattle.table.specs.Filing.{changeOf}
+use Rattle.session.specs.Promises.{shown, Tells, heightOf, Holds, Changes}
+use Rattle.table.proofs.Pairs.{outside-from}
+use Rattle.table.proofs.Trying.{tried-refused, stop}
+use Rattle.session.proofs.Held.{size-few, small, trial-here}
+use Rattle.table.proofs.Changing.{source-below, refiled}
 use Rattle.session.proofs.Told.{tells-answer, tells-written, tells-fits, never-refused}
 use Rattle.session.proofs.Sought.{matches, Reached, reached, taken-nowhere, taken-at}
 
@@ -123,8 +127,8 @@ module _ (op : Op) (s : Session) (rows : Rows) (a : Records) (v : Verdict) (new 
   r : Notes
   r = notesOf (run (searched t) (h .steps)) (s .number) (s .parent) (s .index) (s .probes) (s .stamp)
 
-  rows-new : Refiled rows t′
-  rows-new = refiled s t h rows op room yes-it-is (new ∙ ap (λ (n : ℕ). filedIn op n (rowsOf (s .targets) (s .starts))) (h .size-is))
+  rows-new : Filed (t′ .size) (t′ .edges) rows
+  rows-new = refiled t (rowsOf (s .targets) (s .starts)) (h .filed) rows (valid t (h .arises)) op room yes-it-is (new ∙ ap (λ (n : ℕ). filedIn op n (rowsOf (s .targets) (s .starts))) (h .size-is))
 
   -- the named state was never met: nothing is to be done
   worth-unmet : getD (s .number) from 0 ≡ noNumber → elem from (discoveredOf (run (searched t) (h .steps))) ≡ false → Worth c t v a
@@ -210,9 +214,7 @@ module _ (op : Op) (s : Session) (rows : Rows) (a : Records) (v : Verdict) (new 
         size-is = n;
         start-is = h .start-is ∙ sym (changed-start op t);
         words-are = h .words-are ∙ sym (changed-words op t);
-        compressed = subst⁻¹ (λ (k : ℕ). Compressed k (rows .targets) (rows .starts)) n (f .compressed);
-        rows-are = f .rows-are;
-        count-is = ap (edgeCount (rows .starts)) n ∙ f .count-is;
+        filed = f;
         steps = w .steps;
         ended = w .ended;
         archived = w .archive;
@@ -296,7 +298,7 @@ module _ (op : Op) (s : Session) (lent : List ℕ) where
   }
     where
       is : (t : Table) → Holds s t → changeTrial (changeOf op) t (length lent) ≡ refused n
-      is t h = sym (trial-same s t h op (length lent)) ∙ e
+      is t h = sym (trial-here s t h op (length lent)) ∙ e
 
       refused-same : {x y : ℕ} → refused x ≡ refused y → x ≡ y
       refused-same z = cc
@@ -316,7 +318,7 @@ module _ (op : Op) (s : Session) (lent : List ℕ) where
   })
     where
       is : (t : Table) → Holds s t → changeTrial (changeOf op) t (length lent) ≡ accepted
-      is t h = sym (trial-same s t h op (length lent)) ∙ e
+      is t h = sym (trial-here s t h op (length lent)) ∙ e
 
       list : (t : Table) (h : Holds s t) → lent′ ≡ written (plain op s rows a (r .verdict) new (w .sought) t h (length lent) (is t h)) lent
       list t h = next-written op s rows a (r .verdict) new (w .sought) t h (length lent) (is t h) lent lent′ (omega arith) (w .wrote)

@@ -6,23 +6,17 @@ use native.Mathlib.Omega.{arith}
 use lib.ListN.{length}
 use Rattle.plain.specs.Refusals.{Trial as PlainTrial, accepted, refused}
 use Rattle.rows.specs.Change.{Rows}
-use Rattle.rows.proofs.Change.{inserted-lengths, removed-lengths}
-use Rattle.rows.specs.Rows.{Tabled}
 use Rattle.search.specs.Core.{gameOf}
 use Rattle.session.specs.declared.Answer.{Answer}
-use Rattle.session.specs.declared.Op.{Op}
-use Rattle.session.specs.declared.Op.the-variants.{Add, Cut}
+use Rattle.table.specs.declared.Op.{Op}
 use Rattle.session.specs.declared.Resumption.{Resumption}
 use Rattle.session.specs.declared.Settled.{Settled}
-use Rattle.session.specs.declared.Trial.the-variants.{Accepted, Refused}
+use Rattle.table.specs.declared.Trial.the-variants.{Accepted, Refused}
 use Rattle.session.specs.declared.Verdict.{Verdict}
-use Rattle.session.specs.Model.{tried, trialIn, sourceOf, filedIn, Records, resumptionAt, refusing, Settles, ChangedIn}
-use Rattle.session.proofs.Trying.{tried-accepted, tried-refused}
-
--- the arrays of the rows keep their lengths
-pub filed-tabled : (op : Op) (size : ℕ) (r r′ : Rows) → r′ ≡ filedIn op size r → Tabled (r .targets) (r .starts) → Tabled (r′ .targets) (r′ .starts)
-filed-tabled (Add from to) size r r′ e l = let w = inserted-lengths size from to r r′ e (l .targets-size, l .starts-size) in record { targets-size = w .0; starts-size = w .1 }
-filed-tabled (Cut from to) size r r′ e l = let w = removed-lengths size from _ r r′ e (l .targets-size, l .starts-size) in record { targets-size = w .0; starts-size = w .1 }
+use Rattle.table.specs.Trials.{tried, trialIn}
+use Rattle.table.specs.Filing.{sourceOf, filedIn}
+use Rattle.session.specs.Model.{Records, resumptionAt, refusing, Settles, ChangedIn}
+use Rattle.table.proofs.Trying.{tried-accepted, tried-refused}
 
 same-number : {m n : ℕ} → refused m ≡ refused n → m ≡ n
 same-number e = cc

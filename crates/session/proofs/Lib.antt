@@ -1,6 +1,3 @@
-pub mod Pairs
-pub mod Trying
-pub mod Filing
 pub mod Writing
 pub mod Held
 pub mod Told

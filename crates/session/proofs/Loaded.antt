@@ -7,7 +7,7 @@ use lib.ListN.{length, set, replicate, length-set, length-replicate}
 use borrow.Author.Tests.{ltb-false}
 use Rattle.plain.specs.Search.{steps, verdict, count}
 use Rattle.plain.specs.Table.{Table, searched, final}
-use Rattle.plain.specs.Refusals.{Trial, accepted, refused, Load, loadTrial, shortRoom}
+use Rattle.plain.specs.Refusals.{Trial, accepted, refused, Load, loadTrial, shortRoom, pairs}
 use Rattle.plain.specs.Machine.{Answer as PlainAnswer, refusal, numbered, answer, tableOf, loadAnswer, written, answerLine}
 use Rattle.plain.specs.Claims.{Arises, loaded}
 use Rattle.plain.proofs.Trials.{passed}
@@ -19,15 +19,17 @@ use Rattle.search.proofs.Ended.{rewound-spent}
 use Rattle.search.proofs.Resumed.{begin-fits}
 use Rattle.session.specs.declared.Answer.{Answer}
 use Rattle.session.specs.declared.Session.{Session}
-use Rattle.session.specs.declared.Trial.the-variants.{Refused}
+use Rattle.table.specs.declared.Trial.the-variants.{Refused}
 use Rattle.session.specs.declared.Verdict.{Verdict}
 use Rattle.session.specs.declared.Settled.{Settled}
 use Rattle.session.specs.declared.Resumption.{Resumption}
 use Rattle.session.specs.declared.Resumption.the-variants.{At}
-use Rattle.session.specs.Model.{tried, Filed, Records, recordsOf, recordsIn, backAt, verdictOf, noVerdict, sessionOf, noGame, refusing, answerIs, Settles}
+use Rattle.table.specs.Trials.{tried}
+use Rattle.table.specs.Filing.{Filed}
+use Rattle.session.specs.Model.{Records, recordsOf, recordsIn, backAt, verdictOf, noVerdict, sessionOf, noGame, refusing, answerIs, Settles}
 use Rattle.session.specs.Promises.{shown, Tells, Holds, Loads}
-use Rattle.session.proofs.Held.{size-few, small, Refiled}
-use Rattle.session.proofs.Trying.{tried-refused}
+use Rattle.session.proofs.Held.{size-few, small}
+use Rattle.table.proofs.Trying.{tried-refused}
 use Rattle.session.proofs.Told.{tells-answer, tells-written, tells-fits}
 use Rattle.session.proofs.Sought.{matches, Reached, reached}
 
@@ -79,7 +81,7 @@ settles-fresh {g = g} {size = size} {start = start} {from = from} {walk = walk} 
     (λ i. (e i, recordsOf (f .number-is i) (f .parent-is i) (f .index-is i) (f .probes-is i) (f .stamp-is i) walk)) w
 
 module _ (l : Load) (lent lent′ : List ℕ) (rows : Rows) (a : Records) (r : Settled) (blank-walk : List ℕ)
-    (yes-it-is : loadTrial l (length lent) ≡ accepted) (filed : Filed (l .numbers) (l .size) (rows .targets) (rows .starts)) (blank-size : length blank-walk ≡ 512)
+    (yes-it-is : loadTrial l (length lent) ≡ accepted) (filed : Filed (l .size) (pairs (l .numbers)) rows) (blank-size : length blank-walk ≡ 512)
     (settles : Settles (gameOf (rows .targets) (rows .starts) (l .words)) (l .size) (l .start) (At (l .start)) noVerdict (freshFrom (l .start) blank-walk) lent r a lent′) where
   abbrev t : Table
   t = tableOf l
@@ -93,9 +95,9 @@ module _ (l : Load) (lent lent′ : List ℕ) (rows : Rows) (a : Records) (r : S
   ok : Valid t
   ok = valid t arises
 
-  refiled : Refiled rows t
+  filed-here : Filed (t .size) (t .edges) rows
   unfolding tableOf
-  refiled = record { compressed = filed .compressed; rows-are = filed .rows; count-is = filed .count }
+  filed-here = filed
 
   -- what the search has come to
   begun : (c : Result) × Reached t 0 c × (v ≡ verdictOf (c .walker) (c .spent)) × (a ≡ recordsIn c)
@@ -103,7 +105,7 @@ module _ (l : Load) (lent lent′ : List ℕ) (rows : Rows) (a : Records) (r : S
   begun =
       let q = settles .sought in
       let fresh = freshFrom (l .start) blank-walk in
-      let g = reached t ok (gameOf (rows .targets) (rows .starts) (l .words)) (matches t rows (l .words) refiled refl) 0 (backAt (l .size) (l .start) (l .start) fresh) (q .0)
+      let g = reached t ok (gameOf (rows .targets) (rows .starts) (l .words)) (matches t rows (l .words) filed-here refl) 0 (backAt (l .size) (l .start) (l .start) fresh) (q .0)
       (rewound-spent (l .size) (l .start) (l .start) 0 (fresh .number) (fresh .parent) (fresh .index) (fresh .probes) (fresh .stamp) (fresh .walk))
       (begin-fits (l .size) (searched t) (small t ok) blank-walk blank-size) (q .1) in
       (q .0, g, q .2, q .3)
@@ -128,9 +130,7 @@ module _ (l : Load) (lent lent′ : List ℕ) (rows : Rows) (a : Records) (r : S
           size-is = refl;
           start-is = refl;
           words-are = refl;
-          compressed = filed .compressed;
-          rows-are = filed .rows;
-          count-is = filed .count;
+          filed = filed-here;
           steps = g .steps;
           ended = g .ended;
           archived = rw f (g .archive);

@@ -32,10 +32,11 @@ use Rattle.session.specs.declared.Resumption.{Resumption}
 use Rattle.session.specs.declared.Resumption.the-variants.{Nowhere, At}
 use Rattle.session.specs.Model.{Records, recordsOf, recordsIn, isFound, verdictOf, bound, resumptionAt, backAt, Sought}
 use Rattle.session.specs.Promises.{Tells, heightOf}
-use Rattle.session.proofs.Held.{small, budget-bound, Refiled}
+use Rattle.session.proofs.Held.{small, budget-bound}
+use Rattle.table.specs.Filing.{Filed}
 
 -- the rows and words are those of the table's graph
-pub matches : (t : Table) (rows : Rows) (words : List ℕ) → Refiled rows t → words ≡ t .words → Matches (searched t) (gameOf (rows .targets) (rows .starts) words)
+pub matches : (t : Table) (rows : Rows) (words : List ℕ) → Filed (t .size) (t .edges) rows → words ≡ t .words → Matches (searched t) (gameOf (rows .targets) (rows .starts) words)
 matches t rows words r e = record {
   rows = λ v. sym (row-fits (rows .targets) (rows .starts) v
       (λ h. starts-within (t .size) (rows .targets) (rows .starts) (r .compressed) (suc v))

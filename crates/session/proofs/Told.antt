@@ -13,7 +13,7 @@ use Rattle.plain.specs.Machine.{answer, numbered, written, Line, gameLine, roun
 use Rattle.plain.proofs.Answers.{first-line}
 use Rattle.session.specs.declared.Answer.{Answer}
 use Rattle.session.specs.declared.Answer.the-variants.{Refused, Clear, Round}
-use Rattle.session.specs.declared.Refusal.{Refusal}
+use Rattle.table.specs.declared.Refusal.{Refusal}
 use Rattle.session.specs.declared.Verdict.{Verdict}
 use Rattle.session.specs.Model.{answerIs, shownWalk}
 use Rattle.session.specs.Promises.{shown, Tells}

@@ -1,107 +1,27 @@
 -- What the inner functions of the session do, over the lists that its arrays hold. Cited by their contracts alone. Assumes nothing.
-use Prim.Native.Nat.{ℕ, _-_, _≤_, _<_}
+use Prim.Native.Nat.{ℕ, _-_, _≤_}
 use mathlib.Core.Path.{_≡_}
-use mathlib.Core.Bool.{Bool, true, false, not, cond}
-use mathlib.Core.List.{List, [], _∷_, _++_}
-use lib.Dec.{eqb, ltb, leb}
+use mathlib.Core.Bool.{Bool, true, false, cond}
+use mathlib.Core.List.{List, _++_}
+use lib.Dec.{eqb}
 use lib.ListN.{length, getD, take, drop, replicate}
-use Rattle.plain.specs.Lists.{any}
-use Rattle.plain.specs.Refusals.{Trial as PlainTrial, accepted, refused, firstHeld, badSize, badStart, badMarks, badCount, outside, selfLoop, shortRoom, pairs, repeated, loadTrial}
-use Rattle.plain.specs.Table.{row}
-use Rattle.rows.specs.Rows.{rowAt, degreeAt, edgeCount, placeOf, Compressed}
-use Rattle.rows.specs.Change.{Rows, inserted, removed}
+use Rattle.plain.specs.Refusals.{accepted, refused}
+use Rattle.rows.specs.Change.{Rows}
+use Rattle.table.specs.declared.Op.{Op}
+use Rattle.table.specs.declared.Refusal.{Refusal}
+use Rattle.table.specs.Trials.{trialIn}
+use Rattle.table.specs.Filing.{sourceOf, filedIn}
 use Rattle.search.specs.declared.Phase.{Phase}
 use Rattle.search.specs.declared.Phase.the-variants.{Outer, Nested, Exhausted, Found}
 use Rattle.search.specs.declared.Walker.{Walker}
 use Rattle.search.specs.Core.{noNumber, Game, gameOf, Core, Result, Ran, rewound}
-use Rattle.session.specs.declared.Op.{Op}
-use Rattle.session.specs.declared.Op.the-variants.{Add, Cut}
 use Rattle.session.specs.declared.Resumption.{Resumption}
 use Rattle.session.specs.declared.Resumption.the-variants.{Nowhere, At}
 use Rattle.session.specs.declared.Verdict.{Verdict}
 use Rattle.session.specs.declared.Settled.{Settled}
 use Rattle.session.specs.declared.Session.{Session}
 use Rattle.session.specs.declared.Answer.{Answer}
-use Rattle.session.specs.declared.Answer.the-variants.{Refused as Answer·Refused, Clear, Round}
-use Rattle.session.specs.declared.Refusal.{Refusal}
-use Rattle.session.specs.declared.Trial.{Trial}
-use Rattle.session.specs.declared.Trial.the-variants.{Accepted, Refused}
-
--- what a trial comes to, as the code's enum
-abbrev pub tried : PlainTrial → Trial
-tried accepted = Accepted
-tried (refused n) = Refused n
-
--- refusals 2 to 7 of a load
-unfoldable pub earlyTrial : ℕ → ℕ → List ℕ → List ℕ → PlainTrial
-earlyTrial size start words numbers = firstHeld (
-    (2, badSize size)
-    ∷ (3, badStart size start)
-    ∷ (4, badMarks size words)
-    ∷ (5, badCount numbers)
-    ∷ (6, any (outside size) (pairs numbers))
-    ∷ (7, any selfLoop (pairs numbers))
-    ∷ [])
-
--- is the edge in the rows?
-abbrev pub there : List ℕ → List ℕ → ℕ → ℕ → Bool
-there targets starts from to = ltb (placeOf to (rowAt targets starts from)) (degreeAt starts from)
-
--- refusals of an add and of a cut, read off the rows
-unfoldable pub addTrialIn : ℕ → List ℕ → List ℕ → ℕ → ℕ → ℕ → PlainTrial
-addTrialIn size targets starts from to room = firstHeld (
-    (6, outside size (from, to))
-    ∷ (7, selfLoop (from, to))
-    ∷ (8, there targets starts from to)
-    ∷ (9, leb 2048 (edgeCount starts size))
-    ∷ (11, shortRoom size room)
-    ∷ [])
-
-unfoldable pub cutTrialIn : ℕ → List ℕ → List ℕ → ℕ → ℕ → ℕ → PlainTrial
-cutTrialIn size targets starts from to room = firstHeld (
-    (6, outside size (from, to))
-    ∷ (7, selfLoop (from, to))
-    ∷ (10, not (there targets starts from to))
-    ∷ (11, shortRoom size room)
-    ∷ [])
-
-abbrev pub trialIn : Op → ℕ → List ℕ → List ℕ → ℕ → PlainTrial
-trialIn (Add from to) size targets starts room = addTrialIn size targets starts from to room
-trialIn (Cut from to) size targets starts room = cutTrialIn size targets starts from to room
-
--- the state that a change names
-abbrev pub sourceOf : Op → ℕ
-sourceOf (Add from to) = from
-sourceOf (Cut from to) = from
-
--- the rows after a change was filed; a cut takes out the edge at the place of its target
-abbrev pub filedIn : Op → ℕ → Rows → Rows
-filedIn (Add from to) size r = inserted size from to r
-filedIn (Cut from to) size r = removed size from (placeOf to (rowAt (r .targets) (r .starts) from)) r
-
--- a change that was tried: the rows are changed where it is accepted, else as they were
-pub record Attempted (op : Op) (size room : ℕ) (rows : Rows) (r : Trial) (rows′ : Rows) : Type 0 where
-  pub trial-is : r ≡ tried (trialIn op size (rows .targets) (rows .starts) room)
-  pub filed : r ≡ Accepted → rows′ ≡ filedIn op size rows
-  pub unfiled : (n : ℕ) → r ≡ Refused n → rows′ ≡ rows
-
--- the rows after the list of numbers was filed into empty ones, where no edge stands twice
-pub record Filed (numbers : List ℕ) (size : ℕ) (targets starts : List ℕ) : Type 0 where
-  pub compressed : Compressed size targets starts
-  pub rows : (v : ℕ) → rowAt targets starts v ≡ row (pairs numbers) v
-  pub count : edgeCount starts size ≡ length (pairs numbers)
-
--- what filing a list leaves, where the rows were empty and the list keeps the limits
-pub record FiledAll (size : ℕ) (numbers targets starts : List ℕ) (r : Bool) (targets′ starts′ : List ℕ) : Type 0 where
-  pub repeats : targets ≡ replicate 2048 0 → starts ≡ replicate 513 0 → size ≤ 512 → any (outside size) (pairs numbers) ≡ false → length (pairs numbers) ≤ 2048
-      → r ≡ repeated (pairs numbers)
-  pub filed : targets ≡ replicate 2048 0 → starts ≡ replicate 513 0 → size ≤ 512 → any (outside size) (pairs numbers) ≡ false → length (pairs numbers) ≤ 2048
-      → r ≡ false → Filed numbers size targets′ starts′
-
--- the trial of a load, where the rows were empty
-pub record Tried (size start : ℕ) (words numbers : List ℕ) (room : ℕ) (targets starts : List ℕ) (r : Trial) (targets′ starts′ : List ℕ) : Type 0 where
-  pub trial-is : targets ≡ replicate 2048 0 → starts ≡ replicate 513 0 → r ≡ tried (loadTrial (record { size = size; start = start; words = words; numbers = numbers }) room)
-  pub filed : targets ≡ replicate 2048 0 → starts ≡ replicate 513 0 → r ≡ Accepted → Filed numbers size targets′ starts′
+use Rattle.session.specs.declared.Answer.the-variants.{Refused, Clear, Round}
 
 -- what the arrays that outlive a search hold
 pub record Records : Type 0 where
@@ -157,7 +77,7 @@ noGame = record {
 
 -- the answer to a refused call
 abbrev pub refusing : ℕ → Answer
-refusing n = Answer·Refused (record { number = n })
+refusing n = Refused (record { number = n })
 
 -- the answer that a verdict makes
 unfoldable pub answerIs : Verdict → Answer

@@ -5,19 +5,19 @@ use mathlib.Core.Logic.{_≢_}
 use mathlib.Core.List.{List, [], _∷_, _++_, map}
 use lib.ListN.{length, take}
 use Rattle.plain.specs.Search.{Config, outer, nested, exhausted, found, Verdict, none, lasso, unfinished, verdict, count, run}
-use Rattle.plain.specs.Table.{Table, row, searched, final}
+use Rattle.plain.specs.Table.{Table, searched, final}
 use Rattle.plain.specs.Refusals.{Load, accepted, refused, loadTrial}
-use Rattle.plain.specs.Machine.{Change, add, cut, numbered, loadAnswer, tableOf, Call, answerTo, tableAfter, answers, written, Line, roundLine, noneLine, noLine, answerLine, answerLines}
+use Rattle.plain.specs.Machine.{numbered, loadAnswer, tableOf, Call, answerTo, tableAfter, answers, written, Line, roundLine, noneLine, noLine, answerLine, answerLines}
 use Rattle.plain.specs.Claims.{Arises, LineTrue, LineCounted}
-use Rattle.rows.specs.Rows.{rowAt, edgeCount, Compressed}
+use Rattle.rows.specs.Change.{rowsOf}
 use Rattle.search.specs.Archive.{Begins, Archived}
 use Rattle.session.specs.declared.Answer.{Answer}
 use Rattle.session.specs.declared.Answer.the-variants.{Refused, Clear, Round}
-use Rattle.session.specs.declared.Refusal.{Refusal}
-use Rattle.session.specs.declared.Op.{Op}
-use Rattle.session.specs.declared.Op.the-variants.{Add, Cut}
+use Rattle.table.specs.declared.Refusal.{Refusal}
+use Rattle.table.specs.declared.Op.{Op}
 use Rattle.session.specs.declared.Session.{Session}
 use Rattle.session.specs.declared.Outcome.{Outcome}
+use Rattle.table.specs.Filing.{changeOf, Filed}
 use Rattle.session.specs.Model.{noGame}
 
 -- The document's number and values for each case of the answer: `no` and the refusal's number; `none`, spent, kept; `round`, spent, kept, the lengths of
@@ -33,11 +33,7 @@ NoRefusal (Refused r) = ⊥
 NoRefusal (Clear spent kept) = Unit {0}
 NoRefusal (Round spent kept stem cycle) = Unit {0}
 
--- the change of the plain table, and the call: the change, and the length of the list that is lent
-abbrev pub changeOf : Op → Change
-changeOf (Add from to) = add (from, to)
-changeOf (Cut from to) = cut (from, to)
-
+-- the call: the change of the plain table, and the length of the list that is lent
 abbrev pub callOf : Op → List ℕ → Call
 callOf op lent = record { change = changeOf op; room = length lent }
 
@@ -60,9 +56,7 @@ pub record Holds (s : Session) (t : Table) : Type 0 where
   pub size-is : s .size ≡ t .size
   pub start-is : s .start ≡ t .start
   pub words-are : s .words ≡ t .words
-  pub compressed : Compressed (s .size) (s .targets) (s .starts)
-  pub rows-are : (v : ℕ) → rowAt (s .targets) (s .starts) v ≡ row (t .edges) v
-  pub count-is : edgeCount (s .starts) (s .size) ≡ length (t .edges)
+  pub filed : Filed (t .size) (t .edges) (rowsOf (s .targets) (s .starts))
   pub steps : ℕ
   pub ended : verdict (run (searched t) steps) ≢ unfinished
   pub archived : Archived (searched t) steps (s .number) (s .parent) (s .index) (s .probes) (s .stamp) (s .walk)

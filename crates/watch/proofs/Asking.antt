@@ -10,7 +10,7 @@ use Rattle.line.specs.Words.{isWord}
 use Rattle.line.specs.declared.Word.the-variants.{Game, Pay, Move, Go}
 use Rattle.line.specs.declared.Word.the-variants as Word
 use Rattle.line.specs.declared.Record.{Record}
-use Rattle.session.specs.declared.Op.the-variants.{Add, Cut}
+use Rattle.table.specs.declared.Op.the-variants.{Add, Cut}
 use Rattle.watch.specs.declared.Stage.{Stage}
 use Rattle.watch.specs.declared.Stage.the-variants.{Gathering, Playing, Over}
 use Rattle.watch.specs.declared.Lead.{Lead}

@@ -17,13 +17,14 @@ use Rattle.line.specs.Words.{isWord}
 use Rattle.line.specs.declared.Word.the-variants.{Game, Pay, Move, Go}
 use Rattle.line.specs.declared.Word.the-variants as Word
 use Rattle.line.specs.declared.Record.{Record}
-use Rattle.session.specs.declared.Op.{Op}
-use Rattle.session.specs.declared.Op.the-variants.{Add, Cut}
+use Rattle.table.specs.declared.Op.{Op}
+use Rattle.table.specs.declared.Op.the-variants.{Add, Cut}
 use Rattle.session.specs.declared.Answer.{Answer}
 use Rattle.session.specs.declared.Answer.the-variants.{Refused, Clear, Round}
 use Rattle.session.specs.declared.Session.{Session}
 use Rattle.session.specs.declared.Outcome.{Outcome}
-use Rattle.session.specs.Promises.{shown, changeOf, Holds, Loads}
+use Rattle.table.specs.Filing.{changeOf}
+use Rattle.session.specs.Promises.{shown, Holds, Loads}
 use Rattle.watch.specs.declared.Stage.{Stage}
 use Rattle.watch.specs.declared.Stage.the-variants.{Waiting, Gathering, Playing, Over}
 use Rattle.watch.specs.declared.Lead.{Lead}

@@ -18,7 +18,7 @@ use Rattle.answer.specs.Rendering.{render, rendered}
 use Rattle.answer.proofs.Laws.{put-then, put-none, length-round}
 use Rattle.session.specs.declared.Answer.{Answer}
 use Rattle.session.specs.declared.Answer.the-variants.{Refused, Clear, Round}
-use Rattle.session.specs.declared.Refusal.{Refusal}
+use Rattle.table.specs.declared.Refusal.{Refusal}
 use Rattle.session.specs.Promises.{shown}
 use Rattle.watch.specs.declared.Plan.{Plan}
 use Rattle.watch.specs.declared.LineLengths.{LineLengths}

@@ -3,7 +3,8 @@ use mathlib.Core.Path.{_≡_, sym, ap, _∙_}
 use Prim.Native.Nat.{ℕ}
 use denote.Ref.{now}
 use Rattle.session.specs.Model.{resumptionAt}
-use Rattle.session.proofs.Changing.{filed-tabled, changed-refused, changed-accepted}
+use Rattle.table.proofs.Changing.{filed-tabled}
+use Rattle.session.proofs.Changing.{changed-refused, changed-accepted}
 use borrow.Author.Needs.{needs}
 use Rattle.session.proofs.change_in.Statement.{statement}
 use Rattle.session.proofs.change_in.Tie as tie

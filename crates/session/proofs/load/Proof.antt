@@ -4,11 +4,16 @@ use Prim.Native.Nat.{ℕ, zero}
 use denote.Ref.{now}
 use lib.ListN.{length, replicate, length-replicate}
 use Rattle.plain.specs.Refusals.{Load, loadTrial}
-use Rattle.session.proofs.Trying.{tried-accepted}
+use Rattle.table.specs.Filing.{Empty}
+use Rattle.table.proofs.Trying.{tried-accepted}
 use Rattle.session.proofs.Loaded.{load-refused, load-accepted, fresh-lengths, settles-fresh}
 use borrow.Author.Needs.{needs}
 use Rattle.session.proofs.load.Statement.{statement}
 use Rattle.session.proofs.load.Tie as tie
+
+-- the rows that a load begins with are empty
+blank : Empty (replicate 2048 zero) (replicate 513 zero)
+blank = record { no-targets = refl; no-starts = refl }
 
 load-trial-requires : tie.Need-load-trial-requires
 load-trial-requires c κs = search needs
@@ -29,7 +34,7 @@ returns c =
     let e = k .before .before in
     let a = e .before .before .before .before .before .before .args in
     load-refused (record { size = a .size; start = a .start; words = a .t3; numbers = now (a .numbers) }) (now (a .lent)) (r .refused .result) (c .no-game .result) (k .trial .given .0 .0)
-    (r .refused .ensures) (c .no-game .ensures) (sym (k .trial .given .1) ∙ e .load-trial .ensures .0 .trial-is refl refl)
+    (r .refused .ensures) (c .no-game .ensures) (sym (k .trial .given .1) ∙ e .load-trial .ensures .0 .trial-is blank)
 
 enum-told : tie.Need-enum-told
 enum-told c = search needs
@@ -68,7 +73,7 @@ returns-2 c =
     let a = begun g .args in
     let l : Load = record { size = a .size; start = a .start; words = a .t3; numbers = now (a .numbers) } in
     load-accepted l (now (a .lent)) _ _ _ (w .settle .result) (replicate 512 zero)
-    (tried-accepted (loadTrial l (length (now (a .lent)))) (sym (n .ensures .0 .trial-is refl refl) ∙ e .enum-told .given .1)) (n .ensures .0 .filed refl refl (e .enum-told .given .1)) (length-replicate 512 zero)
+    (tried-accepted (loadTrial l (length (now (a .lent)))) (sym (n .ensures .0 .trial-is blank) ∙ e .enum-told .given .1)) (n .ensures .0 .filed blank (e .enum-told .given .1)) (length-replicate 512 zero)
     (settles-fresh (fresh g .begin .ensures) (g .before .no-verdict .ensures) (w .settle .ensures)) (c .total-of .result) (c .total-of .ensures)
 
 pub load-spec : {M : Type 1} → statement M

@@ -1,0 +1,244 @@
+-- The moves of a list, filed one by one into empty rows. Assumes nothing.
+use mathlib.Core.Path.{_≡_, refl, sym, ap, subst, _∙_}
+use mathlib.Core.Logic.{⊎-elim}
+use mathlib.Core.Bool.{Bool, true, false, _||_, true≢false}
+use mathlib.Core.List.{List, [], _∷_, _++_, append-nil, append-assoc}
+use Prim.Native.Nat.{ℕ, suc, _+_, _%_, _≤_, _<_}
+use native.Mathlib.Decide.{ℕ-discrete}
+use native.Mathlib.Omega.{arith}
+use lib.Dec.{eqb, ltb, leb, leb·suc-suc}
+use lib.ListN.{length, drop, replicate, length-append}
+use borrow.Author.Tests.{lt-ltb, ltb-false, leb-false, ne-eqb}
+use Rattle.plain.specs.Lists.{any, elem}
+use Rattle.plain.specs.Search.{Edge}
+use Rattle.plain.specs.Table.{row}
+use Rattle.plain.specs.Refusals.{badSize, badCount, outside, pairs, sameEdge, present, repeated}
+use Rattle.plain.proofs.Tests.{contra, not-true, or-first, or-second, or-false, or-neither, none-cons}
+use Rattle.plain.proofs.Edges.{Has, has-head, has-tail, has-cases, has-nil, same-edge, same-self}
+use Rattle.plain.proofs.Rows.{row-nil, row-has, has-row, row-add, row-add-other}
+use Rattle.rows.specs.Rows.{rowAt, degreeAt, edgeCount, placeOf, Compressed}
+use Rattle.rows.specs.Change.{rowsOf, inserted}
+use Rattle.rows.proofs.Entries.{row-length}
+use Rattle.rows.proofs.Empty.{empty-row, empty-count, empty-compressed}
+use Rattle.rows.proofs.Change.{inserts-edge}
+use Rattle.table.specs.declared.Trial.{Trial}
+use Rattle.table.specs.declared.Trial.the-variants.{Accepted, Refused}
+use Rattle.table.specs.Trials.{tried, earlyTrial, there}
+use Rattle.table.specs.Filing.{Filed, Empty, Limits, FiledAll, Tried}
+use Rattle.table.proofs.Pairs.{moveAt, pairs-more, pairs-end, length-pairs}
+use Rattle.table.proofs.Trying.{stop, skip, none-held, room-short, room-enough, early-held, Early, early-free}
+
+-- ---- an edge is present exactly when its target has a place in its row
+
+found-by : (b : Bool) (p n : ℕ) (e : Bool) → ltb p n ≡ e → ltb (elim b [ true ↦ 0 | false ↦ suc p ]) (suc n) ≡ b || e
+found-by true p n e h = lt-ltb 0 (suc n) (omega arith)
+found-by false p n e h = leb·suc-suc (suc p) n ∙ h
+
+found : (t : ℕ) (xs : List ℕ) → ltb (placeOf t xs) (length xs) ≡ elem t xs
+unfolding placeOf elem
+found t [] = refl
+found t (x ∷ xs) = found-by (eqb t x) (placeOf t xs) (length xs) (elem t xs) (found t xs)
+
+same-test : (a b : Bool) → (a ≡ true → b ≡ true) → (b ≡ true → a ≡ true) → a ≡ b
+same-test true b f g = sym (f refl)
+same-test false true f g = g refl
+same-test false false f g = refl
+
+pub there-present : (targets starts : List ℕ) (es : List Edge) (v t : ℕ) → rowAt targets starts v ≡ row es v → there targets starts v t ≡ present es (v, t)
+there-present targets starts es v t e =
+    ap (ltb (placeOf t (rowAt targets starts v))) (sym (row-length targets starts v))
+    ∙ found t (rowAt targets starts v)
+    ∙ ap (elem t) e
+    ∙ same-test (elem t (row es v)) (present es (v, t)) (row-has es v t) (has-row es v t)
+
+-- ---- lists of edges, one behind the other
+
+none-within : (p : Edge → Bool) (es : List Edge) (e : Edge) (rest : List Edge) → any p (es ++ (e ∷ rest)) ≡ false → p e ≡ false
+none-within p [] e rest h = none-cons p e rest h .0
+none-within p (x ∷ es) e rest h = none-within p es e rest (none-cons p x (es ++ (e ∷ rest)) h .1)
+
+none-more : (p : Edge → Bool) (es : List Edge) (e : Edge) → any p es ≡ false → p e ≡ false → any p (es ++ (e ∷ [])) ≡ false
+unfolding any
+none-more p [] e f h = or-neither (p e) false h refl
+none-more p (x ∷ es) e f h =
+    let w = or-false (p x) (any p es) f in
+    or-neither (p x) (any p (es ++ (e ∷ []))) (w .0) (none-more p es e (w .1) h)
+
+other-way : (e f : Edge) → sameEdge e f ≡ false → sameEdge f e ≡ false
+other-way e f n = not-true (sameEdge f e) (λ h. let z : f ≡ e = same-edge f e h in contra (rw z (same-self e)) n)
+
+once-more : (es : List Edge) (e : Edge) → repeated es ≡ false → present es e ≡ false → repeated (es ++ (e ∷ [])) ≡ false
+unfolding repeated present
+once-more [] e r n = or-neither (any (sameEdge e) []) false n refl
+once-more (x ∷ es) e r n =
+    let w = or-false (any (sameEdge x) es) (repeated es) r in
+    let v = none-cons (sameEdge e) x es n in
+    or-neither (any (sameEdge x) (es ++ (e ∷ []))) (repeated (es ++ (e ∷ [])))
+    (none-more (sameEdge x) es e (w .0) (other-way e x (v .0))) (once-more es e (w .1) (v .1))
+
+has-within : (es : List Edge) (e : Edge) (rest : List Edge) → Has (es ++ (e ∷ rest)) e
+has-within [] e rest = has-head e rest
+has-within (x ∷ es) e rest = has-tail e x (es ++ (e ∷ rest)) (has-within es e rest)
+
+twice : (es : List Edge) (e : Edge) (rest : List Edge) → Has es e → repeated (es ++ (e ∷ rest)) ≡ true
+unfolding repeated
+twice [] e rest h = has-nil e h
+twice (x ∷ es) e rest h = ⊎-elim
+    (λ z. or-first (present (es ++ (e ∷ rest)) x) (repeated (es ++ (e ∷ rest))) (subst (λ (y : Edge). present (es ++ (e ∷ rest)) y ≡ true) z (has-within es e rest)))
+    (λ k. or-second (present (es ++ (e ∷ rest)) x) (repeated (es ++ (e ∷ rest))) (twice es e rest k)) (has-cases e x es h)
+
+-- ---- what is filed of a list of numbers, up to place i
+
+module _ (size : ℕ) where
+  pub record FiledTo (numbers : List ℕ) (i : ℕ) (targets starts : List ℕ) : Type 0 where
+    pub edges : List Edge
+    pub filed : Filed size edges (rowsOf targets starts)
+    pub once : repeated edges ≡ false
+    pub split : pairs numbers ≡ edges ++ pairs (drop i numbers)
+
+  none-filed : (numbers : List ℕ) → size ≤ 512 → FiledTo numbers 0 (replicate 2048 0) (replicate 513 0)
+  unfolding repeated
+  none-filed numbers h = record {
+    edges = [];
+    filed = record {
+      compressed = empty-compressed size h;
+      rows-are = λ v. empty-row v ∙ sym (row-nil v);
+      count-is = empty-count size;
+    };
+    once = refl;
+    split = refl;
+  }
+
+  module _ (numbers targets starts : List ℕ) (l : Limits size numbers targets starts) where
+    pub filed-none : FiledTo numbers 0 targets starts
+    filed-none =
+        subst (λ (ts : List ℕ). FiledTo numbers 0 ts starts) (sym (l .empty .no-targets))
+        (subst (λ (ss : List ℕ). FiledTo numbers 0 (replicate 2048 0) ss) (sym (l .empty .no-starts)) (none-filed numbers (l .states)))
+
+  module _ (numbers : List ℕ) (i : ℕ) (targets starts : List ℕ) (f : FiledTo numbers i targets starts) where
+    filed-all : length numbers ≤ i + 1 → Filed size (pairs numbers) (rowsOf targets starts)
+    filed-all h =
+        let whole : f .edges ≡ pairs numbers =
+        sym (f .split ∙ ap (λ (es : List Edge). f .edges ++ es) (pairs-end numbers i h) ∙ append-nil (f .edges))
+        in
+        subst (λ (es : List Edge). Filed size es (rowsOf targets starts)) whole (f .filed)
+
+    filed-once : length numbers ≤ i + 1 → false ≡ repeated (pairs numbers)
+    filed-once h =
+        sym (f .once)
+        ∙ ap repeated (sym (f .split ∙ ap (λ (es : List Edge). f .edges ++ es) (pairs-end numbers i h) ∙ append-nil (f .edges)))
+
+    -- the next move, and whether it is there
+    module _ (more : i + 1 < length numbers) (b : Bool) (asked : b ≡ there targets starts (moveAt numbers i .0) (moveAt numbers i .1)) where
+      abbrev move : Edge
+      move = moveAt numbers i
+
+      abbrev later : List Edge
+      later = pairs (drop (i + 2) numbers)
+
+      parts : pairs numbers ≡ f .edges ++ (move ∷ later)
+      parts = f .split ∙ ap (λ (es : List Edge). f .edges ++ es) (pairs-more numbers i more)
+
+      test : b ≡ present (f .edges) move
+      test = asked ∙ there-present targets starts (f .edges) (move .0) (move .1) (f .filed .rows-are (move .0))
+
+      filed-twice : b ≡ true → true ≡ repeated (pairs numbers)
+      filed-twice h = sym (ap repeated parts ∙ twice (f .edges) move later (sym test ∙ h))
+
+      module _ (within : any (outside size) (pairs numbers) ≡ false) (few : length (pairs numbers) ≤ 2048) where
+        source : move .0 < size
+        unfolding outside
+        source =
+            let o : outside size move ≡ false = none-within (outside size) (f .edges) move later (ap (any (outside size)) (sym parts) ∙ within) in
+            leb-false size (move .0) (or-false (leb size (move .0)) (leb size (move .1)) o .0)
+
+        room : edgeCount starts size < 2048
+        room = omega (arith, ap length parts, length-append (f .edges) (move ∷ later), f .filed .count-is)
+
+        filed-more : b ≡ false → (targets′ starts′ : List ℕ) → rowsOf targets′ starts′ ≡ inserted size (move .0) (move .1) (rowsOf targets starts) → FiledTo numbers (i + 2) targets′ starts′
+        filed-more h targets′ starts′ new =
+            let s = inserts-edge size (move .0) (move .1) (rowsOf targets starts) (rowsOf targets′ starts′) new (f .filed .compressed) source room in
+            record {
+              edges = f .edges ++ (move ∷ []);
+              filed = record {
+                compressed = s .rows .compressed;
+                rows-are = λ v. elim (ℕ-discrete v (move .0)) [
+                  | yes e ↦ subst (λ (u : ℕ). rowAt targets′ starts′ u ≡ row (f .edges ++ (move ∷ [])) u) (sym e)
+                      (s .rows .here ∙ ap (λ (l : List ℕ). l ++ (move .1 ∷ [])) (f .filed .rows-are (move .0)) ∙ sym (row-add (f .edges) move))
+                  | no n ↦ s .rows .others v n ∙ f .filed .rows-are v ∙ sym (row-add-other (f .edges) move v (ne-eqb (move .0) v (λ e. n (sym e))))
+                ];
+                count-is = s .count ∙ omega (arith, f .filed .count-is, length-append (f .edges) (move ∷ []));
+              };
+              once = once-more (f .edges) move (f .once) (sym test ∙ h);
+              split = parts ∙ sym (append-assoc (f .edges) (move ∷ []) later);
+            }
+
+  -- ---- what filing leaves: all is filed, or a move stands twice
+
+  module _ (numbers : List ℕ) (i : ℕ) (targets₀ starts₀ targets starts : List ℕ) (f : Limits size numbers targets₀ starts₀ → FiledTo numbers i targets starts) where
+    pub ended : length numbers ≤ i + 1 → FiledAll size numbers targets₀ starts₀ false targets starts
+    ended h = record {
+      repeats = λ l. filed-once numbers i targets starts (f l) h;
+      filed = λ l e. filed-all numbers i targets starts (f l) h;
+    }
+
+    module _ (more : i + 1 < length numbers) (b : Bool) (asked : b ≡ there targets starts (moveAt numbers i .0) (moveAt numbers i .1)) where
+      pub refused : b ≡ true → FiledAll size numbers targets₀ starts₀ true targets starts
+      refused h = record {
+        repeats = λ l. filed-twice numbers i targets starts (f l) more b asked h;
+        filed = λ l e. absurd (true≢false e);
+      }
+
+      pub went-on : b ≡ false → (targets′ starts′ : List ℕ) → rowsOf targets′ starts′ ≡ inserted size (moveAt numbers i .0) (moveAt numbers i .1) (rowsOf targets starts)
+          → Limits size numbers targets₀ starts₀ → FiledTo numbers (i + 2) targets′ starts′
+      went-on h targets′ starts′ new l = filed-more numbers i targets starts (f l) more b asked (l .within) (l .few) h targets′ starts′ new
+
+-- ---- the trial of a load
+
+pub not-refused : {n : ℕ} → Accepted ≡ Refused n → ⊥
+not-refused e = let z : _≡_ {A = ℕ} 0 1 = cc in omega arith
+
+pub not-accepted : {n : ℕ} → Refused n ≡ Accepted → ⊥
+not-accepted e = let z : _≡_ {A = ℕ} 0 1 = cc in omega arith
+
+module _ (size start : ℕ) (words numbers : List ℕ) (room : ℕ) (targets₀ starts₀ targets starts : List ℕ) (early : Trial)
+    (e : early ≡ tried (earlyTrial size start words numbers)) where
+  pub tried-early : (early ≡ Accepted → ⊥) → Tried size start words numbers room targets₀ starts₀ early targets starts
+  tried-early n = record {
+    trial-is = λ t. e ∙ early-held size start words numbers room (λ z. n (e ∙ z));
+    filed = λ t z. absurd (n z);
+  }
+
+  module _ (z : early ≡ Accepted) (b : Bool) (f : FiledAll size numbers targets₀ starts₀ b targets starts) where
+    passed : Early size start words numbers room
+    passed = early-free size start words numbers room (sym e ∙ z)
+
+    states : size ≤ 512
+    unfolding badSize
+    states = ltb-false 512 size (or-false (eqb size 0) (ltb 512 size) (passed .size-ok) .1)
+
+    few : length (pairs numbers) ≤ 2048
+    unfolding badCount
+    few = omega (arith, length-pairs numbers, ltb-false 4096 (length numbers) (or-false (eqb (length numbers % 2) 1) (ltb 4096 (length numbers)) (passed .count-ok) .1))
+
+    limits : Empty targets₀ starts₀ → Limits size numbers targets₀ starts₀
+    limits x = record { empty = x; states = states; within = passed .inside-ok; few = few }
+
+    pub tried-twice : b ≡ true → Tried size start words numbers room targets₀ starts₀ (Refused 8) targets starts
+    tried-twice t = record {
+      trial-is = λ x. passed .rest (Refused 8) (stop 8 _ _ (sym (f .repeats (limits x)) ∙ t));
+      filed = λ x n. absurd (not-accepted n);
+    }
+
+    module _ (t : b ≡ false) where
+      pub tried-short : room < size → Tried size start words numbers room targets₀ starts₀ (Refused 11) targets starts
+      tried-short h = record {
+        trial-is = λ x. passed .rest (Refused 11) (skip (Refused 11) 8 _ _ (sym (f .repeats (limits x)) ∙ t) (stop 11 _ _ (room-short size room h)));
+        filed = λ x n. absurd (not-accepted n);
+      }
+
+      pub tried-filed : size ≤ room → Tried size start words numbers room targets₀ starts₀ Accepted targets starts
+      tried-filed h = record {
+        trial-is = λ x. passed .rest Accepted (skip Accepted 8 _ _ (sym (f .repeats (limits x)) ∙ t) (skip Accepted 11 _ _ (room-enough size room h) none-held));
+        filed = λ x n. f .filed (limits x) t;
+      }

@@ -1,0 +1,4 @@
+pub mod Pairs
+pub mod Trying
+pub mod Filing
+pub mod Changing

@@ -1,0 +1,63 @@
+-- `load_trial` meets its contract. Assumes nothing.
+use mathlib.Core.Path.{sym, _∙_}
+use native.Mathlib.Omega.{arith}
+use Prim.Native.Nat.{_≤_, _<_}
+use borrow.Author.Needs.{needs}
+use Rattle.table.proofs.Filing.{not-accepted, tried-early, tried-twice, tried-short, tried-filed}
+use Rattle.table.proofs.load_trial.Statement.{statement}
+use Rattle.table.proofs.load_trial.Tie as tie
+
+early-trial-requires : tie.Need-early-trial-requires
+early-trial-requires c κs = search needs
+
+enum-known-early : tie.Need-enum-known-early
+enum-known-early c = search needs
+
+returns : tie.Need-returns
+returns c =
+    let k = c .before in
+    (tried-early _ _ _ _ _ _ _ _ _ _ (sym (k .early .given .1) ∙ k .before .before .early-trial .ensures) not-accepted, search needs)
+
+enum-told : tie.Need-enum-told
+enum-told c = search needs
+
+file-all-requires : tie.Need-file-all-requires
+file-all-requires c κs = search needs
+
+returns-2 : tie.Need-returns-2
+returns-2 c =
+    let s = c .before .before .before .before in
+    (tried-twice _ _ _ _ _ _ _ _ _ _ (s .before .before .early-trial .ensures) (s .enum-told .given .1) (c .before .file-all .result) (c .before .file-all .ensures .0) (c .if1 .taken), c .before .file-all .ensures .1)
+
+wide-requires : tie.Need-wide-requires
+wide-requires c κs = search needs
+
+returns-3 : tie.Need-returns-3
+returns-3 c =
+    let f = c .before .before .before in
+    let s = f .before .before .before in
+    let a = s .before .before .before .before .args in
+    let short : a .room < a .size = omega (arith, c .before .wide .ensures, c .if2 .taken) in
+    (tried-short _ _ _ _ _ _ _ _ _ _ (s .before .before .early-trial .ensures) (s .enum-told .given .1) (f .file-all .result) (f .file-all .ensures .0) (c .before .before .if1 .left) short, f .file-all .ensures .1)
+
+returns-4 : tie.Need-returns-4
+returns-4 c =
+    let f = c .before .before .before in
+    let s = f .before .before .before in
+    let a = s .before .before .before .before .args in
+    let enough : a .size ≤ a .room = omega (arith, c .before .wide .ensures, c .if2 .left) in
+    (tried-filed _ _ _ _ _ _ _ _ _ _ (s .before .before .early-trial .ensures) (s .enum-told .given .1) (f .file-all .result) (f .file-all .ensures .0) (c .before .before .if1 .left) enough, f .file-all .ensures .1)
+
+pub load-trial-spec : {M : Type 1} → statement M
+load-trial-spec =
+    tie.close
+    (tie.spec
+    early-trial-requires
+    enum-known-early
+    returns
+    enum-told
+    file-all-requires
+    returns-2
+    wide-requires
+    returns-3
+    returns-4)

@@ -1,0 +1,71 @@
+-- The table's moves in its rows: what they hold, and what filing leaves. Assumes nothing.
+use Prim.Native.Nat.{ℕ, _≤_}
+use mathlib.Core.Path.{_≡_}
+use mathlib.Core.Bool.{Bool, false}
+use mathlib.Core.List.{List}
+use lib.ListN.{length, replicate}
+use Rattle.plain.specs.Lists.{any}
+use Rattle.plain.specs.Search.{Edge}
+use Rattle.plain.specs.Table.{row}
+use Rattle.plain.specs.Refusals.{outside, pairs, repeated, loadTrial}
+use Rattle.plain.specs.Machine.{Change, add, cut}
+use Rattle.rows.specs.Rows.{rowAt, edgeCount, placeOf, Compressed}
+use Rattle.rows.specs.Change.{Rows, rowsOf, inserted, removed}
+use Rattle.table.specs.declared.Op.{Op}
+use Rattle.table.specs.declared.Op.the-variants.{Add, Cut}
+use Rattle.table.specs.declared.Trial.{Trial}
+use Rattle.table.specs.declared.Trial.the-variants.{Accepted, Refused}
+use Rattle.table.specs.Trials.{tried, trialIn}
+
+-- the rows hold these edges: the row of each state has the targets of those that leave it, oldest first
+pub record Filed (size : ℕ) (edges : List Edge) (rows : Rows) : Type 0 where
+  pub compressed : Compressed size (rows .targets) (rows .starts)
+  pub rows-are : (v : ℕ) → rowAt (rows .targets) (rows .starts) v ≡ row edges v
+  pub count-is : edgeCount (rows .starts) size ≡ length edges
+
+-- ---- a change
+
+-- the change of the plain table
+abbrev pub changeOf : Op → Change
+changeOf (Add from to) = add (from, to)
+changeOf (Cut from to) = cut (from, to)
+
+-- the state that a change names
+abbrev pub sourceOf : Op → ℕ
+sourceOf (Add from to) = from
+sourceOf (Cut from to) = from
+
+-- the rows after a change was filed; a cut takes out the edge at the place of its target
+abbrev pub filedIn : Op → ℕ → Rows → Rows
+filedIn (Add from to) size r = inserted size from to r
+filedIn (Cut from to) size r = removed size from (placeOf to (rowAt (r .targets) (r .starts) from)) r
+
+-- a change that was tried: the rows are changed where it is accepted, else as they were
+pub record Attempted (op : Op) (size room : ℕ) (rows : Rows) (r : Trial) (rows′ : Rows) : Type 0 where
+  pub trial-is : r ≡ tried (trialIn op size (rows .targets) (rows .starts) room)
+  pub filed : r ≡ Accepted → rows′ ≡ filedIn op size rows
+  pub unfiled : (n : ℕ) → r ≡ Refused n → rows′ ≡ rows
+
+-- ---- a load
+
+-- the rows are empty
+pub record Empty (targets starts : List ℕ) : Type 0 where
+  pub no-targets : targets ≡ replicate 2048 0
+  pub no-starts : starts ≡ replicate 513 0
+
+-- the rows are empty, and the list of numbers keeps the limits
+pub record Limits (size : ℕ) (numbers targets starts : List ℕ) : Type 0 where
+  pub empty : Empty targets starts
+  pub states : size ≤ 512
+  pub within : any (outside size) (pairs numbers) ≡ false
+  pub few : length (pairs numbers) ≤ 2048
+
+-- what filing a list leaves: does an edge stand twice? if none does, the rows hold the list's edges
+pub record FiledAll (size : ℕ) (numbers targets starts : List ℕ) (r : Bool) (targets′ starts′ : List ℕ) : Type 0 where
+  pub repeats : Limits size numbers targets starts → r ≡ repeated (pairs numbers)
+  pub filed : Limits size numbers targets starts → r ≡ false → Filed size (pairs numbers) (rowsOf targets′ starts′)
+
+-- the trial of a load, where the rows were empty; one that is accepted is filed
+pub record Tried (size start : ℕ) (words numbers : List ℕ) (room : ℕ) (targets starts : List ℕ) (r : Trial) (targets′ starts′ : List ℕ) : Type 0 where
+  pub trial-is : Empty targets starts → r ≡ tried (loadTrial (record { size = size; start = start; words = words; numbers = numbers }) room)
+  pub filed : Empty targets starts → r ≡ Accepted → Filed size (pairs numbers) (rowsOf targets′ starts′)

@@ -1,0 +1,288 @@
+// The game's table in its arrays: calls are tried on it, and accepted ones are filed in its rows. No search.
+use rows::wide;
+ghost use mathlib.Core.Path.{_≡_};
+ghost use Rattle.plain.specs.Lists.{any};
+ghost use Rattle.plain.specs.Refusals.{badMarks, outside, selfLoop, pairs};
+ghost use Rattle.rows.specs.Rows.{Tabled};
+ghost use Rattle.rows.specs.Change.{rowsOf};
+ghost use Rattle.table.specs.Trials.{tried, earlyTrial, there, addTrialIn, cutTrialIn, trialIn};
+ghost use Rattle.table.specs.Filing.{sourceOf, filedIn, Attempted, FiledAll, Tried};
+
+// A refusal: its number in document 01's list.
+pub struct Refusal {
+    pub number: u16,
+}
+
+// A change of the table's moves.
+pub enum Op {
+    Add { from: u16, to: u16 },
+    Cut { from: u16, to: u16 },
+}
+
+// What trying a call comes to: the number of the first condition that holds.
+pub enum Trial {
+    Accepted,
+    Refused(u16),
+}
+
+// The most states and moves of a game, and the numbers of so many moves.
+const STATES: u16 = 512;
+
+const MOVES: u16 = 2048;
+
+const NUMBERS: usize = 4096;
+
+// Is a paying mark set for a number not below the count of states?
+fn marks_outside(words: &[u64; 8], size: u16) -> bool
+    ensures { λ r. ⌜ r ≡ badMarks size (now (words .entry)) ⌝ }
+{
+    let mut s: usize = 512;
+    while 0 < s {
+        s -= 1;
+        if wide(size) <= s {
+            if marks::accepts_in(words, s) {
+                return true;
+            }
+        }
+    }
+    false
+}
+
+// Does a move of the list name a number that is not below the count of states?
+fn any_outside(numbers: &[u16], size: u16) -> bool
+    ensures { λ r. ⌜ r ≡ any (outside size) (pairs (now (numbers .entry))) ⌝ }
+{
+    let mut i: usize = 0;
+    while i + 1 < numbers.len() {
+        if size <= numbers[i] {
+            return true;
+        }
+        if size <= numbers[i + 1] {
+            return true;
+        }
+        i += 2;
+    }
+    false
+}
+
+// Does a move of the list lead from a state to itself?
+fn any_loop(numbers: &[u16]) -> bool
+    ensures { λ r. ⌜ r ≡ any selfLoop (pairs (now (numbers .entry))) ⌝ }
+{
+    let mut i: usize = 0;
+    while i + 1 < numbers.len() {
+        if numbers[i] == numbers[i + 1] {
+            return true;
+        }
+        i += 2;
+    }
+    false
+}
+
+// Refusals 2 to 7 of a load.
+fn early_trial(size: u16, start: u16, words: &[u64; 8], numbers: &[u16]) -> Trial
+    ensures { λ r. ⌜ r ≡ tried (earlyTrial size start (now (words .entry)) (now (numbers .entry))) ⌝ }
+{
+    if size == 0 {
+        return Trial::Refused(2);
+    }
+    if STATES < size {
+        return Trial::Refused(2);
+    }
+    if size <= start {
+        return Trial::Refused(3);
+    }
+    if marks_outside(words, size) {
+        return Trial::Refused(4);
+    }
+    if numbers.len() % 2 == 1 {
+        return Trial::Refused(5);
+    }
+    if NUMBERS < numbers.len() {
+        return Trial::Refused(5);
+    }
+    if any_outside(numbers, size) {
+        return Trial::Refused(6);
+    }
+    if any_loop(numbers) {
+        return Trial::Refused(7);
+    }
+    Trial::Accepted
+}
+
+// Is the move there?
+fn is_there(targets: &[u16; 2048], starts: &[u16; 513], from: u16, to: u16) -> bool
+    requires { ⌜ Tabled (now targets) (now starts) ⌝ }
+    ensures { λ r. ⌜ r ≡ there (now (targets .entry)) (now (starts .entry)) from to ⌝ }
+{
+    rows::place(targets, starts, from, to) < rows::degree(starts, from)
+}
+
+// Files the moves of the list, in their order, until one stands twice: was there one?
+fn file_all(numbers: &[u16], size: u16, targets: &mut [u16; 2048], starts: &mut [u16; 513]) -> bool
+    requires { ⌜ Tabled (now targets) (now starts) ⌝ }
+    ensures { λ r. ⌜ FiledAll size (now (numbers .entry)) (now (targets .entry)) (now (starts .entry)) r (now (targets .exit)) (now (starts .exit)) ⌝ }
+    ensures { λ r. ⌜ Tabled (now (targets .exit)) (now (starts .exit)) ⌝ }
+{
+    let mut i: usize = 0;
+    while i + 1 < numbers.len() {
+        let from = numbers[i];
+        let to = numbers[i + 1];
+        if is_there(targets, starts, from, to) {
+            return true;
+        }
+        rows::insert(targets, starts, size, from, to);
+        i += 2;
+    }
+    false
+}
+
+// Tries a load. Where it is accepted the moves are filed.
+pub fn load_trial(
+    size: u16,
+    start: u16,
+    words: &[u64; 8],
+    numbers: &[u16],
+    targets: &mut [u16; 2048],
+    starts: &mut [u16; 513],
+    room: usize,
+) -> Trial
+    requires { ⌜ Tabled (now targets) (now starts) ⌝ }
+    ensures { λ r. ⌜ Tried size start (now (words .entry)) (now (numbers .entry)) room (now (targets .entry)) (now (starts .entry)) r (now (targets .exit)) (now (starts .exit)) ⌝ }
+    ensures { λ r. ⌜ Tabled (now (targets .exit)) (now (starts .exit)) ⌝ }
+{
+    let early = early_trial(size, start, words, numbers);
+    if let Trial::Refused(n) = early {
+        return Trial::Refused(n);
+    }
+    if file_all(numbers, size, targets, starts) {
+        return Trial::Refused(8);
+    }
+    if room < wide(size) {
+        return Trial::Refused(11);
+    }
+    Trial::Accepted
+}
+
+// Does a move name a number that is not below the count of states?
+fn is_outside(size: u16, from: u16, to: u16) -> bool
+    ensures { λ r. ⌜ r ≡ outside size (from, to) ⌝ }
+{
+    if size <= from {
+        return true;
+    }
+    size <= to
+}
+
+// Tries an add: 6 to 9 and 11.
+fn add_trial(
+    size: u16,
+    targets: &[u16; 2048],
+    starts: &[u16; 513],
+    from: u16,
+    to: u16,
+    room: usize,
+) -> Trial
+    requires { ⌜ Tabled (now targets) (now starts) ⌝ }
+    ensures { λ r. ⌜ r ≡ tried (addTrialIn size (now (targets .entry)) (now (starts .entry)) from to room) ⌝ }
+{
+    if is_outside(size, from, to) {
+        return Trial::Refused(6);
+    }
+    if from == to {
+        return Trial::Refused(7);
+    }
+    if is_there(targets, starts, from, to) {
+        return Trial::Refused(8);
+    }
+    if MOVES <= rows::edge_count(starts, size) {
+        return Trial::Refused(9);
+    }
+    if room < wide(size) {
+        return Trial::Refused(11);
+    }
+    Trial::Accepted
+}
+
+// Tries a cut: 6, 7, 10 and 11.
+fn cut_trial(
+    size: u16,
+    targets: &[u16; 2048],
+    starts: &[u16; 513],
+    from: u16,
+    to: u16,
+    room: usize,
+) -> Trial
+    requires { ⌜ Tabled (now targets) (now starts) ⌝ }
+    ensures { λ r. ⌜ r ≡ tried (cutTrialIn size (now (targets .entry)) (now (starts .entry)) from to room) ⌝ }
+{
+    if is_outside(size, from, to) {
+        return Trial::Refused(6);
+    }
+    if from == to {
+        return Trial::Refused(7);
+    }
+    if !is_there(targets, starts, from, to) {
+        return Trial::Refused(10);
+    }
+    if room < wide(size) {
+        return Trial::Refused(11);
+    }
+    Trial::Accepted
+}
+
+// Tries a change.
+fn change_trial(op: Op, size: u16, targets: &[u16; 2048], starts: &[u16; 513], room: usize) -> Trial
+    requires { ⌜ Tabled (now targets) (now starts) ⌝ }
+    ensures { λ r. ⌜ r ≡ tried (trialIn op size (now (targets .entry)) (now (starts .entry)) room) ⌝ }
+{
+    match op {
+        Op::Add { from, to } => add_trial(size, targets, starts, from, to, room),
+        Op::Cut { from, to } => cut_trial(size, targets, starts, from, to, room),
+    }
+}
+
+// The change is made in the rows.
+fn file_one(op: Op, size: u16, targets: &mut [u16; 2048], starts: &mut [u16; 513])
+    requires { ⌜ Tabled (now targets) (now starts) ⌝ }
+    ensures { λ r. ⌜ rowsOf (now (targets .exit)) (now (starts .exit)) ≡ filedIn op size (rowsOf (now (targets .entry)) (now (starts .entry))) ⌝ }
+{
+    match op {
+        Op::Add { from, to } => {
+            rows::insert(targets, starts, size, from, to);
+        }
+        Op::Cut { from, to } => {
+            let k = rows::place(targets, starts, from, to);
+            rows::remove(targets, starts, size, from, k);
+        }
+    }
+}
+
+// Tries a change, and makes it in the rows where it is accepted.
+pub fn attempt(
+    op: Op,
+    size: u16,
+    targets: &mut [u16; 2048],
+    starts: &mut [u16; 513],
+    room: usize,
+) -> Trial
+    requires { ⌜ Tabled (now targets) (now starts) ⌝ }
+    ensures { λ r. ⌜ Attempted op size room (rowsOf (now (targets .entry)) (now (starts .entry))) r (rowsOf (now (targets .exit)) (now (starts .exit))) ⌝ }
+{
+    let trial = change_trial(op, size, targets, starts, room);
+    if let Trial::Refused(n) = trial {
+        return Trial::Refused(n);
+    }
+    file_one(op, size, targets, starts);
+    Trial::Accepted
+}
+
+// The state that a change names: the one that its move leaves.
+pub fn named_by(op: Op) -> u16
+    ensures { λ r. ⌜ r ≡ sourceOf op ⌝ }
+{
+    match op {
+        Op::Add { from, to } => from,
+        Op::Cut { from, to } => from,
+    }
+}
