@@ -10,10 +10,11 @@ use Rattle.plain.specs.Refusals.{Trial as PlainTrial, accepted, refused, firstH
 use Rattle.plain.specs.Table.{row}
 use Rattle.rows.specs.Rows.{rowAt, degreeAt, edgeCount, placeOf, Compressed}
 use Rattle.rows.specs.Change.{Rows, inserted, removed}
+use Rattle.look.specs.Numbers.{noNumber}
 use Rattle.search.specs.declared.Phase.{Phase}
 use Rattle.search.specs.declared.Phase.the-variants.{Outer, Nested, Exhausted, Found}
 use Rattle.search.specs.declared.Walker.{Walker}
-use Rattle.search.specs.Core.{noNumber, Game, gameOf, Core, Result, Ran, rewound}
+use Rattle.search.specs.Core.{Game, gameOf, Core, Result, Ran, rewound}
 use Rattle.session.specs.declared.Op.{Op}
 use Rattle.session.specs.declared.Op.the-variants.{Add, Cut}
 use Rattle.session.specs.declared.Resumption.{Resumption}

@@ -8,7 +8,8 @@ ghost use Rattle.plain.specs.Lists.{any};
 ghost use Rattle.plain.specs.Refusals.{badMarks, outside, selfLoop, pairs};
 ghost use Rattle.rows.specs.Change.{rowsOf};
 ghost use Rattle.rows.specs.Rows.{Tabled};
-ghost use Rattle.search.specs.Core.{gameOf, Lengths, plus};
+ghost use Rattle.look.specs.Numbers.{plus};
+ghost use Rattle.search.specs.Core.{gameOf, Lengths};
 ghost use Rattle.session.specs.Model.{tried, earlyTrial, there, addTrialIn, cutTrialIn, trialIn, sourceOf, filedIn, Attempted, FiledAll, Tried, resumptionAt, isFound, verdictOf, noVerdict, recordsOf, Sought, answerIs, refusing, noGame, shownWalk, Settles, ChangedIn};
 ghost use Rattle.session.specs.Promises.{Loads, Changes};
 
@@ -365,7 +366,7 @@ fn where_to_resume(number: &[u16; 512], s: u16) -> Resumption
     ensures { λ r. ⌜ r ≡ resumptionAt (now (number .entry)) s ⌝ }
 {
     if s < STATES {
-        if number[wide(s)] == search::NO_NUMBER {
+        if number[wide(s)] == look::NO_NUMBER {
             return Resumption::Nowhere;
         }
     }
@@ -554,7 +555,7 @@ fn no_verdict() -> Verdict
 fn total_of(v: Verdict) -> u16
     ensures { λ r. ⌜ r ≡ plus (v .kept) (v .spent) ⌝ }
 {
-    search::plus(v.kept, v.spent)
+    look::plus(v.kept, v.spent)
 }
 
 // Searches and answers: the search is taken up, and the walk is written into the lent list.
