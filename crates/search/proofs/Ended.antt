@@ -5,9 +5,10 @@ use mathlib.Core.List.{List}
 use Prim.Native.Nat.{ℕ, zero, suc}
 use lib.Dec.{eqb, ltb, leb}
 use lib.ListN.{getD}
+use Rattle.look.specs.Numbers.{noNumber}
 use Rattle.search.specs.declared.Phase.{Phase}
 use Rattle.search.specs.declared.Phase.the-variants.{Outer, Nested, Exhausted, Found}
-use Rattle.search.specs.Core.{noNumber, Game, Core, withWalker, probed, skipped, finished, emptied, returned, exhausted as over′, closed, discover, deepen, leaveRoot, onOpenPath, byPhase, targetOf, hasEdge, outerProbe, finish, outerStep, nestedProbe, nestedStep, step, runFor, rewound, acceptsAt}
+use Rattle.search.specs.Core.{Game, Core, withWalker, probed, skipped, finished, emptied, returned, exhausted as over′, closed, discover, deepen, leaveRoot, onOpenPath, byPhase, targetOf, hasEdge, outerProbe, finish, outerStep, nestedProbe, nestedStep, step, runFor, rewound, acceptsAt}
 use Rattle.search.specs.declared.Walker.{Walker}
 
 cond-kept : (b : Bool) (x y : Core) (k : ℕ) → x .walker .kept ≡ k → y .walker .kept ≡ k → cond b x y .walker .kept ≡ k

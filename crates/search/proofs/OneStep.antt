@@ -17,11 +17,12 @@ use Rattle.plain.proofs.Paths.{On, Off, Distinct, on-head, on-cases}
 use Rattle.plain.proofs.Invariant.{Linked, Outer as OuterInv, Marks, Nested as NestedInv, Inv, next-known}
 use Rattle.plain.proofs.Lassos.{path-run, before-from}
 use Rattle.plain.proofs.Restore.{put-same, put-hit, put-other, ShapeOf, Counted}
+use Rattle.look.specs.Numbers.{noNumber, up, plus}
+use Rattle.look.proofs.Counting.{up-more, plus-more, further-more, no-edge, edge-left, drop-further}
 use Rattle.search.specs.declared.Phase.the-variants.{Outer, Nested, Exhausted, Found}
 use Rattle.search.specs.declared.Walker.{Walker}
-use Rattle.search.specs.Core.{noNumber, Game, rowOf, Core, coreOf, up, plus, skipped, left, nesting, finished, returned, emptied, exhausted, closed, withWalker, probed, discover, leaveRoot, deepen, onOpenPath, targetOf, finish, outerStep, nestedStep, step}
+use Rattle.search.specs.Core.{Game, rowOf, Core, coreOf, skipped, left, nesting, finished, returned, emptied, exhausted, closed, withWalker, probed, discover, leaveRoot, deepen, onOpenPath, targetOf, finish, outerStep, nestedStep, step}
 use Rattle.search.specs.Archive.{Begins, rootOf, stampIn}
-use Rattle.search.proofs.Counting.{up-more, plus-more, further-more, no-edge, edge-left, drop-further}
 use Rattle.search.proofs.Represents.{noteIn, Mirrors, Placed, AtOuter, AtNested, AtReturn, Stands, Matches, Limits}
 use Rattle.search.proofs.Ways.{same-sized, outer-ends, outer-discovers, outer-skips, outer-finishes, nested-leaves, nested-closes, nested-deepens, nested-skips, nested-returns, nested-empties, step-at}
 use Rattle.search.proofs.Places.{begins-push, begins-pop, begins-at, states-length, placed-set, on-test, stem-length, cursors-set}

@@ -7,8 +7,9 @@ use lib.ListN.{length, getD, drop}
 use Rattle.plain.specs.Lists.{elem, In}
 use Rattle.plain.specs.Search.{Graph, Frame, frame, Config, outer, nested, exhausted, found, discoveredOf, markedOf, count, statesOf, stemOf, cycleOf}
 use Rattle.plain.specs.Notes.{Note, Notes}
+use Rattle.look.specs.Numbers.{noNumber}
 use Rattle.search.specs.declared.Phase.the-variants.{Outer, Nested, Exhausted, Found}
-use Rattle.search.specs.Core.{noNumber, Game, rowOf, acceptsAt, Core, Sized}
+use Rattle.search.specs.Core.{Game, rowOf, acceptsAt, Core, Sized}
 use Rattle.search.specs.Archive.{Begins, rootOf, stampIn}
 
 -- the note of a state in the arrays

@@ -20,7 +20,8 @@ use Rattle.plain.proofs.Bounds.{left, once-short, run-within, discovered-few, p
 use Rattle.plain.proofs.Prefix.{discovery, Agree, FirstMeeting}
 use Rattle.plain.proofs.Restore.{Restored, noted-run}
 use Rattle.plain.proofs.Resume.{resumed, resumed-from}
-use Rattle.search.specs.Core.{noNumber, Game, Core, runFor, step, rewound}
+use Rattle.look.specs.Numbers.{noNumber}
+use Rattle.search.specs.Core.{Game, Core, runFor, step, rewound}
 use Rattle.search.specs.Archive.{rootOf, stampIn, notesOf, Archived}
 use Rattle.search.proofs.Represents.{Matches, Limits, WalkFew}
 use Rattle.search.proofs.Places.{states-length}

@@ -1,20 +1,21 @@
 -- What the model is on each way that the code goes, and the laws of its loops. Assumes nothing.
 use mathlib.Core.Path.{_≡_, refl, sym, ap, subst, _∙_}
 use mathlib.Core.Bool.{Bool, true, false, cond}
-use mathlib.Core.List.{List, [], _∷_, _++_, map}
+use mathlib.Core.List.{List, [], _∷_, map}
 use Prim.Native.Nat.{ℕ, zero, suc, _+_, _-_, _≤_, _<_}
 use native.Mathlib.Nat.{le-of-suc-le-suc, not-suc-le-zero}
 use native.Mathlib.Omega.{arith}
 use lib.Dec.{eqb, ltb, leb}
-use lib.ListN.{length, getD, set, drop, replicate, length-set, length-replicate}
+use lib.ListN.{length, getD, set, replicate, length-set, length-replicate}
 use borrow.Author.Tests.{lt-ltb, le-ltb, le-leb, lt-leb, leb-false, eq-eqb, ne-eqb}
 use Rattle.plain.proofs.Tests.{contra}
 use Rattle.rows.proofs.Paste.{same-place}
+use Rattle.look.specs.Numbers.{noNumber, up, plus, further}
+use Rattle.look.proofs.Counting.{further-above}
 use Rattle.search.specs.declared.Phase.{Phase}
 use Rattle.search.specs.declared.Phase.the-variants.{Outer, Nested, Exhausted, Found}
 use Rattle.search.specs.declared.Walker.{Walker}
-use Rattle.search.specs.Core.{noNumber, Game, rowOf, Core, coreOf, Sized, Recorded, Trailed, Lengths, up, plus, further, skipped, left, nesting, finished, returned, emptied, exhausted, closed, withWalker, probed, discover, deepen, leaveRoot, goBack, onOpenPath, byPhase, over, targetOf, hasEdge, outerProbe, finish, outerStep, nestedProbe, nestedStep, step, runFor, Deep, upTo, forgetAbove, climb, retraceWalk, retraceDepth, rewound}
-use Rattle.search.proofs.Counting.{further-above}
+use Rattle.search.specs.Core.{Game, rowOf, Core, coreOf, Sized, Recorded, Trailed, Lengths, skipped, left, nesting, finished, returned, emptied, exhausted, closed, withWalker, probed, discover, deepen, leaveRoot, goBack, onOpenPath, byPhase, over, targetOf, hasEdge, outerProbe, finish, outerStep, nestedProbe, nestedStep, step, runFor, Deep, upTo, forgetAbove, climb, retraceWalk, retraceDepth, rewound}
 
 -- two walkers, and two cores, with the same fields
 pub same-walker : (a b : Walker) → a .phase ≡ b .phase → a .cur ≡ b .cur → a .next ≡ b .next → a .height ≡ b .height → a .top ≡ b .top → a .stem ≡ b .stem
@@ -410,22 +411,6 @@ module _ (limit : ℕ) where
     forgets x e =
         let new : x ≡ upTo limit (getD xs i 0) = e ∙ ap (upTo limit) (ap (λ (l : List ℕ). getD l i 0) so-far ∙ forget-at xs i) in
         (λ j. set (so-far j) i (new j)) ∙ forget-write xs i
-
--- the first i entries are x, the rest as they were: a turn of `fill`
-abbrev pub filled : ℕ → ℕ → List ℕ → List ℕ
-filled x i xs = replicate i x ++ drop i xs
-
-module _ (x : ℕ) where
-  pub filled-write : (xs : List ℕ) (i : ℕ) → i < length xs → set (filled x i xs) i x ≡ filled x (suc i) xs
-  filled-write [] i h = absurd (not-suc-le-zero h)
-  filled-write (y ∷ xs) zero h = refl
-  filled-write (y ∷ xs) (suc i) h = ap (λ (r : List ℕ). x ∷ r) (filled-write xs i (le-of-suc-le-suc h))
-
-  pub filled-all : (xs : List ℕ) (i : ℕ) → length xs ≡ i → filled x i xs ≡ replicate i x
-  filled-all [] zero h = refl
-  filled-all [] (suc i) h = absurd (omega arith)
-  filled-all (y ∷ xs) zero h = absurd (omega arith)
-  filled-all (y ∷ xs) (suc i) h = ap (λ (r : List ℕ). x ∷ r) (filled-all xs i (omega arith))
 
 module _ (parent : List ℕ) (start x : ℕ) where
   climb-here : (m k : ℕ) → m ≡ suc k → x ≡ start → climb parent start m x ≡ 1

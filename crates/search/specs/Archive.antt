@@ -7,7 +7,8 @@ use lib.ListN.{length, getD}
 use Rattle.plain.specs.Lists.{elem, In}
 use Rattle.plain.specs.Search.{Graph, Frame, frame, Config, outer, nested, exhausted, found, discoveredOf, markedOf, run}
 use Rattle.plain.specs.Notes.{Notes, Faithful}
-use Rattle.search.specs.Core.{noNumber, Lengths}
+use Rattle.look.specs.Numbers.{noNumber}
+use Rattle.search.specs.Core.{Lengths}
 
 -- xs begins with ys
 abbrev pub Begins : List ℕ → List ℕ → Type 0

@@ -1,29 +1,17 @@
 -- The arrays of the search as lists, and what each step does to them. Cited by the contracts of this crate: a theorem (proofs/OneStep.antt) ties it
 -- to the plain search. Assumes nothing.
-use Prim.Native.Nat.{ℕ, zero, suc, _+_, _-_, _%_, _≤_, _<_}
+use Prim.Native.Nat.{ℕ, zero, suc, _-_, _≤_, _<_}
 use mathlib.Core.Path.{_≡_}
 use mathlib.Core.Bool.{Bool, true, false, _&&_, cond}
-use mathlib.Core.List.{List, [], _++_, map}
+use mathlib.Core.List.{List, _++_, map}
 use lib.Dec.{eqb, ltb, leb}
 use lib.ListN.{length, getD, set, take, drop, replicate}
 use Rattle.plain.specs.Table.{accepts}
-use Rattle.rows.specs.Rows.{rowAt}
+use Rattle.look.specs.Numbers.{noNumber, plus, up, further}
+use Rattle.look.specs.Scan.{mostStates, rowIn}
 use Rattle.search.specs.declared.Phase.{Phase}
 use Rattle.search.specs.declared.Phase.the-variants.{Outer, Nested, Exhausted, Found}
 use Rattle.search.specs.declared.Walker.{Walker}
-use Rattle.search.specs.declared.Row.{Row}
-use Rattle.search.specs.declared.Scanned.{Scanned}
-
--- the entries of an array that goes by state, and of the array of targets
-abbrev pub mostStates : ℕ
-mostStates = 512
-
-abbrev pub mostTargets : ℕ
-mostTargets = 2048
-
--- what stands in an array for "no number"
-abbrev pub noNumber : ℕ
-noNumber = 65535
 
 -- ---- the game
 
@@ -36,14 +24,6 @@ pub record Game : Type 0 where
 -- the game of lent arrays
 abbrev pub gameOf : List ℕ → List ℕ → List ℕ → Game
 gameOf targets starts words = record { targets = targets; starts = starts; words = words }
-
--- is v a state that a table can have, and does its row end within the array of targets?
-abbrev pub fits : List ℕ → ℕ → Bool
-fits starts v = ltb v mostStates && leb (getD starts (suc v) 0) mostTargets
-
--- the row of v; one that does not fit counts as empty
-unfoldable pub rowIn : List ℕ → List ℕ → ℕ → List ℕ
-rowIn targets starts v = cond (fits starts v) (rowAt targets starts v) []
 
 -- The steps read a game through these two alone: the targets of the edges that leave v, oldest first; and whether v is accepting.
 abbrev pub rowOf : Game → ℕ → List ℕ
@@ -125,24 +105,6 @@ pub record Lengths (number parent index probes stamp walk : List ℕ) : Type 0 w
   pub probes-size : length probes ≡ mostStates
   pub stamp-size : length stamp ≡ mostStates
   pub walk-size : length walk ≡ mostStates
-
--- ---- numbers of 16 bits
-
--- a sum, and one more, modulo 65,536
-unfoldable pub plus : ℕ → ℕ → ℕ
-plus a b = (a + b) % 65536
-
-unfoldable pub up : ℕ → ℕ
-up x = (x + 1) % 65536
-
--- one more, at most 65,535
-unfoldable pub further : ℕ → ℕ
-further x = cond (ltb x 65535) (x + 1) x
-
--- one more, n times
-unfoldable pub raised : ℕ → ℕ → ℕ
-raised zero x = x
-raised (suc n) x = raised n (up x)
 
 -- ---- one step, by its ways
 
@@ -319,39 +281,6 @@ module _ (g : Game) where
   unfoldable pub runFor : ℕ → Core → Core
   runFor zero s = s
   runFor (suc n) s = runFor n (step s)
-
--- ---- what a scan leaves
-
--- the places of the row of v: none where it does not fit
-pub record Spans (starts : List ℕ) (v : ℕ) (r : Row) : Type 0 where
-  pub whole : fits starts v ≡ true → (r .from ≡ getD starts v 0) × (r .stop ≡ getD starts (suc v) 0)
-  pub empty : fits starts v ≡ false → (r .from ≡ 0) × (r .stop ≡ 0)
-  pub from-small : r .from < 65536
-  pub stop-small : r .stop ≤ mostTargets
-
--- a place of the row of v, or behind it; the array of starts has the length of its type
-pub record Places (starts : List ℕ) (v at : ℕ) : Type 0 where
-  pub starts-size : length starts ≡ suc mostStates
-  pub first : getD starts v 0 ≤ at
-  pub near : at < getD starts v 0 + 65536
-
--- each of n edges of the row, from edge k on, leads to a state that has a number in the array
-abbrev pub Skips : List ℕ → List ℕ → ℕ → ℕ → Type 0
-Skips row array k n = (i : ℕ) → i < n → (k + i < length row) × (getD array (getD row (k + i) 0) 0 ≡ noNumber → ⊥)
-
--- a look at edge k of the row: it leads to a state that has no number in the array; first: the place of the row's first edge
-pub record Hits (row : List ℕ) (first : ℕ) (array : List ℕ) (k : ℕ) (r : Scanned) : Type 0 where
-  pub edge : k < length row
-  pub place-is : r .at ≡ first + k
-  pub target-is : r .target ≡ getD row k 0
-  pub new : getD array (r .target) 0 ≡ noNumber
-
--- What a scan from edge k of a row on leaves: some edges are passed over, and one more is looked at, or none is left. Each look was counted.
-pub record Swept (row : List ℕ) (first : ℕ) (array : List ℕ) (k spent : ℕ) (r : Scanned) (spent′ : ℕ) : Type 0 where
-  pub passed : ℕ
-  pub skips : Skips row array k passed
-  pub looked : r .found ≡ true → Hits row first array (k + passed) r × (spent′ ≡ up (raised passed spent))
-  pub ended : r .found ≡ false → (length row ≤ k + passed) × (spent′ ≡ raised passed spent)
 
 -- ---- several steps at once
 

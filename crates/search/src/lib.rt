@@ -7,14 +7,11 @@
 // stamp, by state: how many states were discovered when the nested search marked it
 // walk: the open path, and behind it the path of the nested search; depth, by state: its place on the open path
 // cursor, by place of the walk: the edge that the nested search took last from the state there
-mod numbers; // 16-bit numbers, and arrays of them
-mod look; // the one function that hands a target to the search, and the scan of a row
 mod outer; // steps of the outer search
 mod nested; // steps of the nested search
 mod rewind; // the arrays as they stood when a state was discovered
 mod run; // the search, begun or resumed, to its end
 
-pub use numbers::plus;
 pub use rewind::begin;
 pub use run::resume;
 
@@ -42,27 +39,6 @@ pub struct Walker {
     // the probes kept from the search before
     pub kept: u16,
 }
-
-// The places of a row: those from one up to another.
-struct Row {
-    from: usize,
-    stop: usize,
-}
-
-// Where a scan of a row ends: at the place of an edge, and its target, or behind the last edge.
-struct Scanned {
-    at: usize,
-    target: u16,
-    found: bool,
-}
-
-// What stands in an array for "no number".
-pub const NO_NUMBER: u16 = 65535;
-
-// The entries of an array that goes by state, and of the array of targets.
-const STATES: usize = 512;
-
-const TARGETS: usize = 2048;
 
 // The most states of a chain of parents: on a game's own arrays no state stands in it twice.
 const LONGEST: u16 = 512;

@@ -2,20 +2,21 @@
 use crate::Phase;
 use crate::TURNS;
 use crate::Walker;
-use crate::look::edge_of;
-use crate::look::scan;
-use crate::numbers::down;
-use crate::numbers::further;
-use crate::numbers::get;
-use crate::numbers::put;
 use crate::outer::leave;
+use look::down;
+use look::edge_of;
+use look::further;
+use look::get;
+use look::put;
+use look::scan;
 ghost use mathlib.Core.Path.{_≡_};
 ghost use mathlib.Core.List.{List};
 ghost use Prim.Native.Nat.{ℕ, _-_};
 ghost use lib.ListN.{length, getD};
+ghost use Rattle.look.specs.Scan.{Places};
 ghost use Rattle.search.specs.declared.Phase.the-variants.{Nested};
 ghost use Rattle.rows.specs.Rows.{Tabled};
-ghost use Rattle.search.specs.Core.{gameOf, Trailed, Places, Deep, coreOf, placed, goBack, deepen as deepens, onOpenPath, Advanced, nestedStopped};
+ghost use Rattle.search.specs.Core.{gameOf, Trailed, Deep, coreOf, placed, goBack, deepen as deepens, onOpenPath, Advanced, nestedStopped};
 
 // Is t on the open path of that height?
 fn on_path(walk: &[u16; 512], depth: &[u16; 512], height: u16, t: u16) -> bool

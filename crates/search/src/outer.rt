@@ -2,23 +2,24 @@
 use crate::Phase;
 use crate::TURNS;
 use crate::Walker;
-use crate::look::edge_of;
-use crate::look::scan;
-use crate::numbers::down;
-use crate::numbers::further;
-use crate::numbers::get;
-use crate::numbers::plus;
-use crate::numbers::put;
-use crate::numbers::up;
+use look::down;
+use look::edge_of;
+use look::further;
+use look::get;
+use look::plus;
+use look::put;
+use look::scan;
+use look::up;
 use rows::wide;
 ghost use mathlib.Core.Path.{_≡_};
 ghost use mathlib.Core.List.{List};
 ghost use Prim.Native.Nat.{ℕ, _-_};
 ghost use lib.ListN.{length, getD};
 ghost use Rattle.plain.specs.Table.{accepts};
+ghost use Rattle.look.specs.Scan.{Places};
 ghost use Rattle.search.specs.declared.Phase.the-variants.{Outer};
 ghost use Rattle.rows.specs.Rows.{Tabled};
-ghost use Rattle.search.specs.Core.{gameOf, Recorded, Places, coreOf, placed, left, exhausted, discover as discovered, finished, Advanced, outerStopped};
+ghost use Rattle.search.specs.Core.{gameOf, Recorded, coreOf, placed, left, exhausted, discover as discovered, finished, Advanced, outerStopped};
 
 // The target t is discovered, by the edge at a place of the current state's row. That edge's index is worked out behind the first stores: so the scan
 // keeps one variable, the place.

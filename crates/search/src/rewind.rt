@@ -1,10 +1,10 @@
 // The arrays of a search as they stood when a state was discovered.
 use crate::LONGEST;
-use crate::NO_NUMBER;
-use crate::STATES;
-use crate::numbers::fill;
-use crate::numbers::get;
-use crate::numbers::put;
+use look::NO_NUMBER;
+use look::STATES;
+use look::fill;
+use look::get;
+use look::put;
 use rows::wide;
 ghost use mathlib.Core.Path.{_≡_};
 ghost use lib.ListN.{length};

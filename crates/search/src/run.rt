@@ -2,12 +2,12 @@
 use crate::Phase;
 use crate::Walker;
 use crate::nested::nested_steps;
-use crate::numbers::get;
-use crate::numbers::up;
 use crate::outer::outer_steps;
 use crate::rewind::climb;
 use crate::rewind::forget_above;
 use crate::rewind::retrace;
+use look::get;
+use look::up;
 ghost use mathlib.Core.Path.{_≡_};
 ghost use Rattle.rows.specs.Rows.{Tabled};
 ghost use Rattle.search.specs.Core.{gameOf, Sized, Lengths, Deep, coreOf, Advanced, Ran, over as isOver, rewound, resultOf};

@@ -24,9 +24,10 @@ use Rattle.plain.proofs.Trials.{passed}
 use Rattle.plain.proofs.Rows.{agree}
 use Rattle.plain.proofs.Tables.{Valid, valid, valid-change}
 use Rattle.plain.proofs.Demands.{run-final, verdict-right, change-unmet, change-met}
-use Rattle.search.specs.Core.{noNumber, gameOf, Result, plus}
+use Rattle.look.specs.Numbers.{noNumber, plus}
+use Rattle.look.proofs.Counting.{plus-more}
+use Rattle.search.specs.Core.{gameOf, Result}
 use Rattle.search.specs.Archive.{notesOf, Archived}
-use Rattle.search.proofs.Counting.{plus-more}
 use Rattle.search.proofs.Scans.{ran-from}
 use Rattle.search.proofs.Ended.{rewound-spent}
 use Rattle.search.proofs.Resumed.{Small, resume-fits, limits}

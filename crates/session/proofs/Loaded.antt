@@ -14,7 +14,8 @@ use Rattle.plain.proofs.Trials.{passed}
 use Rattle.plain.proofs.Tables.{Valid, valid}
 use Rattle.plain.proofs.Demands.{verdict-right}
 use Rattle.rows.specs.Change.{Rows}
-use Rattle.search.specs.Core.{noNumber, Game, gameOf, Result, Lengths, Fresh, plus}
+use Rattle.look.specs.Numbers.{noNumber, plus}
+use Rattle.search.specs.Core.{Game, gameOf, Result, Lengths, Fresh}
 use Rattle.search.proofs.Ended.{rewound-spent}
 use Rattle.search.proofs.Resumed.{begin-fits}
 use Rattle.session.specs.declared.Answer.{Answer}

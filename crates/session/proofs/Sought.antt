@@ -17,13 +17,14 @@ use Rattle.rows.specs.Rows.{edgeCount, Compressed}
 use Rattle.rows.specs.Change.{Rows}
 use Rattle.rows.proofs.Entries.{no-row}
 use Rattle.rows.proofs.Change.{starts-within}
+use Rattle.look.specs.Numbers.{noNumber, plus}
+use Rattle.look.proofs.Counting.{plus-more}
+use Rattle.look.proofs.Scans.{row-fits}
 use Rattle.search.specs.declared.Walker.{Walker}
-use Rattle.search.specs.Core.{noNumber, Game, gameOf, Core, Result, result, resultOf, runFor, Ran, plus, Lengths}
+use Rattle.search.specs.Core.{Game, gameOf, Core, Result, result, resultOf, runFor, Ran, Lengths}
 use Rattle.search.specs.Archive.{Archived}
-use Rattle.search.proofs.Counting.{plus-more}
 use Rattle.search.proofs.Represents.{Matches, Stands}
 use Rattle.search.proofs.Ways.{run-sized, rewound-sized}
-use Rattle.search.proofs.Scans.{row-fits}
 use Rattle.search.proofs.OneStep.{Fits}
 use Rattle.search.proofs.Resumed.{limits, at-run, archived}
 use Rattle.search.proofs.Ended.{run-kept}

@@ -11,10 +11,11 @@ use Rattle.table.specs.declared.Op.{Op}
 use Rattle.table.specs.declared.Refusal.{Refusal}
 use Rattle.table.specs.Trials.{trialIn}
 use Rattle.table.specs.Filing.{sourceOf, filedIn}
+use Rattle.look.specs.Numbers.{noNumber}
 use Rattle.search.specs.declared.Phase.{Phase}
 use Rattle.search.specs.declared.Phase.the-variants.{Outer, Nested, Exhausted, Found}
 use Rattle.search.specs.declared.Walker.{Walker}
-use Rattle.search.specs.Core.{noNumber, Game, gameOf, Core, Result, Ran, rewound}
+use Rattle.search.specs.Core.{Game, gameOf, Core, Result, Ran, rewound}
 use Rattle.session.specs.declared.Resumption.{Resumption}
 use Rattle.session.specs.declared.Resumption.the-variants.{Nowhere, At}
 use Rattle.session.specs.declared.Verdict.{Verdict}

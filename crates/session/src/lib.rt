@@ -9,9 +9,8 @@ ghost use Prim.Native.Nat.{_+_, _≤_};
 ghost use lib.ListN.{length, take, drop};
 ghost use Rattle.rows.specs.Change.{rowsOf};
 ghost use Rattle.rows.specs.Rows.{Tabled};
-ghost use Rattle.search.specs.Core.{gameOf, Lengths, plus};
-ghost use Rattle.table.specs.Trials.{tried, earlyTrial, there, addTrialIn, cutTrialIn, trialIn};
-ghost use Rattle.table.specs.Filing.{sourceOf, filedIn, Attempted, FiledAll, Tried};
+ghost use Rattle.look.specs.Numbers.{plus};
+ghost use Rattle.search.specs.Core.{gameOf, Lengths};
 ghost use Rattle.session.specs.Model.{resumptionAt, isFound, verdictOf, noVerdict, recordsOf, Sought, answerIs, refusing, noGame, shownWalk, Settles, ChangedIn};
 ghost use Rattle.session.specs.Promises.{Loads, Changes};
 
@@ -92,7 +91,7 @@ fn where_to_resume(number: &[u16; 512], s: u16) -> Resumption
     ensures { λ r. ⌜ r ≡ resumptionAt (now (number .entry)) s ⌝ }
 {
     if s < STATES {
-        if number[wide(s)] == search::NO_NUMBER {
+        if number[wide(s)] == look::NO_NUMBER {
             return Resumption::Nowhere;
         }
     }
@@ -281,7 +280,7 @@ fn no_verdict() -> Verdict
 fn total_of(v: Verdict) -> u16
     ensures { λ r. ⌜ r ≡ plus (v .kept) (v .spent) ⌝ }
 {
-    search::plus(v.kept, v.spent)
+    look::plus(v.kept, v.spent)
 }
 
 // Searches and answers: the search is taken up, and the walk is written into the lent list.

@@ -3,8 +3,9 @@ use mathlib.Core.Path.{sym, _∙_}
 use mathlib.Core.List.{List}
 use Prim.Native.Nat.{ℕ}
 use denote.Ref.{now}
+use Rattle.look.proofs.Scans.{place-near, row-few}
 use Rattle.search.specs.Core.{Core, coreOf}
-use Rattle.search.proofs.Scans.{place-near, row-few, then-closes, then-deepens, then-returns}
+use Rattle.search.proofs.Scans.{then-closes, then-deepens, then-returns}
 use Rattle.search.proofs.nested.nested_step.Statement.{statement}
 use Rattle.search.proofs.nested.nested_step.Tie as tie
 

@@ -1,6 +1,6 @@
 -- `leave` meets its contract. Assumes nothing.
 use mathlib.Core.Path.{refl, ap, _∙_}
-use Rattle.search.specs.Core.{further}
+use Rattle.look.specs.Numbers.{further}
 use Rattle.search.proofs.Ways.{same-walker}
 use Rattle.search.proofs.outer.leave.Statement.{statement}
 use Rattle.search.proofs.outer.leave.Tie as tie

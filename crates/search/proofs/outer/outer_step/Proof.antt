@@ -3,11 +3,12 @@ use mathlib.Core.Path.{ap, _∙_}
 use mathlib.Core.List.{List}
 use Prim.Native.Nat.{ℕ}
 use denote.Ref.{now}
+use Rattle.look.proofs.Scans.{place-near, row-few}
 use Rattle.search.specs.declared.Phase.the-variants.{Outer}
 use Rattle.search.specs.declared.Walker.{Walker}
 use Rattle.search.specs.Core.{gameOf, Core, coreOf, withWalker}
 use Rattle.search.proofs.Ways.{outer-ends, step-at, exhausted-deep}
-use Rattle.search.proofs.Scans.{advanced-one, place-near, row-few, then-discovers, then-finishes}
+use Rattle.search.proofs.Scans.{advanced-one, then-discovers, then-finishes}
 use Rattle.search.proofs.outer.outer_step.Statement.{statement}
 use Rattle.search.proofs.outer.outer_step.Tie as tie
 

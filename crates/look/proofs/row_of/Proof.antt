@@ -4,10 +4,10 @@ use Prim.Native.Nat.{suc, _+_}
 use native.Mathlib.Omega.{arith}
 use denote.Ref.{now}
 use Rattle.rows.proofs.Paste.{same-place}
-use Rattle.search.proofs.Scans.{spans-whole, spans-long, spans-past}
+use Rattle.look.proofs.Scans.{spans-whole, spans-long, spans-past}
 use borrow.Author.Needs.{needs}
-use Rattle.search.proofs.look.row_of.Statement.{statement}
-use Rattle.search.proofs.look.row_of.Tie as tie
+use Rattle.look.proofs.row_of.Statement.{statement}
+use Rattle.look.proofs.row_of.Tie as tie
 
 wide-requires : tie.Need-wide-requires
 wide-requires c κs = tt

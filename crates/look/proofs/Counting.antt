@@ -10,7 +10,7 @@ use lib.ListN.{length, getD, drop, drop-of-length-le}
 use lib.Seq.{drop-cons}
 use borrow.Author.Tests.{ltb-true, ltb-false, lt-ltb, le-ltb}
 use Rattle.plain.proofs.Tests.{either}
-use Rattle.search.specs.Core.{up, plus, further, raised}
+use Rattle.look.specs.Numbers.{up, plus, further, raised}
 
 pub up-is : (x : ℕ) → up x ≡ (x + 1) % 65536
 unfolding up

@@ -6,8 +6,8 @@ use denote.Ref.{now}
 use lib.ListN.{set}
 use lib.Seq.{set-out}
 use borrow.Author.Needs.{needs}
-use Rattle.search.proofs.numbers.put.Statement.{statement}
-use Rattle.search.proofs.numbers.put.Tie as tie
+use Rattle.look.proofs.put.Statement.{statement}
+use Rattle.look.proofs.put.Tie as tie
 
 wide-requires : tie.Need-wide-requires
 wide-requires c κs = search needs

@@ -4,8 +4,8 @@ use native.Mathlib.Omega.{arith}
 use denote.Ref.{now}
 use Rattle.rows.proofs.Paste.{past, same-place}
 use borrow.Author.Needs.{needs}
-use Rattle.search.proofs.numbers.get.Statement.{statement}
-use Rattle.search.proofs.numbers.get.Tie as tie
+use Rattle.look.proofs.get.Statement.{statement}
+use Rattle.look.proofs.get.Tie as tie
 
 wide-requires : tie.Need-wide-requires
 wide-requires c κs = search needs

@@ -1,10 +1,10 @@
 -- `look` meets its contract: the entry at that place, and the count one higher. Assumes nothing.
 use mathlib.Core.Path.{refl, _∙_}
 use denote.Ref.{now}
-use Rattle.search.proofs.Counting.{up-is}
+use Rattle.look.proofs.Counting.{up-is}
 use borrow.Author.Needs.{needs}
-use Rattle.search.proofs.look.look.Statement.{statement}
-use Rattle.search.proofs.look.look.Tie as tie
+use Rattle.look.proofs.look.Statement.{statement}
+use Rattle.look.proofs.look.Tie as tie
 
 up-requires : tie.Need-up-requires
 up-requires c κs = tt

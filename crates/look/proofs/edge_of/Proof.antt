@@ -5,8 +5,8 @@ use native.Mathlib.Omega.{arith}
 use denote.Ref.{now}
 use lib.ListN.{getD}
 use Rattle.rows.proofs.Paste.{same-place}
-use Rattle.search.proofs.look.edge_of.Statement.{statement}
-use Rattle.search.proofs.look.edge_of.Tie as tie
+use Rattle.look.proofs.edge_of.Statement.{statement}
+use Rattle.look.proofs.edge_of.Tie as tie
 
 -- the start that was read
 start-is : (c : tie.After-wide2) → c .wide2 .result ≡ getD (now (c .before .before .before .args .starts)) (c .before .before .before .args .v) 0

@@ -3,11 +3,11 @@ use mathlib.Core.Path.{_≡_, sym, ap, _∙_}
 use Prim.Native.Nat.{ℕ, _+_, _-_}
 use native.Mathlib.Omega.{arith}
 use denote.Ref.{now}
-use Rattle.search.specs.Core.{rowIn}
-use Rattle.search.proofs.Counting.{up-is}
-use Rattle.search.proofs.Scans.{SoFar, scan-begins, scan-goes-on, scan-finds, scan-ends}
-use Rattle.search.proofs.look.scan.Statement.{statement}
-use Rattle.search.proofs.look.scan.Tie as tie
+use Rattle.look.specs.Scan.{rowIn}
+use Rattle.look.proofs.Counting.{up-is}
+use Rattle.look.proofs.Scans.{SoFar, scan-begins, scan-goes-on, scan-finds, scan-ends}
+use Rattle.look.proofs.scan.Statement.{statement}
+use Rattle.look.proofs.scan.Tie as tie
 
 abbrev Inv-loop : tie.InvT-loop
 Inv-loop targets starts array spent₀ v k stop at₀ spent at = SoFar (rowIn targets starts v) array k spent₀ at₀ at spent

@@ -1,8 +1,8 @@
 -- `plus` meets its contract. Assumes nothing.
 use mathlib.Core.Path.{sym, _∙_}
-use Rattle.search.proofs.Counting.{plus-is}
-use Rattle.search.proofs.numbers.plus.Statement.{statement}
-use Rattle.search.proofs.numbers.plus.Tie as tie
+use Rattle.look.proofs.Counting.{plus-is}
+use Rattle.look.proofs.plus.Statement.{statement}
+use Rattle.look.proofs.plus.Tie as tie
 
 wrapping-add-u16-requires : tie.Need-wrapping-add-u16-requires
 wrapping-add-u16-requires c κs = tt

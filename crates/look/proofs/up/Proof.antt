@@ -1,8 +1,8 @@
 -- `up` meets its contract. Assumes nothing.
 use mathlib.Core.Path.{sym, _∙_}
-use Rattle.search.proofs.Counting.{plus-is, up-is}
-use Rattle.search.proofs.numbers.up.Statement.{statement}
-use Rattle.search.proofs.numbers.up.Tie as tie
+use Rattle.look.proofs.Counting.{plus-is, up-is}
+use Rattle.look.proofs.up.Statement.{statement}
+use Rattle.look.proofs.up.Tie as tie
 
 plus-requires : tie.Need-plus-requires
 plus-requires c κs = tt

@@ -1,9 +1,9 @@
 -- `further` meets its contract. Assumes nothing.
 use borrow.Author.Tests.{lt-ltb, le-ltb}
-use Rattle.search.specs.Core.{further}
+use Rattle.look.specs.Numbers.{further}
 use borrow.Author.Needs.{needs}
-use Rattle.search.proofs.numbers.further.Statement.{statement}
-use Rattle.search.proofs.numbers.further.Tie as tie
+use Rattle.look.proofs.further.Statement.{statement}
+use Rattle.look.proofs.further.Tie as tie
 
 add-result : tie.Need-add-result
 add-result c = search needs

@@ -1,18 +1,101 @@
-// How the search reads a row.
-use crate::NO_NUMBER;
-use crate::Row;
-use crate::STATES;
-use crate::Scanned;
-use crate::TARGETS;
-use crate::numbers::get;
-use crate::numbers::narrow;
-use crate::numbers::up;
+// How the search reads a row: numbers of 16 bits, arrays of them, the one function that hands out a target and counts, and the scan of a row.
+// Every function is safe for any contents of the arrays.
 use rows::wide;
 ghost use mathlib.Core.Path.{_≡_};
 ghost use Prim.Native.Nat.{_+_, _-_, _%_, _<_};
-ghost use lib.ListN.{length, getD};
+ghost use lib.ListN.{length, getD, set, replicate};
 ghost use Rattle.rows.specs.Rows.{Tabled};
-ghost use Rattle.search.specs.Core.{Places, Spans, rowIn, Swept};
+ghost use Rattle.look.specs.Numbers.{up as upped, further as oneFurther, plus as added};
+ghost use Rattle.look.specs.Scan.{Places, Spans, rowIn, Swept};
+
+// The places of a row: those from one up to another.
+struct Row {
+    from: usize,
+    stop: usize,
+}
+
+// Where a scan of a row ends: at the place of an edge, and its target, or behind the last edge.
+pub struct Scanned {
+    pub at: usize,
+    pub target: u16,
+    pub found: bool,
+}
+
+// What stands in an array for "no number".
+pub const NO_NUMBER: u16 = 65535;
+
+// The entries of an array that goes by state, and of the array of targets.
+pub const STATES: usize = 512;
+
+const TARGETS: usize = 2048;
+
+// A number below 65,536, in 16 bits.
+fn narrow(x: usize) -> u16
+    requires { ⌜ x < 65536 ⌝ }
+    ensures { λ r. ⌜ r ≡ x ⌝ }
+{
+    x as u16
+}
+
+// A sum, modulo 65,536. (Of a session that a load made, no sum comes near: to test for the end would cost more than it is worth.)
+pub fn plus(a: u16, b: u16) -> u16
+    ensures { λ r. ⌜ r ≡ added a b ⌝ }
+{
+    std::num::wrapping_add_u16(a, b)
+}
+
+// One more, modulo 65,536.
+pub fn up(x: u16) -> u16
+    ensures { λ r. ⌜ r ≡ upped x ⌝ }
+{
+    plus(x, 1)
+}
+
+// One more, at most 65,535.
+pub fn further(x: u16) -> u16
+    ensures { λ r. ⌜ r ≡ oneFurther x ⌝ }
+{
+    if x < u16::MAX { x + 1 } else { x }
+}
+
+// One less, at least 0.
+pub fn down(x: u16) -> u16
+    ensures { λ r. ⌜ r ≡ x - 1 ⌝ }
+{
+    if 0 < x { x - 1 } else { 0 }
+}
+
+// Entry v; 0 past the end.
+pub fn get(a: &[u16; 512], v: u16) -> u16
+    requires { ⌜ length (now a) ≡ 512 ⌝ }
+    ensures { λ r. ⌜ r ≡ getD (now (a .entry)) v 0 ⌝ }
+{
+    let i = wide(v);
+    if i < STATES { a[i] } else { 0 }
+}
+
+// x at entry v; past the end nothing.
+pub fn put(a: &mut [u16; 512], v: u16, x: u16)
+    requires { ⌜ length (now a) ≡ 512 ⌝ }
+    ensures { λ r. ⌜ now (a .exit) ≡ set (now (a .entry)) v x ⌝ }
+{
+    let i = wide(v);
+    if i < STATES {
+        a[i] = x;
+    }
+}
+
+// x at each entry.
+pub fn fill(a: &mut [u16; 512], x: u16)
+    requires { ⌜ length (now a) ≡ 512 ⌝ }
+    ensures { λ r. ⌜ now (a .exit) ≡ replicate 512 x ⌝ }
+{
+    let mut i: usize = 0;
+    while i < STATES {
+        a[i] = x;
+        i += 1;
+    }
+}
 
 // The one function that hands a target to the search: the entry at that place. The count that it is lent rises by one.
 fn look(targets: &[u16; 2048], spent: &mut u16, at: usize) -> u16

@@ -1,15 +1,31 @@
 -- `fill` meets its contract: the first i entries are x, the others are as they were. Assumes nothing.
-use mathlib.Core.Path.{_≡_, ap, _∙_}
-use mathlib.Core.List.{List}
-use Prim.Native.Nat.{ℕ, _-_, _≤_}
+use mathlib.Core.Path.{_≡_, refl, ap, _∙_}
+use mathlib.Core.List.{List, [], _∷_, _++_}
+use Prim.Native.Nat.{ℕ, zero, suc, _-_, _≤_, _<_}
+use native.Mathlib.Nat.{le-of-suc-le-suc, not-suc-le-zero}
 use native.Mathlib.Numerals.{add-one}
 use native.Mathlib.Omega.{arith}
 use denote.Ref.{now}
-use lib.ListN.{set}
-use Rattle.search.proofs.Ways.{filled, filled-write, filled-all}
+use lib.ListN.{length, set, drop, replicate}
 use borrow.Author.Needs.{needs}
-use Rattle.search.proofs.numbers.fill.Statement.{statement}
-use Rattle.search.proofs.numbers.fill.Tie as tie
+use Rattle.look.proofs.fill.Statement.{statement}
+use Rattle.look.proofs.fill.Tie as tie
+
+-- the first i entries are x, the rest as they were
+abbrev filled : ℕ → ℕ → List ℕ → List ℕ
+filled x i xs = replicate i x ++ drop i xs
+
+module _ (x : ℕ) where
+  filled-write : (xs : List ℕ) (i : ℕ) → i < length xs → set (filled x i xs) i x ≡ filled x (suc i) xs
+  filled-write [] i h = absurd (not-suc-le-zero h)
+  filled-write (y ∷ xs) zero h = refl
+  filled-write (y ∷ xs) (suc i) h = ap (λ (r : List ℕ). x ∷ r) (filled-write xs i (le-of-suc-le-suc h))
+
+  filled-all : (xs : List ℕ) (i : ℕ) → length xs ≡ i → filled x i xs ≡ replicate i x
+  filled-all [] zero h = refl
+  filled-all [] (suc i) h = absurd (omega arith)
+  filled-all (y ∷ xs) zero h = absurd (omega arith)
+  filled-all (y ∷ xs) (suc i) h = ap (λ (r : List ℕ). x ∷ r) (filled-all xs i (omega arith))
 
 abbrev Inv-loop : tie.InvT-loop
 Inv-loop a₀ x i₀ a i = (i ≤ 512) × (a ≡ filled x i a₀)
