@@ -7,11 +7,12 @@ use lib.ListN.{length, take}
 use Rattle.line.specs.Records.{recordOf}
 use Rattle.line.specs.declared.Record.{Record}
 use Rattle.session.specs.declared.Answer.{Answer}
-use Rattle.watch.specs.declared.Lead.{Lead}
-use Rattle.watch.specs.declared.Plan.{Plan}
+use Rattle.lead.specs.declared.Lead.{Lead}
+use Rattle.lead.specs.declared.Plan.{Plan}
+use Rattle.lead.specs.Asked.{asked}
 use Rattle.watch.specs.declared.Written.{Written}
 use Rattle.watch.specs.Text.{Held, waiting, step, limit}
-use Rattle.watch.specs.Model.{asked, linesMost, Laid, Writes}
+use Rattle.watch.specs.Model.{linesMost, Laid, Writes}
 use Rattle.watch.proofs.Output.{laid-bytes}
 use Rattle.monitor.specs.declared.Status.{Status}
 use Rattle.monitor.specs.declared.Status.the-variants.{More, Line, Last, Over}

@@ -10,8 +10,9 @@ use Rattle.line.specs.Records.{recordOf}
 use Rattle.line.specs.declared.Record.{Record}
 use Rattle.answer.specs.Rendering.{rendered}
 use Rattle.session.specs.declared.Answer.{Answer}
-use Rattle.watch.specs.declared.Lead.{Lead}
-use Rattle.watch.specs.Model.{asked, linesMost, linesTold}
+use Rattle.lead.specs.declared.Lead.{Lead}
+use Rattle.lead.specs.Asked.{asked}
+use Rattle.watch.specs.Model.{linesMost, linesTold}
 use Rattle.watch.specs.Text.{Held, waiting, step, limit}
 use Rattle.monitor.specs.declared.Status.{Status}
 use Rattle.monitor.specs.declared.Status.the-variants.{More, Line, Last, Over}

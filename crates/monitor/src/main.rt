@@ -1,9 +1,9 @@
 // The box program: lines from standard input, answers on standard output, each as soon as its line is read.
+use lead::Lead;
+use lead::Task;
 use libc::STDIN_FILENO;
 use libc::STDOUT_FILENO;
 use session::Answer;
-use watch::Lead;
-use watch::Task;
 ghost use mathlib.Core.Path.{_≡_};
 ghost use lib.ListN.{length};
 ghost use Rattle.monitor.specs.Lines.{chunk, heldMost, Within, Took, Next, isMore, hasLine, isLine, endOf, bytesTold, Printed};
@@ -156,12 +156,12 @@ fn is_line(r: Reader) -> bool
 }
 
 fn main() {
-    let mut numbers: [u16; watch::NUMBERS] = [0; watch::NUMBERS];
+    let mut numbers: [u16; lead::NUMBERS] = [0; lead::NUMBERS];
     let mut walk: [u16; watch::WALK] = [0; watch::WALK];
     let mut lines: [u8; watch::LINES] = [0; watch::LINES];
     let mut buf: [u8; CHUNK] = [0; CHUNK];
     let mut held: [u8; HELD] = [0; HELD];
-    let mut lead = watch::first_lead();
+    let mut lead = lead::first_lead();
     let mut c = watch::no_session();
     let mut r = standing(0, 0, 0, watch::LIMIT, Status::More);
     loop {
@@ -170,7 +170,7 @@ fn main() {
             return;
         }
         let len = r.len;
-        let plan = watch::read(lead, &mut numbers, &held[..len]);
+        let plan = lead::read(lead, &mut numbers, &held[..len]);
         let task = plan.task;
         if let Task::Ask(ask) = task {
             c = watch::serve(c.session, lead, ask, &numbers, &mut walk);
@@ -182,7 +182,7 @@ fn main() {
             return;
         }
         lead = w.lead;
-        if watch::is_over(lead) {
+        if lead::is_over(lead) {
             return;
         }
         if !is_line(r) {

@@ -1,9 +1,7 @@
 pub mod Texts
 pub mod Truth
 pub mod Steps
-pub mod Asking
 pub mod Writing
-pub mod Filing
 pub mod Counting
 pub mod Serving
 pub mod Output

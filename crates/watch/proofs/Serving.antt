@@ -5,7 +5,7 @@ use mathlib.Core.List.{List}
 use lib.ListN.{length, take}
 use Rattle.session.specs.declared.Outcome.{Outcome}
 use Rattle.session.specs.Promises.{Loads}
-use Rattle.watch.specs.declared.Lead.{Lead}
+use Rattle.lead.specs.declared.Lead.{Lead}
 use Rattle.watch.specs.Model.{gathered}
 use Rattle.watch.proofs.Writing.{take-least}
 

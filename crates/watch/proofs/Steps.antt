@@ -25,17 +25,18 @@ use Rattle.session.specs.declared.Session.{Session}
 use Rattle.session.specs.declared.Outcome.{Outcome}
 use Rattle.table.specs.Filing.{changeOf}
 use Rattle.session.specs.Promises.{shown, Holds, Loads}
-use Rattle.watch.specs.declared.Stage.{Stage}
-use Rattle.watch.specs.declared.Stage.the-variants.{Waiting, Gathering, Playing, Over}
-use Rattle.watch.specs.declared.Lead.{Lead}
-use Rattle.watch.specs.declared.Ask.the-variants.{Load as AskLoad}
-use Rattle.watch.specs.declared.Task.{Task}
-use Rattle.watch.specs.declared.Task.the-variants.{Nothing, Refuse, Ask as Asks}
-use Rattle.watch.specs.declared.Plan.{Plan}
+use Rattle.lead.specs.declared.Stage.{Stage}
+use Rattle.lead.specs.declared.Stage.the-variants.{Waiting, Gathering, Playing, Over}
+use Rattle.lead.specs.declared.Lead.{Lead}
+use Rattle.lead.specs.declared.Ask.the-variants.{Load as AskLoad}
+use Rattle.lead.specs.declared.Task.{Task}
+use Rattle.lead.specs.declared.Task.the-variants.{Nothing, Refuse, Ask as Asks}
+use Rattle.lead.specs.declared.Plan.{Plan}
+use Rattle.lead.specs.Asked.{numbersMost, staged, noTask, refusing, loading, changing, isFull, askedFirst, askedMove, askedBefore, askedAfter, askedAt, asked, takesMove, filedMove}
+use Rattle.lead.proofs.Asking.{taken-at}
+use Rattle.lead.proofs.Filing.{moves-kept, move-put}
 use Rattle.watch.specs.Text.{Draft, Play, Held, waiting, gathering, playing, ended, Step, quiet, noStep, empty, room, flat, loadStep, loadOf, draftOf, withPay, withMove, changeStep, atFirst, beforeGo, afterGo, step}
-use Rattle.watch.specs.Model.{numbersMost, staged, noTask, refusing, loading, changing, isFull, askedFirst, askedMove, askedBefore, askedAfter, askedAt, asked, takesMove, filedMove, gathered, Serves, isRefused, linesFor, leadFor}
-use Rattle.watch.proofs.Asking.{taken-at}
-use Rattle.watch.proofs.Filing.{moves-kept, move-put}
+use Rattle.watch.specs.Model.{gathered, Serves, isRefused, linesFor, leadFor}
 
 -- the lead and the list of numbers stand for what is gathered
 pub record Gathers (l : Lead) (ns : List ℕ) (d : Draft) : Type 0 where

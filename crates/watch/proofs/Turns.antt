@@ -17,16 +17,17 @@ use Rattle.answer.specs.Rendering.{render}
 use Rattle.session.specs.declared.Answer.{Answer}
 use Rattle.session.specs.declared.Session.{Session}
 use Rattle.session.specs.declared.Outcome.{Outcome}
-use Rattle.watch.specs.declared.Lead.{Lead}
-use Rattle.watch.specs.declared.Task.{Task}
-use Rattle.watch.specs.declared.Ask.{Ask}
-use Rattle.watch.specs.declared.Ask.the-variants.{Load as AskLoad, Change}
-use Rattle.watch.specs.declared.Task.the-variants.{Nothing, Refuse, Ask as Asks}
+use Rattle.lead.specs.declared.Lead.{Lead}
+use Rattle.lead.specs.declared.Task.{Task}
+use Rattle.lead.specs.declared.Ask.{Ask}
+use Rattle.lead.specs.declared.Ask.the-variants.{Load as AskLoad, Change}
+use Rattle.lead.specs.declared.Task.the-variants.{Nothing, Refuse, Ask as Asks}
+use Rattle.lead.specs.declared.Plan.{Plan}
+use Rattle.lead.specs.Asked.{numbersMost, asked, filedMove, isOver}
+use Rattle.lead.proofs.Task.{the-type}
 use Rattle.watch.specs.Text.{Held, waiting, gathering, playing, ended, room, step, printed}
-use Rattle.watch.specs.declared.Plan.{Plan}
 use Rattle.watch.specs.declared.Written.{Written}
-use Rattle.watch.specs.Model.{numbersMost, asked, filedMove, isRefused, Serves, linesMost, linesFor, linesTold, Laid, Writes, isOver}
-use Rattle.watch.proofs.Task.{the-type}
+use Rattle.watch.specs.Model.{isRefused, Serves, linesMost, linesFor, linesTold, Laid, Writes}
 use Rattle.watch.proofs.Output.{AtMostTwo}
 use Rattle.watch.proofs.Steps.{Tracks, Follows, stepped}
 use Rattle.watch.proofs.Writing.{told-lines}

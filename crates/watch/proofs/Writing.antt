@@ -20,7 +20,7 @@ use Rattle.session.specs.declared.Answer.{Answer}
 use Rattle.session.specs.declared.Answer.the-variants.{Refused, Clear, Round}
 use Rattle.table.specs.declared.Refusal.{Refusal}
 use Rattle.session.specs.Promises.{shown}
-use Rattle.watch.specs.declared.Plan.{Plan}
+use Rattle.lead.specs.declared.Plan.{Plan}
 use Rattle.watch.specs.declared.LineLengths.{LineLengths}
 use Rattle.watch.specs.Text.{room}
 use Rattle.watch.specs.Model.{linesMost, linesFor, linesTold, Laid}

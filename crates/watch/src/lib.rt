@@ -1,7 +1,10 @@
-// Lines in, lines out: what a line asks for, what the session answers, and the lines that tell it.
-use line::Record;
-use line::Word;
-use line::is_word;
+// Lines in, lines out: what the session answers to what a line asks for, and the lines that tell it.
+use lead::Ask;
+use lead::Lead;
+use lead::Plan;
+use lead::Stage;
+use lead::Task;
+use lead::staged;
 use rows::wide;
 use session::Answer;
 use session::Outcome;
@@ -14,10 +17,9 @@ ghost use Prim.Native.Nat.{_≤_, min};
 ghost use lib.ListN.{length, take};
 ghost use Rattle.answer.specs.Bytes.{Put};
 ghost use Rattle.answer.specs.Rendering.{render};
-ghost use Rattle.line.specs.Records.{recordOf};
 ghost use Rattle.session.specs.Promises.{shown};
 ghost use Rattle.session.specs.Model.{noGame};
-ghost use Rattle.watch.specs.Model.{firstLead, staged as Model·staged, noTask, refusing as Model·refusing, changing as Model·changing, isFull, askedFirst, askedMove, askedBefore, askedAfter, asked, takesMove, filedMove, Serves, isRefused, gameMost, linesMost, linesFor, linesOfLoad, leadLoaded, leadFor, Laid, Writes, isOver, fits};
+ghost use Rattle.watch.specs.Model.{Serves, isRefused, gameMost, linesMost, linesFor, linesOfLoad, leadLoaded, leadFor, Laid, Writes, fits};
 ghost use Rattle.watch.specs.Text.{room, counted, outputOf, outputMost, Fitted, Watched};
 
 // "An input of more than 4,294,967,295 bytes counts as ending behind the last newline among these."
@@ -26,50 +28,11 @@ pub const LIMIT: usize = 4294967295;
 // "It uses at most the first 65,536 bytes of the output"
 const OUTPUT: usize = 65536;
 
-// The numbers of 2,048 moves.
-pub const NUMBERS: usize = 4096;
-
 // The box's own list for the walk has an entry for each of 512 states.
 pub const WALK: usize = 512;
 
 // The lines that tell an answer have no more bytes: `game` has 23 at most, and a round 30 and 6 for each of 512 entries.
 pub const LINES: usize = 3200;
-
-// How far the lead has come: no line yet, before `go`, after it, or past a refusal that ends the run.
-pub enum Stage {
-    Waiting,
-    Gathering,
-    Playing,
-    Over,
-}
-
-// What is held from line to line beside the session. Before `go`: N, the start state, the marks, and how many numbers the moves have.
-pub struct Lead {
-    stage: Stage,
-    size: u16,
-    start: u16,
-    words: [u64; 8],
-    count: u16,
-}
-
-// What a line asks of the session.
-pub enum Ask {
-    Load,
-    Change(Op),
-}
-
-// What is to be done for a line. Only what asks something reaches the session.
-pub enum Task {
-    Nothing,
-    Refuse(Refusal),
-    Ask(Ask),
-}
-
-// What is held behind a line, unless the load refuses, and what is to be done.
-pub struct Plan {
-    pub lead: Lead,
-    pub task: Task,
-}
 
 // The lengths of a first line and of all.
 struct LineLengths {
@@ -84,19 +47,6 @@ pub struct Written {
     pub len: usize,
 }
 
-// What is held before the first line.
-pub fn first_lead() -> Lead
-    ensures { λ r. ⌜ r ≡ firstLead ⌝ }
-{
-    Lead {
-        stage: Stage::Waiting,
-        size: 0,
-        start: 0,
-        words: [0; 8],
-        count: 0,
-    }
-}
-
 // What stands in place of a session before the first load: a load of nothing, which is refused.
 pub fn no_session() -> Outcome
     ensures { λ r. ⌜ (r .answer ≡ Answer.Refused (record { number = 2 })) × (r .session ≡ noGame) ⌝ }
@@ -104,182 +54,6 @@ pub fn no_session() -> Outcome
     let numbers: [u16; 1] = [0; 1];
     let mut lent: [u16; 1] = [0; 1];
     session::load(0, 0, [0; 8], &numbers, &mut lent)
-}
-
-fn staged(stage: Stage, lead: Lead) -> Lead
-    ensures { λ r. ⌜ r ≡ Model·staged stage lead ⌝ }
-{
-    let words = lead.words;
-    Lead {
-        stage,
-        size: lead.size,
-        start: lead.start,
-        words,
-        count: lead.count,
-    }
-}
-
-// Nothing is to be done, and this is held.
-fn no_task(lead: Lead) -> Plan
-    ensures { λ r. ⌜ r ≡ noTask lead ⌝ }
-{
-    Plan {
-        lead,
-        task: Task::Nothing,
-    }
-}
-
-// The line is refused.
-fn refusing(stage: Stage, lead: Lead, number: u16) -> Plan
-    ensures { λ r. ⌜ r ≡ Model·refusing stage lead number ⌝ }
-{
-    Plan {
-        lead: staged(stage, lead),
-        task: Task::Refuse(Refusal { number }),
-    }
-}
-
-// The first line has to be `game`.
-fn ask_first(lead: Lead, r: Record) -> Plan
-    ensures { λ p. ⌜ p ≡ askedFirst lead r ⌝ }
-{
-    let word = r.word;
-    if is_word(word, Word::Game) {
-        return no_task(Lead {
-            stage: Stage::Gathering,
-            size: r.first,
-            start: r.second,
-            words: [0; 8],
-            count: 0,
-        });
-    }
-    refusing(Stage::Over, lead, 1)
-}
-
-// Are there 2,048 moves?
-fn is_full(lead: Lead) -> bool
-    ensures { λ r. ⌜ r ≡ isFull lead ⌝ }
-{
-    NUMBERS <= wide(lead.count)
-}
-
-// A `move` before `go`: "a 2,049th `move` line gets 5 as it is read"
-fn ask_move(lead: Lead) -> Plan
-    ensures { λ p. ⌜ p ≡ askedMove lead ⌝ }
-{
-    if is_full(lead) {
-        return refusing(Stage::Over, lead, 5);
-    }
-    let words = lead.words;
-    no_task(Lead {
-        stage: Stage::Gathering,
-        size: lead.size,
-        start: lead.start,
-        words,
-        count: lead.count + 2,
-    })
-}
-
-// Before `go`: `pay` until a `move` came, `move`, `go`.
-fn ask_before(lead: Lead, r: Record) -> Plan
-    ensures { λ p. ⌜ p ≡ askedBefore lead r ⌝ }
-{
-    let word = r.word;
-    if is_word(word, Word::Pay) {
-        if lead.count == 0 {
-            let words = lead.words;
-            let marked = marks::with_mark(words, wide(r.first));
-            return no_task(Lead {
-                stage: Stage::Gathering,
-                size: lead.size,
-                start: lead.start,
-                words: marked,
-                count: 0,
-            });
-        }
-    }
-    if is_word(word, Word::Move) {
-        return ask_move(lead);
-    }
-    if is_word(word, Word::Go) {
-        return Plan {
-            lead,
-            task: Task::Ask(Ask::Load),
-        };
-    }
-    refusing(Stage::Over, lead, 1)
-}
-
-// A change is asked of the session.
-fn changing(lead: Lead, op: Op) -> Plan
-    ensures { λ p. ⌜ p ≡ Model·changing op lead ⌝ }
-{
-    Plan {
-        lead,
-        task: Task::Ask(Ask::Change(op)),
-    }
-}
-
-// After `go`: `add` and `cut`.
-fn ask_after(lead: Lead, r: Record) -> Plan
-    ensures { λ p. ⌜ p ≡ askedAfter lead r ⌝ }
-{
-    let word = r.word;
-    let from = r.first;
-    let to = r.second;
-    if is_word(word, Word::Add) {
-        return changing(lead, Op::Add { from, to });
-    }
-    if is_word(word, Word::Cut) {
-        return changing(lead, Op::Cut { from, to });
-    }
-    refusing(Stage::Playing, lead, 1)
-}
-
-// Is the line a `move` that is taken?
-fn takes_move(lead: Lead, r: Record) -> bool
-    ensures { λ b. ⌜ b ≡ takesMove lead r ⌝ }
-{
-    if is_full(lead) {
-        return false;
-    }
-    let word = r.word;
-    let stage = lead.stage;
-    match stage {
-        Stage::Waiting => false,
-        Stage::Gathering => is_word(word, Word::Move),
-        Stage::Playing => false,
-        Stage::Over => false,
-    }
-}
-
-// Files the numbers of a `move` that is taken behind those of the moves before it, where the list has room.
-fn file_move(lead: Lead, r: Record, numbers: &mut [u16])
-    ensures { λ p. ⌜ now (numbers .exit) ≡ filedMove lead r (now (numbers .entry)) ⌝ }
-{
-    if takes_move(lead, r) {
-        let at = wide(lead.count);
-        if at + 1 < numbers.len() {
-            numbers[at] = r.first;
-            numbers[at + 1] = r.second;
-        }
-    }
-}
-
-// What a line asks for, and the moves' numbers behind it.
-pub fn read(lead: Lead, numbers: &mut [u16], bytes: &[u8]) -> Plan
-    ensures { λ p. ⌜ p ≡ asked lead (recordOf (now (bytes .entry))) ⌝ }
-    ensures { λ p. ⌜ now (numbers .exit) ≡ filedMove lead (recordOf (now (bytes .entry))) (now (numbers .entry)) ⌝ }
-{
-    let r = line::read_record(bytes);
-    file_move(lead, r, numbers);
-    let stage = lead.stage;
-    match stage {
-        Stage::Waiting => ask_first(lead, r),
-        Stage::Gathering => ask_before(lead, r),
-        Stage::Playing => ask_after(lead, r),
-        Stage::Over => no_task(lead),
-    }
 }
 
 fn least(a: usize, b: usize) -> usize
@@ -422,19 +196,6 @@ pub fn write(plan: Plan, answer: Answer, walk: &[u16], out: &mut [u8]) -> Writte
     }
 }
 
-// Is the run over?
-pub fn is_over(lead: Lead) -> bool
-    ensures { λ r. ⌜ r ≡ isOver (lead .stage) ⌝ }
-{
-    let stage = lead.stage;
-    match stage {
-        Stage::Waiting => false,
-        Stage::Gathering => false,
-        Stage::Playing => false,
-        Stage::Over => true,
-    }
-}
-
 // How many bytes of at most two lines fit whole into the space.
 fn fitting(space: usize, first: usize, len: usize) -> usize
     ensures { λ r. ⌜ r ≡ fits space first len ⌝ }
@@ -453,16 +214,16 @@ fn watch_text(text: &[u8], out: &mut [u8], space: usize) -> u64
     requires { ⌜ (space ≤ length (now out)) × (space ≤ outputMost) ⌝ }
     ensures { λ r. ⌜ Fitted (outputOf (now (text .entry))) space (now (out .entry)) (now (out .exit)) r ⌝ }
 {
-    let mut numbers: [u16; NUMBERS] = [0; NUMBERS];
+    let mut numbers: [u16; lead::NUMBERS] = [0; lead::NUMBERS];
     let mut walk: [u16; WALK] = [0; WALK];
     let mut lines: [u8; LINES] = [0; LINES];
-    let mut lead = first_lead();
+    let mut lead = lead::first_lead();
     let mut c = no_session();
     let mut from: usize = 0;
     let mut at: usize = 0;
     while from < text.len() {
         let end = line::end_of(text, from, line::NEWLINE);
-        let plan = read(lead, &mut numbers, &text[from..end]);
+        let plan = lead::read(lead, &mut numbers, &text[from..end]);
         let task = plan.task;
         if let Task::Ask(ask) = task {
             c = serve(c.session, lead, ask, &numbers, &mut walk);
@@ -476,7 +237,7 @@ fn watch_text(text: &[u8], out: &mut [u8], space: usize) -> u64
             return 2 * (at as u64) + 1;
         }
         lead = w.lead;
-        if is_over(lead) {
+        if lead::is_over(lead) {
             return 2 * (at as u64);
         }
         from = end + 1;

@@ -11,9 +11,10 @@ use Prim.Native.Nat.{ℕ, _≤_}
 use lib.ListN.{length, replicate}
 use lib.Seq.{length-take-le}
 use Rattle.line.specs.Records.{recordOf}
-use Rattle.watch.specs.declared.Lead.{Lead}
+use Rattle.lead.specs.declared.Lead.{Lead}
+use Rattle.lead.specs.Asked.{numbersMost}
 use Rattle.watch.specs.Text.{waiting, room, limit}
-use Rattle.watch.specs.Model.{numbersMost, linesMost}
+use Rattle.watch.specs.Model.{linesMost}
 use Rattle.watch.proofs.Steps.{Tracks}
 use Rattle.watch.proofs.Output.{laid-within, laid-first}
 use Rattle.watch.proofs.Turns.{Done, done-asked, done-not, Behind, behind}

@@ -11,9 +11,10 @@ use Rattle.line.specs.Records.{recordOf}
 use Rattle.line.specs.declared.Record.{Record}
 use Rattle.line.proofs.Fields.{end-within}
 use Rattle.answer.specs.Rendering.{render}
-use Rattle.watch.specs.declared.Lead.{Lead}
+use Rattle.lead.specs.declared.Lead.{Lead}
+use Rattle.lead.specs.Asked.{numbersMost}
 use Rattle.watch.specs.Text.{Held, waiting, room, step, outputOf}
-use Rattle.watch.specs.Model.{numbersMost, linesMost}
+use Rattle.watch.specs.Model.{linesMost}
 use Rattle.watch.proofs.Steps.{Tracks}
 use Rattle.watch.proofs.Output.{Rest, rest-start, rest-end, all-put, not-put, fits-within, laid-within, laid-first}
 use Rattle.watch.proofs.Turns.{toTell, turn, told-all, over-told, Done, done-asked, done-not, Behind, behind}

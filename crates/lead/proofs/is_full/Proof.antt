@@ -1,10 +1,10 @@
--- `watch::is_full`: the count of numbers, compared as it is.
+-- `lead::is_full`: the count of numbers, compared as it is.
 use mathlib.Core.Path.{ap}
 use lib.Dec.{leb}
-use Rattle.watch.specs.Model.{isFull}
+use Rattle.lead.specs.Asked.{isFull}
 use borrow.Author.Needs.{needs}
-use Rattle.watch.proofs.is_full.Statement.{statement}
-use Rattle.watch.proofs.is_full.Tie as tie
+use Rattle.lead.proofs.is_full.Statement.{statement}
+use Rattle.lead.proofs.is_full.Tie as tie
 
 wide-requires : tie.Need-wide-requires
 wide-requires c κs = search needs

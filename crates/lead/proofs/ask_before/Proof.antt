@@ -1,15 +1,15 @@
--- `watch::ask_before`: a law for each way out; where it is no `pay`, or one behind a move, the next words are tried.
+-- `lead::ask_before`: a law for each way out; where it is no `pay`, or one behind a move, the next words are tried.
 use mathlib.Core.Path.{_≡_, sym, ap, _∙_}
 use Prim.Native.Nat.{ℕ}
 use mathlib.Core.List.{List}
 use mathlib.Core.Logic.{⊎-elim}
 use Rattle.plain.specs.Table.{withMark}
-use Rattle.watch.specs.declared.Stage.the-variants.{Gathering}
-use Rattle.watch.specs.Model.{noTask}
-use Rattle.watch.proofs.Asking.{Unpaid, before-pay, behind-moves, no-pay, before-move, before-go, before-other}
+use Rattle.lead.specs.declared.Stage.the-variants.{Gathering}
+use Rattle.lead.specs.Asked.{noTask}
+use Rattle.lead.proofs.Asking.{Unpaid, before-pay, behind-moves, no-pay, before-move, before-go, before-other}
 use borrow.Author.Needs.{needs}
-use Rattle.watch.proofs.ask_before.Statement.{statement}
-use Rattle.watch.proofs.ask_before.Tie as tie
+use Rattle.lead.proofs.ask_before.Statement.{statement}
+use Rattle.lead.proofs.ask_before.Tie as tie
 
 is-word-requires : tie.Need-is-word-requires
 is-word-requires c κs = search needs

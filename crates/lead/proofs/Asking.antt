@@ -11,10 +11,10 @@ use Rattle.line.specs.declared.Word.the-variants.{Game, Pay, Move, Go}
 use Rattle.line.specs.declared.Word.the-variants as Word
 use Rattle.line.specs.declared.Record.{Record}
 use Rattle.table.specs.declared.Op.the-variants.{Add, Cut}
-use Rattle.watch.specs.declared.Stage.{Stage}
-use Rattle.watch.specs.declared.Stage.the-variants.{Gathering, Playing, Over}
-use Rattle.watch.specs.declared.Lead.{Lead}
-use Rattle.watch.specs.Model.{noTask, refusing, loading, changing, isFull, askedFirst, askedMove, askedBefore, askedAfter, askedAt, asked, moveAt, takesMove}
+use Rattle.lead.specs.declared.Stage.{Stage}
+use Rattle.lead.specs.declared.Stage.the-variants.{Gathering, Playing, Over}
+use Rattle.lead.specs.declared.Lead.{Lead}
+use Rattle.lead.specs.Asked.{noTask, refusing, loading, changing, isFull, askedFirst, askedMove, askedBefore, askedAfter, askedAt, asked, moveAt, takesMove}
 
 -- ---- a `move`
 

@@ -1,13 +1,13 @@
--- `watch::read`: the plan is that of the stage, and the list has the numbers of a `move` that is taken.
+-- `lead::read`: the plan is that of the stage, and the list has the numbers of a `move` that is taken.
 use mathlib.Core.Path.{_≡_, ap, _∙_}
 use Rattle.line.specs.Records.{recordOf}
 use Rattle.line.specs.declared.Record.{Record}
-use Rattle.watch.specs.declared.Stage.the-variants.{Waiting, Gathering, Playing, Over}
-use Rattle.watch.specs.Model.{filedMove}
-use Rattle.watch.proofs.Asking.{asked-at}
+use Rattle.lead.specs.declared.Stage.the-variants.{Waiting, Gathering, Playing, Over}
+use Rattle.lead.specs.Asked.{filedMove}
+use Rattle.lead.proofs.Asking.{asked-at}
 use borrow.Author.Needs.{needs}
-use Rattle.watch.proofs.read.Statement.{statement}
-use Rattle.watch.proofs.read.Tie as tie
+use Rattle.lead.proofs.read.Statement.{statement}
+use Rattle.lead.proofs.read.Tie as tie
 
 read-record-requires : tie.Need-read-record-requires
 read-record-requires c κs = search needs

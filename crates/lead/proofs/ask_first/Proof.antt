@@ -1,9 +1,9 @@
--- `watch::ask_first`: a law for each way out.
+-- `lead::ask_first`: a law for each way out.
 use mathlib.Core.Path.{sym, _∙_}
-use Rattle.watch.proofs.Asking.{first-game, first-other}
+use Rattle.lead.proofs.Asking.{first-game, first-other}
 use borrow.Author.Needs.{needs}
-use Rattle.watch.proofs.ask_first.Statement.{statement}
-use Rattle.watch.proofs.ask_first.Tie as tie
+use Rattle.lead.proofs.ask_first.Statement.{statement}
+use Rattle.lead.proofs.ask_first.Tie as tie
 
 is-word-requires : tie.Need-is-word-requires
 is-word-requires c κs = search needs

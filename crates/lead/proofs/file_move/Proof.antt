@@ -1,9 +1,9 @@
--- `watch::file_move`: the two numbers are set where the `move` is taken and there is room for them; else nothing is.
+-- `lead::file_move`: the two numbers are set where the `move` is taken and there is room for them; else nothing is.
 use mathlib.Core.Path.{sym, _∙_}
-use Rattle.watch.proofs.Filing.{filed-both, filed-not, filed-full}
+use Rattle.lead.proofs.Filing.{filed-both, filed-not, filed-full}
 use borrow.Author.Needs.{needs}
-use Rattle.watch.proofs.file_move.Statement.{statement}
-use Rattle.watch.proofs.file_move.Tie as tie
+use Rattle.lead.proofs.file_move.Statement.{statement}
+use Rattle.lead.proofs.file_move.Tie as tie
 
 takes-move-requires : tie.Need-takes-move-requires
 takes-move-requires c κs = search needs

@@ -12,8 +12,8 @@ use Rattle.plain.proofs.Tests.{and-true}
 use Rattle.line.specs.declared.Record.{Record}
 use Rattle.answer.specs.Bytes.{overwritten}
 use Rattle.answer.proofs.Laws.{put-set, put-then}
-use Rattle.watch.specs.declared.Lead.{Lead}
-use Rattle.watch.specs.Model.{takesMove, filedMove}
+use Rattle.lead.specs.declared.Lead.{Lead}
+use Rattle.lead.specs.Asked.{takesMove, filedMove}
 
 module _ (l : Lead) (r : Record) (ns : List ℕ) where
   -- two numbers set one behind the other

@@ -1,14 +1,14 @@
--- `watch::ask_move`: a law for each way out.
+-- `lead::ask_move`: a law for each way out.
 use Prim.Native.Nat.{_<_}
 use mathlib.Core.Path.{_≡_, sym, _∙_}
 use mathlib.Core.Bool.{false}
 use native.Mathlib.Omega.{arith}
 use borrow.Author.Tests.{leb-false}
-use Rattle.watch.specs.Model.{isFull}
-use Rattle.watch.proofs.Asking.{move-full, move-more}
+use Rattle.lead.specs.Asked.{isFull}
+use Rattle.lead.proofs.Asking.{move-full, move-more}
 use borrow.Author.Needs.{needs}
-use Rattle.watch.proofs.ask_move.Statement.{statement}
-use Rattle.watch.proofs.ask_move.Tie as tie
+use Rattle.lead.proofs.ask_move.Statement.{statement}
+use Rattle.lead.proofs.ask_move.Tie as tie
 
 is-full-requires : tie.Need-is-full-requires
 is-full-requires c κs = search needs

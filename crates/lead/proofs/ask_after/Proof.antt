@@ -1,9 +1,9 @@
--- `watch::ask_after`: a law for each way out.
+-- `lead::ask_after`: a law for each way out.
 use mathlib.Core.Path.{sym, _∙_}
-use Rattle.watch.proofs.Asking.{after-add, after-cut, after-other}
+use Rattle.lead.proofs.Asking.{after-add, after-cut, after-other}
 use borrow.Author.Needs.{needs}
-use Rattle.watch.proofs.ask_after.Statement.{statement}
-use Rattle.watch.proofs.ask_after.Tie as tie
+use Rattle.lead.proofs.ask_after.Statement.{statement}
+use Rattle.lead.proofs.ask_after.Tie as tie
 
 is-word-requires : tie.Need-is-word-requires
 is-word-requires c κs = search needs

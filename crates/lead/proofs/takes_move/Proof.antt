@@ -1,12 +1,12 @@
--- `watch::takes_move`: by whether there is room for a move, and by the stage.
+-- `lead::takes_move`: by whether there is room for a move, and by the stage.
 use mathlib.Core.Path.{_≡_, sym, _∙_}
 use mathlib.Core.Bool.{false}
-use Rattle.watch.specs.declared.Stage.the-variants.{Waiting, Gathering, Playing, Over}
-use Rattle.watch.specs.Model.{isFull}
-use Rattle.watch.proofs.Asking.{none-taken, taken-at}
+use Rattle.lead.specs.declared.Stage.the-variants.{Waiting, Gathering, Playing, Over}
+use Rattle.lead.specs.Asked.{isFull}
+use Rattle.lead.proofs.Asking.{none-taken, taken-at}
 use borrow.Author.Needs.{needs}
-use Rattle.watch.proofs.takes_move.Statement.{statement}
-use Rattle.watch.proofs.takes_move.Tie as tie
+use Rattle.lead.proofs.takes_move.Statement.{statement}
+use Rattle.lead.proofs.takes_move.Tie as tie
 
 is-full-requires : tie.Need-is-full-requires
 is-full-requires c κs = search needs

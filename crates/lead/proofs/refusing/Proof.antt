@@ -1,10 +1,10 @@
--- `watch::refusing`: the lead at the other stage, and the number.
+-- `lead::refusing`: the lead at the other stage, and the number.
 use mathlib.Core.Path.{ap}
-use Rattle.watch.specs.declared.Lead.{Lead}
-use Rattle.watch.specs.declared.Task.the-variants.{Refuse}
+use Rattle.lead.specs.declared.Lead.{Lead}
+use Rattle.lead.specs.declared.Task.the-variants.{Refuse}
 use borrow.Author.Needs.{needs}
-use Rattle.watch.proofs.refusing.Statement.{statement}
-use Rattle.watch.proofs.refusing.Tie as tie
+use Rattle.lead.proofs.refusing.Statement.{statement}
+use Rattle.lead.proofs.refusing.Tie as tie
 
 staged-requires : tie.Need-staged-requires
 staged-requires c κs = search needs

@@ -1,0 +1,117 @@
+-- What a line asks for, and what is held from line to line, in the code's own terms. Cited by contracts; crates/watch/proofs/Steps.antt ties it to the
+-- plain definitions. Assumes nothing.
+use Prim.Native.Nat.{ℕ, _+_}
+use mathlib.Core.Bool.{Bool, true, false, _&&_, not, cond}
+use mathlib.Core.List.{List, [], _∷_}
+use lib.Dec.{eqb, leb}
+use lib.ListN.{length, replicate}
+use Rattle.plain.specs.Table.{withMark}
+use Rattle.line.specs.Words.{isWord}
+use Rattle.line.specs.declared.Word.the-variants.{Game, Pay, Move, Go}
+use Rattle.line.specs.declared.Word.the-variants as Word
+use Rattle.line.specs.declared.Record.{Record}
+use Rattle.answer.specs.Bytes.{overwritten}
+use Rattle.table.specs.declared.Op.{Op}
+use Rattle.table.specs.declared.Op.the-variants.{Add, Cut}
+use Rattle.lead.specs.declared.Stage.{Stage}
+use Rattle.lead.specs.declared.Stage.the-variants.{Waiting, Gathering, Playing, Over}
+use Rattle.lead.specs.declared.Lead.{Lead}
+use Rattle.lead.specs.declared.Ask.the-variants.{Load as AskLoad, Change}
+use Rattle.lead.specs.declared.Task.the-variants.{Nothing, Refuse, Ask as Asks}
+use Rattle.lead.specs.declared.Plan.{Plan}
+
+-- what is held before the first line
+abbrev pub firstLead : Lead
+firstLead = record { stage = Waiting; size = 0; start = 0; words = replicate 8 0; count = 0 }
+
+-- ---- what a line asks for
+
+-- the lead at another stage
+abbrev pub staged : Stage → Lead → Lead
+staged stage l = record { stage = stage; size = l .size; start = l .start; words = l .words; count = l .count }
+
+-- nothing is to be done
+abbrev pub noTask : Lead → Plan
+noTask l = record { lead = l; task = Nothing }
+
+-- the line is refused
+abbrev pub refusing : Stage → Lead → ℕ → Plan
+refusing stage l n = record { lead = staged stage l; task = Refuse (record { number = n }) }
+
+-- what was gathered is to be loaded
+abbrev pub loading : Lead → Plan
+loading l = record { lead = l; task = Asks AskLoad }
+
+-- a change is asked of the session
+abbrev pub changing : Op → Lead → Plan
+changing op l = record { lead = l; task = Asks (Change op) }
+
+-- "Order: one `game`"
+unfoldable pub askedFirst : Lead → Record → Plan
+askedFirst l r = cond (isWord (r .word) Game)
+    (noTask (record { stage = Gathering; size = r .first; start = r .second; words = replicate 8 0; count = 0 }))
+    (refusing Over l 1)
+
+-- the numbers of 2,048 moves, two for each
+abbrev pub numbersMost : ℕ
+numbersMost = 4096
+
+-- are there 2,048 moves?
+unfoldable pub isFull : Lead → Bool
+isFull l = leb numbersMost (l .count)
+
+-- "a 2,049th `move` line gets 5 as it is read"
+unfoldable pub askedMove : Lead → Plan
+askedMove l = cond (isFull l) (refusing Over l 5)
+    (noTask (record { stage = Gathering; size = l .size; start = l .start; words = l .words; count = l .count + 2 }))
+
+-- ".. any `pay`, any `move`, one `go`"
+unfoldable pub askedBefore : Lead → Record → Plan
+askedBefore l r =
+    cond (isWord (r .word) Pay && eqb (l .count) 0)
+    (noTask (record { stage = Gathering; size = l .size; start = l .start; words = withMark (l .words) (r .first); count = 0 }))
+    (cond (isWord (r .word) Move) (askedMove l)
+    (cond (isWord (r .word) Go) (loading l)
+    (refusing Over l 1)))
+
+-- ".. then `add` and `cut`"
+unfoldable pub askedAfter : Lead → Record → Plan
+askedAfter l r =
+    cond (isWord (r .word) Word.Add) (changing (Add (r .first) (r .second)) l)
+    (cond (isWord (r .word) Word.Cut) (changing (Cut (r .first) (r .second)) l)
+    (refusing Playing l 1))
+
+abbrev pub askedAt : Stage → Lead → Record → Plan
+askedAt Waiting l r = askedFirst l r
+askedAt Gathering l r = askedBefore l r
+askedAt Playing l r = askedAfter l r
+askedAt Over l r = noTask l
+
+unfoldable pub asked : Lead → Record → Plan
+asked l r = askedAt (l .stage) l r
+
+-- ---- the moves' numbers
+
+-- is the line a `move`, where moves are gathered?
+abbrev pub moveAt : Stage → Record → Bool
+moveAt Waiting r = false
+moveAt Gathering r = isWord (r .word) Move
+moveAt Playing r = false
+moveAt Over r = false
+
+-- is it one that is taken: are there fewer than 2,048 so far?
+unfoldable pub takesMove : Lead → Record → Bool
+takesMove l r = not (isFull l) && moveAt (l .stage) r
+
+-- The list of the moves' numbers behind a line: those of a `move` that is taken stand behind the others, where the list has room. Every other line leaves
+-- the list as it was.
+unfoldable pub filedMove : Lead → Record → List ℕ → List ℕ
+filedMove l r ns = cond (takesMove l r && leb (l .count + 2) (length ns)) (overwritten ns (l .count) (r .first ∷ r .second ∷ [])) ns
+
+-- ---- is the run over?
+
+abbrev pub isOver : Stage → Bool
+isOver Waiting = false
+isOver Gathering = false
+isOver Playing = false
+isOver Over = true

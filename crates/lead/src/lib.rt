@@ -1,0 +1,252 @@
+// What a line asks for, and what is held from line to line.
+use line::Record;
+use line::Word;
+use line::is_word;
+use rows::wide;
+use table::Op;
+use table::Refusal;
+ghost use mathlib.Core.Path.{_≡_};
+ghost use Rattle.line.specs.Records.{recordOf};
+ghost use Rattle.lead.specs.Asked.{firstLead, staged as Asked·staged, noTask, refusing as Asked·refusing, changing as Asked·changing, isFull, askedFirst, askedMove, askedBefore, askedAfter, asked, takesMove, filedMove, isOver};
+
+// The numbers of 2,048 moves.
+pub const NUMBERS: usize = 4096;
+
+// How far the lead has come: no line yet, before `go`, after it, or past a refusal that ends the run.
+pub enum Stage {
+    Waiting,
+    Gathering,
+    Playing,
+    Over,
+}
+
+// What is held from line to line beside the session. Before `go`: N, the start state, the marks, and how many numbers the moves have.
+pub struct Lead {
+    pub stage: Stage,
+    pub size: u16,
+    pub start: u16,
+    pub words: [u64; 8],
+    pub count: u16,
+}
+
+// What a line asks of the session.
+pub enum Ask {
+    Load,
+    Change(Op),
+}
+
+// What is to be done for a line. Only what asks something reaches the session.
+pub enum Task {
+    Nothing,
+    Refuse(Refusal),
+    Ask(Ask),
+}
+
+// What is held behind a line, unless the load refuses, and what is to be done.
+pub struct Plan {
+    pub lead: Lead,
+    pub task: Task,
+}
+
+// What is held before the first line.
+pub fn first_lead() -> Lead
+    ensures { λ r. ⌜ r ≡ firstLead ⌝ }
+{
+    Lead {
+        stage: Stage::Waiting,
+        size: 0,
+        start: 0,
+        words: [0; 8],
+        count: 0,
+    }
+}
+
+// The lead at another stage.
+pub fn staged(stage: Stage, lead: Lead) -> Lead
+    ensures { λ r. ⌜ r ≡ Asked·staged stage lead ⌝ }
+{
+    let words = lead.words;
+    Lead {
+        stage,
+        size: lead.size,
+        start: lead.start,
+        words,
+        count: lead.count,
+    }
+}
+
+// Nothing is to be done, and this is held.
+fn no_task(lead: Lead) -> Plan
+    ensures { λ r. ⌜ r ≡ noTask lead ⌝ }
+{
+    Plan {
+        lead,
+        task: Task::Nothing,
+    }
+}
+
+// The line is refused.
+fn refusing(stage: Stage, lead: Lead, number: u16) -> Plan
+    ensures { λ r. ⌜ r ≡ Asked·refusing stage lead number ⌝ }
+{
+    Plan {
+        lead: staged(stage, lead),
+        task: Task::Refuse(Refusal { number }),
+    }
+}
+
+// The first line has to be `game`.
+fn ask_first(lead: Lead, r: Record) -> Plan
+    ensures { λ p. ⌜ p ≡ askedFirst lead r ⌝ }
+{
+    let word = r.word;
+    if is_word(word, Word::Game) {
+        return no_task(Lead {
+            stage: Stage::Gathering,
+            size: r.first,
+            start: r.second,
+            words: [0; 8],
+            count: 0,
+        });
+    }
+    refusing(Stage::Over, lead, 1)
+}
+
+// Are there 2,048 moves?
+fn is_full(lead: Lead) -> bool
+    ensures { λ r. ⌜ r ≡ isFull lead ⌝ }
+{
+    NUMBERS <= wide(lead.count)
+}
+
+// A `move` before `go`: "a 2,049th `move` line gets 5 as it is read"
+fn ask_move(lead: Lead) -> Plan
+    ensures { λ p. ⌜ p ≡ askedMove lead ⌝ }
+{
+    if is_full(lead) {
+        return refusing(Stage::Over, lead, 5);
+    }
+    let words = lead.words;
+    no_task(Lead {
+        stage: Stage::Gathering,
+        size: lead.size,
+        start: lead.start,
+        words,
+        count: lead.count + 2,
+    })
+}
+
+// Before `go`: `pay` until a `move` came, `move`, `go`.
+fn ask_before(lead: Lead, r: Record) -> Plan
+    ensures { λ p. ⌜ p ≡ askedBefore lead r ⌝ }
+{
+    let word = r.word;
+    if is_word(word, Word::Pay) {
+        if lead.count == 0 {
+            let words = lead.words;
+            let marked = marks::with_mark(words, wide(r.first));
+            return no_task(Lead {
+                stage: Stage::Gathering,
+                size: lead.size,
+                start: lead.start,
+                words: marked,
+                count: 0,
+            });
+        }
+    }
+    if is_word(word, Word::Move) {
+        return ask_move(lead);
+    }
+    if is_word(word, Word::Go) {
+        return Plan {
+            lead,
+            task: Task::Ask(Ask::Load),
+        };
+    }
+    refusing(Stage::Over, lead, 1)
+}
+
+// A change is asked of the session.
+fn changing(lead: Lead, op: Op) -> Plan
+    ensures { λ p. ⌜ p ≡ Asked·changing op lead ⌝ }
+{
+    Plan {
+        lead,
+        task: Task::Ask(Ask::Change(op)),
+    }
+}
+
+// After `go`: `add` and `cut`.
+fn ask_after(lead: Lead, r: Record) -> Plan
+    ensures { λ p. ⌜ p ≡ askedAfter lead r ⌝ }
+{
+    let word = r.word;
+    let from = r.first;
+    let to = r.second;
+    if is_word(word, Word::Add) {
+        return changing(lead, Op::Add { from, to });
+    }
+    if is_word(word, Word::Cut) {
+        return changing(lead, Op::Cut { from, to });
+    }
+    refusing(Stage::Playing, lead, 1)
+}
+
+// Is the line a `move` that is taken?
+fn takes_move(lead: Lead, r: Record) -> bool
+    ensures { λ b. ⌜ b ≡ takesMove lead r ⌝ }
+{
+    if is_full(lead) {
+        return false;
+    }
+    let word = r.word;
+    let stage = lead.stage;
+    match stage {
+        Stage::Waiting => false,
+        Stage::Gathering => is_word(word, Word::Move),
+        Stage::Playing => false,
+        Stage::Over => false,
+    }
+}
+
+// Files the numbers of a `move` that is taken behind those of the moves before it, where the list has room.
+fn file_move(lead: Lead, r: Record, numbers: &mut [u16])
+    ensures { λ p. ⌜ now (numbers .exit) ≡ filedMove lead r (now (numbers .entry)) ⌝ }
+{
+    if takes_move(lead, r) {
+        let at = wide(lead.count);
+        if at + 1 < numbers.len() {
+            numbers[at] = r.first;
+            numbers[at + 1] = r.second;
+        }
+    }
+}
+
+// What a line asks for, and the moves' numbers behind it.
+pub fn read(lead: Lead, numbers: &mut [u16], bytes: &[u8]) -> Plan
+    ensures { λ p. ⌜ p ≡ asked lead (recordOf (now (bytes .entry))) ⌝ }
+    ensures { λ p. ⌜ now (numbers .exit) ≡ filedMove lead (recordOf (now (bytes .entry))) (now (numbers .entry)) ⌝ }
+{
+    let r = line::read_record(bytes);
+    file_move(lead, r, numbers);
+    let stage = lead.stage;
+    match stage {
+        Stage::Waiting => ask_first(lead, r),
+        Stage::Gathering => ask_before(lead, r),
+        Stage::Playing => ask_after(lead, r),
+        Stage::Over => no_task(lead),
+    }
+}
+
+// Is the run over?
+pub fn is_over(lead: Lead) -> bool
+    ensures { λ r. ⌜ r ≡ isOver (lead .stage) ⌝ }
+{
+    let stage = lead.stage;
+    match stage {
+        Stage::Waiting => false,
+        Stage::Gathering => false,
+        Stage::Playing => false,
+        Stage::Over => true,
+    }
+}
