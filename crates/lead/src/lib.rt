@@ -9,9 +9,6 @@ ghost use mathlib.Core.Path.{_≡_};
 ghost use Rattle.line.specs.Records.{recordOf};
 ghost use Rattle.lead.specs.Asked.{firstLead, staged as Asked·staged, noTask, refusing as Asked·refusing, changing as Asked·changing, isFull, askedFirst, askedMove, askedBefore, askedAfter, asked, takesMove, filedMove, isOver};
 
-// The numbers of 2,048 moves.
-pub const NUMBERS: usize = 4096;
-
 // How far the lead has come: no line yet, before `go`, after it, or past a refusal that ends the run.
 pub enum Stage {
     Waiting,
@@ -116,7 +113,7 @@ fn ask_first(lead: Lead, r: Record) -> Plan
 fn is_full(lead: Lead) -> bool
     ensures { λ r. ⌜ r ≡ isFull lead ⌝ }
 {
-    NUMBERS <= wide(lead.count)
+    table::NUMBERS <= wide(lead.count)
 }
 
 // A `move` before `go`: "a 2,049th `move` line gets 5 as it is read"

@@ -156,7 +156,7 @@ fn is_line(r: Reader) -> bool
 }
 
 fn main() {
-    let mut numbers: [u16; lead::NUMBERS] = [0; lead::NUMBERS];
+    let mut numbers: [u16; table::NUMBERS] = [0; table::NUMBERS];
     let mut walk: [u16; watch::WALK] = [0; watch::WALK];
     let mut lines: [u8; watch::LINES] = [0; watch::LINES];
     let mut buf: [u8; CHUNK] = [0; CHUNK];

@@ -1,14 +1,13 @@
 -- What the lines of the plain answers say is true, and the looks that they tell are right. Assumes nothing.
-use mathlib.Core.Path.{_≡_, refl, sym, ap, subst, _∙_}
-use mathlib.Core.List.{List, [], _∷_, _++_}
-use Prim.Native.Nat.{ℕ, _-_}
+use mathlib.Core.Path.{_≡_, refl, ap, subst}
+use mathlib.Core.List.{List, [], _∷_}
+use Prim.Native.Nat.{ℕ}
 use native.Mathlib.Omega.{arith}
-use lib.ListN.{length}
 use Rattle.plain.specs.Search.{Verdict, none, lasso, unfinished, verdict, count}
 use Rattle.plain.specs.Table.{Table, final}
 use Rattle.plain.specs.Refusals.{Trial, accepted, refused, Load, loadTrial}
-use Rattle.plain.specs.Machine.{Answer, refusal, answer, numbered, Change, apply, kept, tableOf, loadAnswer, changeAnswer, after, Call, trialOf, answerTo, tableAfter, Line, gameLine, roundLine, noneLine, noLine, answerLine}
-use Rattle.plain.specs.Claims.{Arises, loaded, changed, Report, clear, round, reportOf, ReportRight, KeptRight, LineTrue, LineCounted}
+use Rattle.plain.specs.Machine.{answer, Change, apply, kept, tableOf, loadAnswer, changeAnswer, Call, trialOf, answerTo, tableAfter, Line, gameLine, answerLine}
+use Rattle.plain.specs.Claims.{Arises, loaded, changed, reportOf, ReportRight, KeptRight, LineTrue, LineCounted}
 use Rattle.plain.proofs.Demands.{report-right, demand-3-kept}
 
 -- the first line of some

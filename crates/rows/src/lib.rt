@@ -9,7 +9,7 @@ ghost use Rattle.rows.specs.Shift.{opened, shut, movedOne, movedStarts};
 ghost use Rattle.rows.specs.Change.{rowsOf, inserted, removed};
 
 // The most states of a table.
-const STATES: u16 = 512;
+pub const STATES: u16 = 512;
 
 // A start for each state, and one behind the last.
 const STARTS: usize = 513;

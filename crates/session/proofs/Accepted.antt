@@ -10,7 +10,6 @@ use lib.ListN.{length, getD}
 use borrow.Author.Tests.{ltb-false}
 use Rattle.plain.specs.Lists.{elem, In}
 use Rattle.plain.specs.Search.{Graph, Config, discoveredOf, meets, run, Verdict as PlainVerdict, unfinished, verdict, count}
-use Rattle.rows.specs.Rows.{edgeCount, Compressed}
 use Rattle.rows.specs.Change.{Rows, rowsOf}
 use Rattle.plain.specs.Table.{Table, searched, final, firstMeeting}
 use Rattle.plain.specs.Refusals.{Trial, accepted, refused, addTrial, cutTrial, shortRoom}
@@ -31,7 +30,6 @@ use Rattle.search.specs.Archive.{notesOf, Archived}
 use Rattle.search.proofs.Scans.{ran-from}
 use Rattle.search.proofs.Ended.{rewound-spent}
 use Rattle.search.proofs.Resumed.{Small, resume-fits, limits}
-use Rattle.session.specs.declared.Answer.{Answer}
 use Rattle.table.specs.declared.Op.{Op}
 use Rattle.table.specs.declared.Op.the-variants.{Add, Cut}
 use Rattle.session.specs.declared.Session.{Session}

@@ -5,15 +5,13 @@ use mathlib.Core.Bool.{Bool, true, false, cond}
 use mathlib.Core.List.{List}
 use Prim.Native.Nat.{ℕ, suc, _+_, _≤_, _<_}
 use native.Mathlib.Omega.{arith}
-use lib.Dec.{leb}
-use lib.ListN.{length, getD, List·getD-eq-default}
+use lib.ListN.{length, getD}
 use borrow.Author.Tests.{eq-eqb, ne-eqb}
-use Rattle.plain.specs.Search.{Graph, Config, outer, nested, exhausted, found, run, Verdict as PlainVerdict, none, lasso, unfinished, verdict, count}
+use Rattle.plain.specs.Search.{Graph, Config, outer, nested, exhausted, found, run, lasso, unfinished, verdict, count}
 use Rattle.plain.specs.Table.{Table, searched, final, accepts}
 use Rattle.plain.specs.Notes.{notes}
 use Rattle.plain.proofs.Tables.{Valid}
 use Rattle.plain.proofs.Demands.{ended-within, run-final, verdict-right}
-use Rattle.rows.specs.Rows.{edgeCount, Compressed}
 use Rattle.rows.specs.Change.{Rows}
 use Rattle.rows.proofs.Entries.{no-row}
 use Rattle.rows.proofs.Change.{starts-within}
@@ -21,7 +19,7 @@ use Rattle.look.specs.Numbers.{noNumber, plus}
 use Rattle.look.proofs.Counting.{plus-more}
 use Rattle.look.proofs.Scans.{row-fits}
 use Rattle.search.specs.declared.Walker.{Walker}
-use Rattle.search.specs.Core.{Game, gameOf, Core, Result, result, resultOf, runFor, Ran, Lengths}
+use Rattle.search.specs.Core.{Game, gameOf, Core, Result, result, runFor, Ran, Lengths}
 use Rattle.search.specs.Archive.{Archived}
 use Rattle.search.proofs.Represents.{Matches, Stands}
 use Rattle.search.proofs.Ways.{run-sized, rewound-sized}
@@ -31,7 +29,7 @@ use Rattle.search.proofs.Ended.{run-kept}
 use Rattle.session.specs.declared.Verdict.{Verdict}
 use Rattle.session.specs.declared.Resumption.{Resumption}
 use Rattle.session.specs.declared.Resumption.the-variants.{Nowhere, At}
-use Rattle.session.specs.Model.{Records, recordsOf, recordsIn, isFound, verdictOf, bound, resumptionAt, backAt, Sought}
+use Rattle.session.specs.Model.{Records, recordsIn, isFound, verdictOf, bound, resumptionAt, backAt, Sought}
 use Rattle.session.specs.Promises.{Tells, heightOf}
 use Rattle.session.proofs.Held.{small, budget-bound}
 use Rattle.table.specs.Filing.{Filed}
@@ -116,10 +114,6 @@ taken-nowhere number s e = ap (λ (b : Bool). cond b Nowhere (At s)) (eq-eqb (ge
 pub taken-at : (number : List ℕ) (s : ℕ) → (getD number s 0 ≡ noNumber → ⊥) → resumptionAt number s ≡ At s
 unfolding resumptionAt
 taken-at number s n = ap (λ (b : Bool). cond b Nowhere (At s)) (ne-eqb (getD number s 0) noNumber n)
-
--- a place past the end holds no such number
-pub past-end : (number : List ℕ) (s : ℕ) → length number ≤ s → getD number s 0 ≡ noNumber → ⊥
-past-end number s h e = let z : getD number s 0 ≡ 0 = List·getD-eq-default number 0 h in omega arith
 
 -- ---- what `seek` leaves
 

@@ -8,7 +8,6 @@ use lib.ListN.{length, getD, take, drop, replicate}
 use Rattle.plain.specs.Refusals.{accepted, refused}
 use Rattle.rows.specs.Change.{Rows}
 use Rattle.table.specs.declared.Op.{Op}
-use Rattle.table.specs.declared.Refusal.{Refusal}
 use Rattle.table.specs.Trials.{trialIn}
 use Rattle.table.specs.Filing.{sourceOf, filedIn}
 use Rattle.look.specs.Numbers.{noNumber}

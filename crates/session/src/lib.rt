@@ -79,9 +79,6 @@ pub struct Outcome {
     pub session: Session,
 }
 
-// The entries of an array that goes by state.
-const STATES: u16 = 512;
-
 // 2 × 2,048 + 3 × 512 + 2: no search takes more steps, and a phase of it is one step or more.
 const PHASES: u16 = 5634;
 
@@ -90,10 +87,8 @@ fn where_to_resume(number: &[u16; 512], s: u16) -> Resumption
     requires { ⌜ length (now number) ≡ 512 ⌝ }
     ensures { λ r. ⌜ r ≡ resumptionAt (now (number .entry)) s ⌝ }
 {
-    if s < STATES {
-        if number[wide(s)] == look::NO_NUMBER {
-            return Resumption::Nowhere;
-        }
+    if look::get(number, s) == look::NO_NUMBER {
+        return Resumption::Nowhere;
     }
     Resumption::At(s)
 }

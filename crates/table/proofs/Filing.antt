@@ -16,7 +16,7 @@ use Rattle.plain.specs.Refusals.{badSize, badCount, outside, pairs, sameEdge, p
 use Rattle.plain.proofs.Tests.{contra, not-true, or-first, or-second, or-false, or-neither, none-cons}
 use Rattle.plain.proofs.Edges.{Has, has-head, has-tail, has-cases, has-nil, same-edge, same-self}
 use Rattle.plain.proofs.Rows.{row-nil, row-has, has-row, row-add, row-add-other}
-use Rattle.rows.specs.Rows.{rowAt, degreeAt, edgeCount, placeOf, Compressed}
+use Rattle.rows.specs.Rows.{rowAt, edgeCount, placeOf}
 use Rattle.rows.specs.Change.{rowsOf, inserted}
 use Rattle.rows.proofs.Entries.{row-length}
 use Rattle.rows.proofs.Empty.{empty-row, empty-count, empty-compressed}

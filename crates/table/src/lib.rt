@@ -25,12 +25,10 @@ pub enum Trial {
     Refused(u16),
 }
 
-// The most states and moves of a game, and the numbers of so many moves.
-const STATES: u16 = 512;
-
+// The most moves of a game, and the numbers of so many moves.
 const MOVES: u16 = 2048;
 
-const NUMBERS: usize = 4096;
+pub const NUMBERS: usize = 4096;
 
 // Is a paying mark set for a number not below the count of states?
 fn marks_outside(words: &[u64; 8], size: u16) -> bool
@@ -86,7 +84,7 @@ fn early_trial(size: u16, start: u16, words: &[u64; 8], numbers: &[u16]) -> Tria
     if size == 0 {
         return Trial::Refused(2);
     }
-    if STATES < size {
+    if rows::STATES < size {
         return Trial::Refused(2);
     }
     if size <= start {

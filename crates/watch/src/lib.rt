@@ -9,8 +9,6 @@ use rows::wide;
 use session::Answer;
 use session::Outcome;
 use session::Session;
-use table::Op;
-use table::Refusal;
 ghost use mathlib.Core.Path.{_≡_};
 ghost use mathlib.Core.List.{_∷_, []};
 ghost use Prim.Native.Nat.{_≤_, min};
@@ -214,7 +212,7 @@ fn watch_text(text: &[u8], out: &mut [u8], space: usize) -> u64
     requires { ⌜ (space ≤ length (now out)) × (space ≤ outputMost) ⌝ }
     ensures { λ r. ⌜ Fitted (outputOf (now (text .entry))) space (now (out .entry)) (now (out .exit)) r ⌝ }
 {
-    let mut numbers: [u16; lead::NUMBERS] = [0; lead::NUMBERS];
+    let mut numbers: [u16; table::NUMBERS] = [0; table::NUMBERS];
     let mut walk: [u16; WALK] = [0; WALK];
     let mut lines: [u8; LINES] = [0; LINES];
     let mut lead = lead::first_lead();

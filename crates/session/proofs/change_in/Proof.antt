@@ -1,6 +1,5 @@
 -- `change_in` meets its contract: a refusal, or the rows changed and the search settled. Assumes nothing.
-use mathlib.Core.Path.{_≡_, sym, ap, _∙_}
-use Prim.Native.Nat.{ℕ}
+use mathlib.Core.Path.{sym, ap, _∙_}
 use denote.Ref.{now}
 use Rattle.session.specs.Model.{resumptionAt}
 use Rattle.table.proofs.Changing.{filed-tabled}

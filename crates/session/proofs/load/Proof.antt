@@ -1,6 +1,6 @@
 -- `load` meets its contract: a refusal, or the table filed and its search begun. Assumes nothing.
-use mathlib.Core.Path.{_≡_, refl, sym, _∙_}
-use Prim.Native.Nat.{ℕ, zero}
+use mathlib.Core.Path.{refl, sym, _∙_}
+use Prim.Native.Nat.{zero}
 use denote.Ref.{now}
 use lib.ListN.{length, replicate, length-replicate}
 use Rattle.plain.specs.Refusals.{Load, loadTrial}

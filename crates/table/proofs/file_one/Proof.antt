@@ -1,11 +1,9 @@
 -- `file_one` meets its contract. Assumes nothing.
-use mathlib.Core.Path.{_≡_, ap, _∙_}
+use mathlib.Core.Path.{ap, _∙_}
 use Prim.Native.Nat.{ℕ}
 use denote.Ref.{now}
 use borrow.Author.Needs.{needs}
-use Rattle.rows.specs.Change.{Rows, rowsOf, removed}
-use Rattle.table.specs.declared.Op.{Op}
-use Rattle.table.specs.Filing.{filedIn}
+use Rattle.rows.specs.Change.{rowsOf, removed}
 use Rattle.table.proofs.file_one.Statement.{statement}
 use Rattle.table.proofs.file_one.Tie as tie
 

@@ -1,5 +1,4 @@
 -- `is_outside` meets its contract. Assumes nothing.
-use Prim.Native.Nat.{_<_}
 use mathlib.Core.Path.{sym}
 use Rattle.table.proofs.Pairs.{outside-from, outside-second}
 use Rattle.table.proofs.is_outside.Statement.{statement}
