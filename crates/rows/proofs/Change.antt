@@ -7,7 +7,7 @@ use mathlib.Core.Path.{_≡_, refl, sym, ap, ap₂, _∙_}
 use mathlib.Core.Bool.{Bool, true, false}
 use mathlib.Core.List.{List, [], _∷_, _++_}
 use lib.ListN.{length, getD, take, drop}
-use Rattle.rows.specs.Rows.{entries, degreeAt, rowAt, edgeCount, Compressed, Changed, Inserted, Removed}
+use Rattle.rows.specs.Rows.{entries, degreeAt, rowAt, edgeCount, Compressed, Changed, Inserted, Removed, Tabled}
 use Rattle.rows.specs.Shift.{opened, shut, movedStarts}
 use Rattle.rows.specs.Change.{Rows, hasRoom, inserted, hasPlace, removed}
 use Rattle.rows.proofs.Paste.{same-place}
@@ -213,17 +213,18 @@ either true f g = f refl
 either false f g = g refl
 
 module _ (size v t : ℕ) (r r′ : Rows) (new : r′ ≡ inserted size v t r) where
-  pub inserted-lengths : (length (r .targets) ≡ 2048) × (length (r .starts) ≡ 513) → (length (r′ .targets) ≡ 2048) × (length (r′ .starts) ≡ 513)
+  pub inserted-lengths : Tabled (r .targets) (r .starts) → Tabled (r′ .targets) (r′ .starts)
   inserted-lengths l = either (hasRoom (r .starts) size v)
       (λ e.
       let w = new ∙ inserted-room size v t r e in
-      let f = room-is size v (r .starts) e in (
-        opened-length (r .targets) (getD (r .starts) (suc v) 0) (edgeCount (r .starts) size) t (f .2) (omega (arith, l .0)) (r′ .targets) (ap (λ (x : Rows). x .targets) w) ∙ l .0,
-        moved-length true (r .starts) (suc v) size (f .1) (omega (arith, l .1)) (r′ .starts) (ap (λ (x : Rows). x .starts) w) ∙ l .1,
-      ))
+      let f = room-is size v (r .starts) e in
+      record {
+        targets-size = opened-length (r .targets) (getD (r .starts) (suc v) 0) (edgeCount (r .starts) size) t (f .2) (omega (arith, l .targets-size)) (r′ .targets) (ap (λ (x : Rows). x .targets) w) ∙ l .targets-size;
+        starts-size = moved-length true (r .starts) (suc v) size (f .1) (omega (arith, l .starts-size)) (r′ .starts) (ap (λ (x : Rows). x .starts) w) ∙ l .starts-size;
+      })
       (λ e.
       let w = new ∙ inserted-none size v t r e in
-      (ap (λ (x : Rows). length (x .targets)) w ∙ l .0, ap (λ (x : Rows). length (x .starts)) w ∙ l .1))
+      record { targets-size = ap (λ (x : Rows). length (x .targets)) w ∙ l .targets-size; starts-size = ap (λ (x : Rows). length (x .starts)) w ∙ l .starts-size })
 
   pub inserts-edge : Compressed size (r .targets) (r .starts) → v < size → edgeCount (r .starts) size < 2048
       → Inserted size (r .targets) (r .starts) v t (r′ .targets) (r′ .starts)
@@ -232,17 +233,18 @@ module _ (size v t : ℕ) (r r′ : Rows) (new : r′ ≡ inserted size v t r) w
       opens-row size (r .targets) (r .starts) v t good small free (r′ .targets) (r′ .starts) (ap (λ (x : Rows). x .targets) w) (ap (λ (x : Rows). x .starts) w)
 
 module _ (size v k : ℕ) (r r′ : Rows) (new : r′ ≡ removed size v k r) where
-  pub removed-lengths : (length (r .targets) ≡ 2048) × (length (r .starts) ≡ 513) → (length (r′ .targets) ≡ 2048) × (length (r′ .starts) ≡ 513)
+  pub removed-lengths : Tabled (r .targets) (r .starts) → Tabled (r′ .targets) (r′ .starts)
   removed-lengths l = either (hasPlace (r .starts) size v k)
       (λ e.
       let w = new ∙ removed-place size v k r e in
-      let f = place-is size v (r .starts) k e in (
-        shut-length (r .targets) (getD (r .starts) v 0 + k) (edgeCount (r .starts) size) (f .2) (omega (arith, l .0)) (r′ .targets) (ap (λ (x : Rows). x .targets) w) ∙ l .0,
-        moved-length false (r .starts) (suc v) size (f .1) (omega (arith, l .1)) (r′ .starts) (ap (λ (x : Rows). x .starts) w) ∙ l .1,
-      ))
+      let f = place-is size v (r .starts) k e in
+      record {
+        targets-size = shut-length (r .targets) (getD (r .starts) v 0 + k) (edgeCount (r .starts) size) (f .2) (omega (arith, l .targets-size)) (r′ .targets) (ap (λ (x : Rows). x .targets) w) ∙ l .targets-size;
+        starts-size = moved-length false (r .starts) (suc v) size (f .1) (omega (arith, l .starts-size)) (r′ .starts) (ap (λ (x : Rows). x .starts) w) ∙ l .starts-size;
+      })
       (λ e.
       let w = new ∙ removed-none size v k r e in
-      (ap (λ (x : Rows). length (x .targets)) w ∙ l .0, ap (λ (x : Rows). length (x .starts)) w ∙ l .1))
+      record { targets-size = ap (λ (x : Rows). length (x .targets)) w ∙ l .targets-size; starts-size = ap (λ (x : Rows). length (x .starts)) w ∙ l .starts-size })
 
   pub removes-edge : Compressed size (r .targets) (r .starts) → v < size → k < degreeAt (r .starts) v
       → Removed size (r .targets) (r .starts) v k (r′ .targets) (r′ .starts)

@@ -4,7 +4,7 @@
 ghost use mathlib.Core.Path.{_≡_};
 ghost use Prim.Native.Nat.{_<_, _≤_};
 ghost use lib.ListN.{length, getD};
-ghost use Rattle.rows.specs.Rows.{degreeAt, rowAt, edgeCount, placeOf};
+ghost use Rattle.rows.specs.Rows.{degreeAt, rowAt, edgeCount, placeOf, Tabled};
 ghost use Rattle.rows.specs.Shift.{opened, shut, movedOne, movedStarts};
 ghost use Rattle.rows.specs.Change.{rowsOf, inserted, removed};
 
@@ -56,7 +56,7 @@ pub fn degree(starts: &[u16; 513], v: u16) -> u16
 
 // The target of edge k of v; 0 where there is none.
 fn target(targets: &[u16; 2048], starts: &[u16; 513], v: u16, k: u16) -> u16
-    requires { ⌜ (length (now targets) ≡ 2048) × (length (now starts) ≡ 513) ⌝ }
+    requires { ⌜ Tabled (now targets) (now starts) ⌝ }
     ensures { λ r. ⌜ r ≡ getD (rowAt (now (targets .entry)) (now (starts .entry)) v) k 0 ⌝ }
 {
     if k < degree(starts, v) {
@@ -70,7 +70,7 @@ fn target(targets: &[u16; 2048], starts: &[u16; 513], v: u16, k: u16) -> u16
 
 // The place of t in the row of v; the degree of v where it is not there.
 pub fn place(targets: &[u16; 2048], starts: &[u16; 513], v: u16, t: u16) -> u16
-    requires { ⌜ (length (now targets) ≡ 2048) × (length (now starts) ≡ 513) ⌝ }
+    requires { ⌜ Tabled (now targets) (now starts) ⌝ }
     ensures { λ r. ⌜ r ≡ placeOf t (rowAt (now (targets .entry)) (now (starts .entry)) v) ⌝ }
 {
     let n = degree(starts, v);
@@ -137,7 +137,7 @@ fn move_starts(starts: &mut [u16; 513], from: usize, last: usize, up: bool)
 
 // An edge from v to t, the newest of the row of v: what stands behind moves up by one place. Where it has no room, nothing is done.
 pub fn insert(targets: &mut [u16; 2048], starts: &mut [u16; 513], size: u16, v: u16, t: u16)
-    requires { ⌜ (length (now targets) ≡ 2048) × (length (now starts) ≡ 513) ⌝ }
+    requires { ⌜ Tabled (now targets) (now starts) ⌝ }
     ensures { λ r. ⌜ rowsOf (now (targets .exit)) (now (starts .exit)) ≡ inserted size v t (rowsOf (now (targets .entry)) (now (starts .entry))) ⌝ }
 {
     let i = wide(v);
@@ -151,7 +151,7 @@ pub fn insert(targets: &mut [u16; 2048], starts: &mut [u16; 513], size: u16, v: 
 
 // Edge k of v is taken out: what stands behind moves down by one place. Where there is none, nothing is done.
 pub fn remove(targets: &mut [u16; 2048], starts: &mut [u16; 513], size: u16, v: u16, k: u16)
-    requires { ⌜ (length (now targets) ≡ 2048) × (length (now starts) ≡ 513) ⌝ }
+    requires { ⌜ Tabled (now targets) (now starts) ⌝ }
     ensures { λ r. ⌜ rowsOf (now (targets .exit)) (now (starts .exit)) ≡ removed size v k (rowsOf (now (targets .entry)) (now (starts .entry))) ⌝ }
 {
     let i = wide(v);

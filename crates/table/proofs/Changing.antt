@@ -29,8 +29,8 @@ use Rattle.table.proofs.Filing.{there-present}
 
 -- the arrays of the rows keep their lengths
 pub filed-tabled : (op : Op) (size : ℕ) (r r′ : Rows) → r′ ≡ filedIn op size r → Tabled (r .targets) (r .starts) → Tabled (r′ .targets) (r′ .starts)
-filed-tabled (Add from to) size r r′ e l = let w = inserted-lengths size from to r r′ e (l .targets-size, l .starts-size) in record { targets-size = w .0; starts-size = w .1 }
-filed-tabled (Cut from to) size r r′ e l = let w = removed-lengths size from _ r r′ e (l .targets-size, l .starts-size) in record { targets-size = w .0; starts-size = w .1 }
+filed-tabled (Add from to) size r r′ e l = inserted-lengths size from to r r′ e l
+filed-tabled (Cut from to) size r r′ e l = removed-lengths size from _ r r′ e l
 
 -- the state that an accepted change names
 pub source-below : (op : Op) (t : Table) (room : ℕ) → changeTrial (changeOf op) t room ≡ accepted → sourceOf op < t .size

@@ -66,18 +66,18 @@ loop-less c = omega arith
 
 loop-again : tie.Need-loop-again Inv-loop μ-loop
 loop-again c =
-    let n = c in
-    let e = n .before .before .before in
+    let e = c .before .before .before in
     let p = e .before in
     let turn = p .before .before .before .before .before in
     let s = turn .before in
     let a = s .before .before .args in
-    let lengths = inserted-lengths (a .size) _ _ (rowsOf (s .loop .targets) (s .loop .starts)) (rowsOf (n .insert .last .0) (n .insert .last .1 .0)) (n .insert .ensures) (s .loop .inv .1 .targets-size, s .loop .inv .1 .starts-size) in (
+    let targets′ = c .insert .last .0 in
+    let starts′ = c .insert .last .1 .0 in (
       omega (arith, turn .loop-test .taken),
-      record { targets-size = lengths .0; starts-size = lengths .1 },
+      inserted-lengths (a .size) _ _ (rowsOf (s .loop .targets) (s .loop .starts)) (rowsOf targets′ starts′) (c .insert .ensures) (s .loop .inv .1),
       went-on (a .size) (now (a .numbers)) (s .loop .i) (now (a .targets)) (now (a .starts)) (s .loop .targets) (s .loop .starts) (s .loop .inv .2)
           (turn .loop-test .taken) (p .is-there .result) (p .is-there .ensures) (e .if1 .left)
-          (n .insert .last .0) (n .insert .last .1 .0) (n .insert .ensures),
+          targets′ starts′ (c .insert .ensures),
     )
 
 returns-2 : tie.Need-returns-2 Inv-loop μ-loop
