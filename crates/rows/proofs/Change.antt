@@ -42,8 +42,7 @@ module _ (size : ℕ) (xs ss : List ℕ) (good : Compressed size xs ss) where
 
 -- The starts behind v are more and less than before, the entries behind its row moved with them.
 record Shifted (size : ℕ) (xs ss : List ℕ) (v more less : ℕ) (xs′ ss′ : List ℕ) : Type 0 where
-  targets-length : length xs′ ≡ 2048
-  starts-length : length ss′ ≡ 513
+  tabled : Tabled xs′ ss′
   before : (u : ℕ) → u ≤ v → getD ss′ u 0 ≡ getD ss u 0
   behind : (u : ℕ) → v < u → u ≤ size → getD ss′ u 0 + less ≡ getD ss u 0 + more
   last : (u : ℕ) → size < u → getD ss′ u 0 ≡ getD ss u 0
@@ -66,8 +65,7 @@ module _ (size : ℕ) (xs ss : List ℕ) (v more less : ℕ) (xs′ ss′ : List
   still-compressed : Compressed size xs′ ss′
   still-compressed =
       record {
-        targets-length = s .targets-length;
-        starts-length = s .starts-length;
+        tabled = s .tabled;
         states = good .states;
         first = s .before 0 (omega arith) ∙ good .first;
         rising = still-rising;
@@ -106,10 +104,10 @@ module _ (size : ℕ) (xs ss : List ℕ) (v more less : ℕ) (xs′ ss′ : List
 -- An edge to t is put in behind the row of v.
 module _ (size : ℕ) (xs ss : List ℕ) (v t : ℕ) (good : Compressed size xs ss) (small : v < size) (free : edgeCount ss size < 2048) (xs′ ss′ : List ℕ) (targets : xs′ ≡ opened xs (getD ss (suc v) 0) (edgeCount ss size) t) (starts : ss′ ≡ movedStarts true ss (suc v) size) where
   space : edgeCount ss size < length xs
-  space = omega (arith, good .targets-length)
+  space = omega (arith, good .tabled .targets-size)
 
   inside : size < length ss
-  inside = omega (arith, good .starts-length, good .states)
+  inside = omega (arith, good .tabled .starts-size, good .states)
 
   open-before : (i : ℕ) → i < getD ss (suc v) 0 → getD xs′ i 0 ≡ getD xs i 0
   open-before = opened-before xs (getD ss (suc v) 0) (edgeCount ss size) t (row-end size xs ss good v small) space xs′ targets
@@ -121,8 +119,10 @@ module _ (size : ℕ) (xs ss : List ℕ) (v t : ℕ) (good : Compressed size xs 
   pushed : Shifted size xs ss v 1 0 xs′ ss′
   pushed =
       record {
-        targets-length = opened-length xs (getD ss (suc v) 0) (edgeCount ss size) t (row-end size xs ss good v small) space xs′ targets ∙ good .targets-length;
-        starts-length = moved-length true ss (suc v) size small inside ss′ starts ∙ good .starts-length;
+        tabled = record {
+          targets-size = opened-length xs (getD ss (suc v) 0) (edgeCount ss size) t (row-end size xs ss good v small) space xs′ targets ∙ good .tabled .targets-size;
+          starts-size = moved-length true ss (suc v) size small inside ss′ starts ∙ good .tabled .starts-size;
+        };
         before = λ u h. moved-before true ss (suc v) size small inside ss′ starts u (omega arith);
         behind = λ u l h. omega (arith, one-more u l h);
         last = λ u h. moved-behind true ss (suc v) size small inside ss′ starts u h;
@@ -156,10 +156,10 @@ module _ (size : ℕ) (xs ss : List ℕ) (v k : ℕ) (good : Compressed size xs 
   ahead = omega (arith, row-end size xs ss good v small)
 
   held : edgeCount ss size ≤ length xs
-  held = omega (arith, good .targets-length, good .within)
+  held = omega (arith, good .tabled .targets-size, good .within)
 
   ends-inside : size < length ss
-  ends-inside = omega (arith, good .starts-length, good .states)
+  ends-inside = omega (arith, good .tabled .starts-size, good .states)
 
   closed-before : (i : ℕ) → i < getD ss v 0 + k → getD xs′ i 0 ≡ getD xs i 0
   closed-before = shut-before xs (getD ss v 0 + k) (edgeCount ss size) ahead held xs′ targets
@@ -174,8 +174,10 @@ module _ (size : ℕ) (xs ss : List ℕ) (v k : ℕ) (good : Compressed size xs 
   pulled : Shifted size xs ss v 0 1 xs′ ss′
   pulled =
       record {
-        targets-length = shut-length xs (getD ss v 0 + k) (edgeCount ss size) ahead held xs′ targets ∙ good .targets-length;
-        starts-length = moved-length false ss (suc v) size small ends-inside ss′ starts ∙ good .starts-length;
+        tabled = record {
+          targets-size = shut-length xs (getD ss v 0 + k) (edgeCount ss size) ahead held xs′ targets ∙ good .tabled .targets-size;
+          starts-size = moved-length false ss (suc v) size small ends-inside ss′ starts ∙ good .tabled .starts-size;
+        };
         before = λ u h. moved-before false ss (suc v) size small ends-inside ss′ starts u (omega arith);
         behind = λ u l h. omega (arith, one-less u l h);
         last = λ u h. moved-behind false ss (suc v) size small ends-inside ss′ starts u h;

@@ -20,8 +20,7 @@ empty-count size = reads-same 513 size 0
 
 pub empty-compressed : (size : ℕ) → size ≤ 512 → Compressed size (replicate 2048 0) (replicate 513 0)
 empty-compressed size few = record {
-  targets-length = length-replicate {A = ℕ} 2048 0;
-  starts-length = length-replicate {A = ℕ} 513 0;
+  tabled = record { targets-size = length-replicate {A = ℕ} 2048 0; starts-size = length-replicate {A = ℕ} 513 0 };
   states = few;
   first = reads-same 513 0 0;
   rising = λ v h. omega (arith, reads-same 513 v 0);

@@ -36,8 +36,7 @@ pub record Tabled (targets starts : List ℕ) : Type 0 where
 -- The rows of the states below a size stand one behind the other, from the first place on; every start behind them is 0.
 -- So a state of the size or above has an empty row.
 pub record Compressed (size : ℕ) (targets starts : List ℕ) : Type 0 where
-  pub targets-length : length targets ≡ 2048
-  pub starts-length : length starts ≡ 513
+  pub tabled : Tabled targets starts
   pub states : size ≤ 512
   pub first : getD starts 0 0 ≡ 0
   pub rising : (v : ℕ) → v < size → getD starts v 0 ≤ getD starts (suc v) 0

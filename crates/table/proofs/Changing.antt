@@ -6,7 +6,7 @@ use mathlib.Core.List.{List, [], _∷_, _++_}
 use Prim.Native.Nat.{ℕ, suc, _<_}
 use native.Mathlib.Omega.{arith}
 use lib.Dec.{eqb, leb}
-use lib.ListN.{length, take, drop, length-append}
+use lib.ListN.{length, take, drop}
 use borrow.Author.Tests.{ltb-true, leb-false, eqb-true, eqb-false, not-false}
 use Rattle.plain.specs.Lists.{filter, elem, Once}
 use Rattle.plain.specs.Search.{Edge}
@@ -14,18 +14,18 @@ use Rattle.plain.specs.Table.{Table, row}
 use Rattle.plain.specs.Refusals.{accepted, firstHeld, present, outside, full, addTrial, cutTrial, shortRoom, selfLoop}
 use Rattle.plain.specs.Machine.{without, apply, changeTrial}
 use Rattle.plain.proofs.Tests.{either, or-false}
-use Rattle.plain.proofs.Rows.{row-once, row-add, row-add-other, row-cut, row-cut-other, without-length, but, but-yes, but-no}
+use Rattle.plain.proofs.Rows.{row-once, row-cut, row-cut-other, without-length, but, but-yes, but-no}
 use Rattle.plain.proofs.Trials.{passed}
 use Rattle.plain.proofs.Tables.{Valid}
 use Rattle.rows.specs.Rows.{rowAt, degreeAt, placeOf, Tabled}
 use Rattle.rows.specs.Change.{Rows}
 use Rattle.rows.proofs.Entries.{row-length}
-use Rattle.rows.proofs.Change.{inserts-edge, removes-edge, inserted-lengths, removed-lengths}
+use Rattle.rows.proofs.Change.{removes-edge, inserted-lengths, removed-lengths}
 use Rattle.table.specs.declared.Op.{Op}
 use Rattle.table.specs.declared.Op.the-variants.{Add, Cut}
 use Rattle.table.specs.Trials.{there, addTrialIn, cutTrialIn, trialIn}
 use Rattle.table.specs.Filing.{changeOf, sourceOf, filedIn, Filed}
-use Rattle.table.proofs.Filing.{there-present}
+use Rattle.table.proofs.Filing.{there-present, filed-insert}
 
 -- the arrays of the rows keep their lengths
 pub filed-tabled : (op : Op) (size : ℕ) (r r′ : Rows) → r′ ≡ filedIn op size r → Tabled (r .targets) (r .starts) → Tabled (r′ .targets) (r′ .starts)
@@ -102,13 +102,7 @@ module _ (t : Table) (before : Rows) (f : Filed (t .size) (t .edges) before) whe
     unfolding changeTrial addTrial cutTrial apply full
     refiled valid (Add from to) room e new =
         let p = passed _ _ _ (passed _ _ _ (passed _ _ _ (passed _ _ _ e .1) .1) .1) in
-        let i = inserts-edge (t .size) from to before rows new (f .compressed) (source-below (Add from to) t room e) (omega (arith, leb-false 2048 (length (t .edges)) (p .0), f .count-is)) in
-        record {
-          compressed = i .rows .compressed;
-          rows-are = other-rows (from, to) (t .edges ++ ((from, to) ∷ [])) (i .rows .others)
-              (i .rows .here ∙ ap (λ (l : List ℕ). l ++ (to ∷ [])) (f .rows-are from) ∙ sym (row-add (t .edges) (from, to))) (λ u z. row-add-other (t .edges) (from, to) u z);
-          count-is = i .count ∙ omega (arith, f .count-is, length-append (t .edges) ((from, to) ∷ []));
-        }
+        filed-insert (t .size) (t .edges) (from, to) before rows f (source-below (Add from to) t room e) (omega (arith, leb-false 2048 (length (t .edges)) (p .0), f .count-is)) new
     refiled valid (Cut from to) room e new =
         let p = passed _ _ _ (passed _ _ _ (passed _ _ _ e .1) .1) in
         let is : present (t .edges) (from, to) ≡ true = not-false (present (t .edges) (from, to)) (p .0) in

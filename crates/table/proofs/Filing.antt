@@ -12,12 +12,12 @@ use borrow.Author.Tests.{lt-ltb, ltb-false, leb-false, ne-eqb}
 use Rattle.plain.specs.Lists.{any, elem}
 use Rattle.plain.specs.Search.{Edge}
 use Rattle.plain.specs.Table.{row}
-use Rattle.plain.specs.Refusals.{badSize, badCount, outside, pairs, sameEdge, present, repeated}
+use Rattle.plain.specs.Refusals.{badSize, badCount, outside, pairs, sameEdge, present, repeated, Load}
 use Rattle.plain.proofs.Tests.{contra, not-true, or-first, or-second, or-false, or-neither, none-cons}
 use Rattle.plain.proofs.Edges.{Has, has-head, has-tail, has-cases, has-nil, same-edge, same-self}
 use Rattle.plain.proofs.Rows.{row-nil, row-has, has-row, row-add, row-add-other}
 use Rattle.rows.specs.Rows.{rowAt, edgeCount, placeOf}
-use Rattle.rows.specs.Change.{rowsOf, inserted}
+use Rattle.rows.specs.Change.{Rows, rowsOf, inserted}
 use Rattle.rows.proofs.Entries.{row-length}
 use Rattle.rows.proofs.Empty.{empty-row, empty-count, empty-compressed}
 use Rattle.rows.proofs.Change.{inserts-edge}
@@ -86,6 +86,22 @@ twice [] e rest h = has-nil e h
 twice (x ∷ es) e rest h = ⊎-elim
     (λ z. or-first (present (es ++ (e ∷ rest)) x) (repeated (es ++ (e ∷ rest))) (subst (λ (y : Edge). present (es ++ (e ∷ rest)) y ≡ true) z (has-within es e rest)))
     (λ k. or-second (present (es ++ (e ∷ rest)) x) (repeated (es ++ (e ∷ rest))) (twice es e rest k)) (has-cases e x es h)
+
+-- ---- an edge more
+
+pub filed-insert : (size : ℕ) (edges : List Edge) (e : Edge) (r r′ : Rows) → Filed size edges r → e .0 < size → edgeCount (r .starts) size < 2048 → r′ ≡ inserted size (e .0) (e .1) r
+    → Filed size (edges ++ (e ∷ [])) r′
+filed-insert size edges e r r′ f small free new =
+    let s = inserts-edge size (e .0) (e .1) r r′ new (f .compressed) small free in
+    record {
+      compressed = s .rows .compressed;
+      rows-are = λ v. elim (ℕ-discrete v (e .0)) [
+        | yes z ↦ subst (λ (u : ℕ). rowAt (r′ .targets) (r′ .starts) u ≡ row (edges ++ (e ∷ [])) u) (sym z)
+            (s .rows .here ∙ ap (λ (l : List ℕ). l ++ (e .1 ∷ [])) (f .rows-are (e .0)) ∙ sym (row-add edges e))
+        | no n ↦ s .rows .others v n ∙ f .rows-are v ∙ sym (row-add-other edges e v (ne-eqb (e .0) v (λ z. n (sym z))))
+      ];
+      count-is = s .count ∙ omega (arith, f .count-is, length-append edges (e ∷ []));
+    }
 
 -- ---- what is filed of a list of numbers, up to place i
 
@@ -156,42 +172,26 @@ module _ (size : ℕ) where
         room = omega (arith, ap length parts, length-append (f .edges) (move ∷ later), f .filed .count-is)
 
         filed-more : b ≡ false → (targets′ starts′ : List ℕ) → rowsOf targets′ starts′ ≡ inserted size (move .0) (move .1) (rowsOf targets starts) → FiledTo numbers (i + 2) targets′ starts′
-        filed-more h targets′ starts′ new =
-            let s = inserts-edge size (move .0) (move .1) (rowsOf targets starts) (rowsOf targets′ starts′) new (f .filed .compressed) source room in
-            record {
-              edges = f .edges ++ (move ∷ []);
-              filed = record {
-                compressed = s .rows .compressed;
-                rows-are = λ v. elim (ℕ-discrete v (move .0)) [
-                  | yes e ↦ subst (λ (u : ℕ). rowAt targets′ starts′ u ≡ row (f .edges ++ (move ∷ [])) u) (sym e)
-                      (s .rows .here ∙ ap (λ (l : List ℕ). l ++ (move .1 ∷ [])) (f .filed .rows-are (move .0)) ∙ sym (row-add (f .edges) move))
-                  | no n ↦ s .rows .others v n ∙ f .filed .rows-are v ∙ sym (row-add-other (f .edges) move v (ne-eqb (move .0) v (λ e. n (sym e))))
-                ];
-                count-is = s .count ∙ omega (arith, f .filed .count-is, length-append (f .edges) (move ∷ []));
-              };
-              once = once-more (f .edges) move (f .once) (sym test ∙ h);
-              split = parts ∙ sym (append-assoc (f .edges) (move ∷ []) later);
-            }
+        filed-more h targets′ starts′ new = record {
+          edges = f .edges ++ (move ∷ []);
+          filed = filed-insert size (f .edges) move (rowsOf targets starts) (rowsOf targets′ starts′) (f .filed) source room new;
+          once = once-more (f .edges) move (f .once) (sym test ∙ h);
+          split = parts ∙ sym (append-assoc (f .edges) (move ∷ []) later);
+        }
 
   -- ---- what filing leaves: all is filed, or a move stands twice
 
-  module _ (numbers : List ℕ) (i : ℕ) (targets₀ starts₀ targets starts : List ℕ) (f : Limits size numbers targets₀ starts₀ → FiledTo numbers i targets starts) where
-    pub ended : length numbers ≤ i + 1 → FiledAll size numbers targets₀ starts₀ false targets starts
-    ended h = record {
-      repeats = λ l. filed-once numbers i targets starts (f l) h;
-      filed = λ l e. filed-all numbers i targets starts (f l) h;
-    }
+  module _ (numbers : List ℕ) (i : ℕ) (targets starts : List ℕ) (f : FiledTo numbers i targets starts) where
+    pub ended : length numbers ≤ i + 1 → FiledAll size numbers false targets starts
+    ended h = record { repeats = filed-once numbers i targets starts f h; filed = λ e. filed-all numbers i targets starts f h }
 
     module _ (more : i + 1 < length numbers) (b : Bool) (asked : b ≡ there targets starts (moveAt numbers i .0) (moveAt numbers i .1)) where
-      pub refused : b ≡ true → FiledAll size numbers targets₀ starts₀ true targets starts
-      refused h = record {
-        repeats = λ l. filed-twice numbers i targets starts (f l) more b asked h;
-        filed = λ l e. absurd (true≢false e);
-      }
+      pub refused : b ≡ true → FiledAll size numbers true targets starts
+      refused h = record { repeats = filed-twice numbers i targets starts f more b asked h; filed = λ e. absurd (true≢false e) }
 
-      pub went-on : b ≡ false → (targets′ starts′ : List ℕ) → rowsOf targets′ starts′ ≡ inserted size (moveAt numbers i .0) (moveAt numbers i .1) (rowsOf targets starts)
-          → Limits size numbers targets₀ starts₀ → FiledTo numbers (i + 2) targets′ starts′
-      went-on h targets′ starts′ new l = filed-more numbers i targets starts (f l) more b asked (l .within) (l .few) h targets′ starts′ new
+      pub went-on : (targets₀ starts₀ : List ℕ) → Limits size numbers targets₀ starts₀ → b ≡ false → (targets′ starts′ : List ℕ)
+          → rowsOf targets′ starts′ ≡ inserted size (moveAt numbers i .0) (moveAt numbers i .1) (rowsOf targets starts) → FiledTo numbers (i + 2) targets′ starts′
+      went-on targets₀ starts₀ l h targets′ starts′ new = filed-more numbers i targets starts f more b asked (l .within) (l .few) h targets′ starts′ new
 
 -- ---- the trial of a load
 
@@ -201,44 +201,45 @@ not-refused e = let z : _≡_ {A = ℕ} 0 1 = cc in omega arith
 pub not-accepted : {n : ℕ} → Refused n ≡ Accepted → ⊥
 not-accepted e = let z : _≡_ {A = ℕ} 0 1 = cc in omega arith
 
-module _ (size start : ℕ) (words numbers : List ℕ) (room : ℕ) (targets₀ starts₀ targets starts : List ℕ) (early : Trial)
-    (e : early ≡ tried (earlyTrial size start words numbers)) where
-  pub tried-early : (early ≡ Accepted → ⊥) → Tried size start words numbers room targets₀ starts₀ early targets starts
-  tried-early n = record {
-    trial-is = λ t. e ∙ early-held size start words numbers room (λ z. n (e ∙ z));
-    filed = λ t z. absurd (n z);
+module _ (l : Load) (room : ℕ) (early : Trial) (e : early ≡ tried (earlyTrial (l .size) (l .start) (l .words) (l .numbers))) where
+  pub tried-early : (targets starts : List ℕ) → (early ≡ Accepted → ⊥) → Tried l room early targets starts
+  tried-early targets starts n = record {
+    trial-is = e ∙ early-held (l .size) (l .start) (l .words) (l .numbers) room (λ z. n (e ∙ z));
+    filed = λ z. absurd (n z);
   }
 
-  module _ (z : early ≡ Accepted) (b : Bool) (f : FiledAll size numbers targets₀ starts₀ b targets starts) where
-    passed : Early size start words numbers room
-    passed = early-free size start words numbers room (sym e ∙ z)
+  module _ (z : early ≡ Accepted) where
+    passed : Early (l .size) (l .start) (l .words) (l .numbers) room
+    passed = early-free (l .size) (l .start) (l .words) (l .numbers) room (sym e ∙ z)
 
-    states : size ≤ 512
+    states : l .size ≤ 512
     unfolding badSize
-    states = ltb-false 512 size (or-false (eqb size 0) (ltb 512 size) (passed .size-ok) .1)
+    states = ltb-false 512 (l .size) (or-false (eqb (l .size) 0) (ltb 512 (l .size)) (passed .size-ok) .1)
 
-    few : length (pairs numbers) ≤ 2048
+    few : length (pairs (l .numbers)) ≤ 2048
     unfolding badCount
-    few = omega (arith, length-pairs numbers, ltb-false 4096 (length numbers) (or-false (eqb (length numbers % 2) 1) (ltb 4096 (length numbers)) (passed .count-ok) .1))
+    few = omega (arith, length-pairs (l .numbers), ltb-false 4096 (length (l .numbers)) (or-false (eqb (length (l .numbers) % 2) 1) (ltb 4096 (length (l .numbers))) (passed .count-ok) .1))
 
-    limits : Empty targets₀ starts₀ → Limits size numbers targets₀ starts₀
-    limits x = record { empty = x; states = states; within = passed .inside-ok; few = few }
+    -- a list that passes the early trial may be filed
+    pub limits : (targets starts : List ℕ) → Empty targets starts → Limits (l .size) (l .numbers) targets starts
+    limits targets starts x = record { empty = x; states = states; within = passed .inside-ok; few = few }
 
-    pub tried-twice : b ≡ true → Tried size start words numbers room targets₀ starts₀ (Refused 8) targets starts
-    tried-twice t = record {
-      trial-is = λ x. passed .rest (Refused 8) (stop 8 _ _ (sym (f .repeats (limits x)) ∙ t));
-      filed = λ x n. absurd (not-accepted n);
-    }
-
-    module _ (t : b ≡ false) where
-      pub tried-short : room < size → Tried size start words numbers room targets₀ starts₀ (Refused 11) targets starts
-      tried-short h = record {
-        trial-is = λ x. passed .rest (Refused 11) (skip (Refused 11) 8 _ _ (sym (f .repeats (limits x)) ∙ t) (stop 11 _ _ (room-short size room h)));
-        filed = λ x n. absurd (not-accepted n);
+    module _ (b : Bool) (targets starts : List ℕ) (f : FiledAll (l .size) (l .numbers) b targets starts) where
+      pub tried-twice : b ≡ true → Tried l room (Refused 8) targets starts
+      tried-twice t = record {
+        trial-is = passed .rest (Refused 8) (stop 8 _ _ (sym (f .repeats) ∙ t));
+        filed = λ n. absurd (not-accepted n);
       }
 
-      pub tried-filed : size ≤ room → Tried size start words numbers room targets₀ starts₀ Accepted targets starts
-      tried-filed h = record {
-        trial-is = λ x. passed .rest Accepted (skip Accepted 8 _ _ (sym (f .repeats (limits x)) ∙ t) (skip Accepted 11 _ _ (room-enough size room h) none-held));
-        filed = λ x n. f .filed (limits x) t;
-      }
+      module _ (t : b ≡ false) where
+        pub tried-short : room < l .size → Tried l room (Refused 11) targets starts
+        tried-short h = record {
+          trial-is = passed .rest (Refused 11) (skip (Refused 11) 8 _ _ (sym (f .repeats) ∙ t) (stop 11 _ _ (room-short (l .size) room h)));
+          filed = λ n. absurd (not-accepted n);
+        }
+
+        pub tried-filed : l .size ≤ room → Tried l room Accepted targets starts
+        tried-filed h = record {
+          trial-is = passed .rest Accepted (skip Accepted 8 _ _ (sym (f .repeats) ∙ t) (skip Accepted 11 _ _ (room-enough (l .size) room h) none-held));
+          filed = λ n. f .filed t;
+        }

@@ -7,7 +7,7 @@ use lib.ListN.{length, replicate}
 use Rattle.plain.specs.Lists.{any}
 use Rattle.plain.specs.Search.{Edge}
 use Rattle.plain.specs.Table.{row}
-use Rattle.plain.specs.Refusals.{outside, pairs, repeated, loadTrial}
+use Rattle.plain.specs.Refusals.{outside, pairs, repeated, Load, loadTrial}
 use Rattle.plain.specs.Machine.{Change, add, cut}
 use Rattle.rows.specs.Rows.{rowAt, edgeCount, placeOf, Compressed}
 use Rattle.rows.specs.Change.{Rows, rowsOf, inserted, removed}
@@ -60,12 +60,12 @@ pub record Limits (size : ℕ) (numbers targets starts : List ℕ) : Type 0 wher
   pub within : any (outside size) (pairs numbers) ≡ false
   pub few : length (pairs numbers) ≤ 2048
 
--- what filing a list leaves: does an edge stand twice? if none does, the rows hold the list's edges
-pub record FiledAll (size : ℕ) (numbers targets starts : List ℕ) (r : Bool) (targets′ starts′ : List ℕ) : Type 0 where
-  pub repeats : Limits size numbers targets starts → r ≡ repeated (pairs numbers)
-  pub filed : Limits size numbers targets starts → r ≡ false → Filed size (pairs numbers) (rowsOf targets′ starts′)
+-- what filing such a list leaves: does an edge stand twice? if none does, the rows hold the list's edges
+pub record FiledAll (size : ℕ) (numbers : List ℕ) (r : Bool) (targets′ starts′ : List ℕ) : Type 0 where
+  pub repeats : r ≡ repeated (pairs numbers)
+  pub filed : r ≡ false → Filed size (pairs numbers) (rowsOf targets′ starts′)
 
--- the trial of a load, where the rows were empty; one that is accepted is filed
-pub record Tried (size start : ℕ) (words numbers : List ℕ) (room : ℕ) (targets starts : List ℕ) (r : Trial) (targets′ starts′ : List ℕ) : Type 0 where
-  pub trial-is : Empty targets starts → r ≡ tried (loadTrial (record { size = size; start = start; words = words; numbers = numbers }) room)
-  pub filed : Empty targets starts → r ≡ Accepted → Filed size (pairs numbers) (rowsOf targets′ starts′)
+-- the trial of a load; the moves of one that is accepted are filed
+pub record Tried (l : Load) (room : ℕ) (r : Trial) (targets′ starts′ : List ℕ) : Type 0 where
+  pub trial-is : r ≡ tried (loadTrial l room)
+  pub filed : r ≡ Accepted → Filed (l .size) (pairs (l .numbers)) (rowsOf targets′ starts′)

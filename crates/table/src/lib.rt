@@ -6,7 +6,7 @@ ghost use Rattle.plain.specs.Refusals.{badMarks, outside, selfLoop, pairs};
 ghost use Rattle.rows.specs.Rows.{Tabled};
 ghost use Rattle.rows.specs.Change.{rowsOf};
 ghost use Rattle.table.specs.Trials.{tried, earlyTrial, there, addTrialIn, cutTrialIn, trialIn};
-ghost use Rattle.table.specs.Filing.{sourceOf, filedIn, Attempted, FiledAll, Tried};
+ghost use Rattle.table.specs.Filing.{sourceOf, filedIn, Attempted, Empty, Limits, FiledAll, Tried};
 
 // A refusal: its number in document 01's list.
 pub struct Refusal {
@@ -116,11 +116,10 @@ fn is_there(targets: &[u16; 2048], starts: &[u16; 513], from: u16, to: u16) -> b
     rows::place(targets, starts, from, to) < rows::degree(starts, from)
 }
 
-// Files the moves of the list, in their order, until one stands twice: was there one?
+// Files the moves of the list into empty rows, in their order, until one stands twice: was there one?
 fn file_all(numbers: &[u16], size: u16, targets: &mut [u16; 2048], starts: &mut [u16; 513]) -> bool
-    requires { ⌜ Tabled (now targets) (now starts) ⌝ }
-    ensures { λ r. ⌜ FiledAll size (now (numbers .entry)) (now (targets .entry)) (now (starts .entry)) r (now (targets .exit)) (now (starts .exit)) ⌝ }
-    ensures { λ r. ⌜ Tabled (now (targets .exit)) (now (starts .exit)) ⌝ }
+    requires { ⌜ Limits size (now numbers) (now targets) (now starts) ⌝ }
+    ensures { λ r. ⌜ FiledAll size (now (numbers .entry)) r (now (targets .exit)) (now (starts .exit)) ⌝ }
 {
     let mut i: usize = 0;
     while i + 1 < numbers.len() {
@@ -135,7 +134,7 @@ fn file_all(numbers: &[u16], size: u16, targets: &mut [u16; 2048], starts: &mut 
     false
 }
 
-// Tries a load. Where it is accepted the moves are filed.
+// Tries a load, and files its moves into empty rows where it is accepted.
 pub fn load_trial(
     size: u16,
     start: u16,
@@ -145,9 +144,8 @@ pub fn load_trial(
     starts: &mut [u16; 513],
     room: usize,
 ) -> Trial
-    requires { ⌜ Tabled (now targets) (now starts) ⌝ }
-    ensures { λ r. ⌜ Tried size start (now (words .entry)) (now (numbers .entry)) room (now (targets .entry)) (now (starts .entry)) r (now (targets .exit)) (now (starts .exit)) ⌝ }
-    ensures { λ r. ⌜ Tabled (now (targets .exit)) (now (starts .exit)) ⌝ }
+    requires { ⌜ Empty (now targets) (now starts) ⌝ }
+    ensures { λ r. ⌜ Tried (record { size = size; start = start; words = now (words .entry); numbers = now (numbers .entry) }) room r (now (targets .exit)) (now (starts .exit)) ⌝ }
 {
     let early = early_trial(size, start, words, numbers);
     if let Trial::Refused(n) = early {

@@ -4,19 +4,14 @@ use Prim.Native.Nat.{zero}
 use denote.Ref.{now}
 use lib.ListN.{length, replicate, length-replicate}
 use Rattle.plain.specs.Refusals.{Load, loadTrial}
-use Rattle.table.specs.Filing.{Empty}
 use Rattle.table.proofs.Trying.{tried-accepted}
 use Rattle.session.proofs.Loaded.{load-refused, load-accepted, fresh-lengths, settles-fresh}
 use borrow.Author.Needs.{needs}
 use Rattle.session.proofs.load.Statement.{statement}
 use Rattle.session.proofs.load.Tie as tie
 
--- the rows that a load begins with are empty
-blank : Empty (replicate 2048 zero) (replicate 513 zero)
-blank = record { no-targets = refl; no-starts = refl }
-
 load-trial-requires : tie.Need-load-trial-requires
-load-trial-requires c κs = search needs
+load-trial-requires c κs = record { no-targets = refl; no-starts = refl }
 
 enum-known-trial : tie.Need-enum-known-trial
 enum-known-trial c = search needs
@@ -34,7 +29,7 @@ returns c =
     let e = k .before .before in
     let a = e .before .before .before .before .before .before .args in
     load-refused (record { size = a .size; start = a .start; words = a .t3; numbers = now (a .numbers) }) (now (a .lent)) (r .refused .result) (c .no-game .result) (k .trial .given .0 .0)
-    (r .refused .ensures) (c .no-game .ensures) (sym (k .trial .given .1) ∙ e .load-trial .ensures .0 .trial-is blank)
+    (r .refused .ensures) (c .no-game .ensures) (sym (k .trial .given .1) ∙ e .load-trial .ensures .trial-is)
 
 enum-told : tie.Need-enum-told
 enum-told c = search needs
@@ -56,7 +51,7 @@ abbrev begun : tie.After-settle-arg → tie.Start
 begun c = tried-at c .before .before .before .before .before .before .before .before
 
 settle-requires : tie.Need-settle-requires
-settle-requires c κs = (tried-at c .before .before .load-trial .ensures .1, fresh-lengths (fresh c .begin .ensures) (length-replicate 512 zero))
+settle-requires c κs = (tried-at c .before .before .load-trial .ensures .filed (tried-at c .enum-told .given .1) .compressed .tabled, fresh-lengths (fresh c .begin .ensures) (length-replicate 512 zero))
 
 total-of-requires : tie.Need-total-of-requires
 total-of-requires c κs = search needs
@@ -73,7 +68,7 @@ returns-2 c =
     let a = begun g .args in
     let l : Load = record { size = a .size; start = a .start; words = a .t3; numbers = now (a .numbers) } in
     load-accepted l (now (a .lent)) _ _ _ (w .settle .result) (replicate 512 zero)
-    (tried-accepted (loadTrial l (length (now (a .lent)))) (sym (n .ensures .0 .trial-is blank) ∙ e .enum-told .given .1)) (n .ensures .0 .filed blank (e .enum-told .given .1)) (length-replicate 512 zero)
+    (tried-accepted (loadTrial l (length (now (a .lent)))) (sym (n .ensures .trial-is) ∙ e .enum-told .given .1)) (n .ensures .filed (e .enum-told .given .1)) (length-replicate 512 zero)
     (settles-fresh (fresh g .begin .ensures) (g .before .no-verdict .ensures) (w .settle .ensures)) (c .total-of .result) (c .total-of .ensures)
 
 pub load-spec : {M : Type 1} → statement M

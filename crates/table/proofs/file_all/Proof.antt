@@ -1,19 +1,14 @@
--- `file_all` meets its contract: where the limits are kept, the moves before place i are filed, none of them twice. Assumes nothing.
+-- `file_all` meets its contract: the moves before place i are filed, none of them twice. Assumes nothing.
 use Prim.Native.Nat.{_-_, _≤_}
 use native.Mathlib.Omega.{arith}
 use denote.Ref.{now}
 use lib.ListN.{length}
-use borrow.Author.Needs.{needs}
-use Rattle.rows.specs.Change.{rowsOf}
-use Rattle.rows.proofs.Change.{inserted-lengths}
-use Rattle.rows.specs.Rows.{Tabled}
-use Rattle.table.specs.Filing.{Limits}
 use Rattle.table.proofs.Filing.{FiledTo, filed-none, ended, refused, went-on}
 use Rattle.table.proofs.file_all.Statement.{statement}
 use Rattle.table.proofs.file_all.Tie as tie
 
 abbrev Inv-loop : tie.InvT-loop
-Inv-loop numbers size targets₀ starts₀ i₀ targets starts i = (i ≤ length numbers) × Tabled targets starts × (Limits size numbers targets₀ starts₀ → FiledTo size numbers i targets starts)
+Inv-loop numbers size targets₀ starts₀ i₀ targets starts i = (i ≤ length numbers) × FiledTo size numbers i targets starts
 
 abbrev μ-loop : tie.MeasureT-loop
 μ-loop numbers size targets₀ starts₀ i₀ targets starts i = length numbers - i
@@ -21,7 +16,7 @@ abbrev μ-loop : tie.MeasureT-loop
 loop-holds : tie.Need-loop-holds Inv-loop μ-loop
 loop-holds c =
     let a = c .before .args in
-    (omega arith, c .before .pre, filed-none (a .size) (now (a .numbers)) (now (a .targets)) (now (a .starts)))
+    (omega arith, filed-none (a .size) (now (a .numbers)) (now (a .targets)) (now (a .starts)) (c .before .pre))
 
 add-loop : tie.Need-add-loop Inv-loop μ-loop
 add-loop c = omega arith
@@ -42,21 +37,18 @@ shared-slice-read-to : tie.Need-shared-slice-read-to Inv-loop μ-loop
 shared-slice-read-to c = omega arith
 
 is-there-requires : tie.Need-is-there-requires Inv-loop μ-loop
-is-there-requires c κs = search needs
+is-there-requires c κs = let s = c .before .before .before .before .before in s .loop .inv .1 .filed .compressed .tabled
 
 returns : tie.Need-returns Inv-loop μ-loop
 returns c =
     let p = c .before in
     let turn = p .before .before .before .before .before in
     let s = turn .before in
-    let a = s .before .before .args in (
-      refused (a .size) (now (a .numbers)) (s .loop .i) (now (a .targets)) (now (a .starts)) (s .loop .targets) (s .loop .starts) (s .loop .inv .2)
-          (turn .loop-test .taken) (p .is-there .result) (p .is-there .ensures) (c .if1 .taken),
-      s .loop .inv .1,
-    )
+    let a = s .before .before .args in
+    refused (a .size) (now (a .numbers)) (s .loop .i) (s .loop .targets) (s .loop .starts) (s .loop .inv .1) (turn .loop-test .taken) (p .is-there .result) (p .is-there .ensures) (c .if1 .taken)
 
 insert-requires : tie.Need-insert-requires Inv-loop μ-loop
-insert-requires c κs = search needs
+insert-requires c κs = let s = c .before .before .before .before .before .before .before .before .before in s .loop .inv .1 .filed .compressed .tabled
 
 add-i : tie.Need-add-i Inv-loop μ-loop
 add-i c = omega arith
@@ -70,21 +62,17 @@ loop-again c =
     let p = e .before in
     let turn = p .before .before .before .before .before in
     let s = turn .before in
-    let a = s .before .before .args in
-    let targets′ = c .insert .last .0 in
-    let starts′ = c .insert .last .1 .0 in (
+    let a = s .before .before .args in (
       omega (arith, turn .loop-test .taken),
-      inserted-lengths (a .size) _ _ (rowsOf (s .loop .targets) (s .loop .starts)) (rowsOf targets′ starts′) (c .insert .ensures) (s .loop .inv .1),
-      went-on (a .size) (now (a .numbers)) (s .loop .i) (now (a .targets)) (now (a .starts)) (s .loop .targets) (s .loop .starts) (s .loop .inv .2)
-          (turn .loop-test .taken) (p .is-there .result) (p .is-there .ensures) (e .if1 .left)
-          targets′ starts′ (c .insert .ensures),
+      went-on (a .size) (now (a .numbers)) (s .loop .i) (s .loop .targets) (s .loop .starts) (s .loop .inv .1) (turn .loop-test .taken) (p .is-there .result) (p .is-there .ensures)
+          (now (a .targets)) (now (a .starts)) (s .before .before .pre) (e .if1 .left) (c .insert .last .0) (c .insert .last .1 .0) (c .insert .ensures),
     )
 
 returns-2 : tie.Need-returns-2 Inv-loop μ-loop
 returns-2 c =
     let s = c .before in
     let a = s .before .before .args in
-    (ended (a .size) (now (a .numbers)) (s .loop .i) (now (a .targets)) (now (a .starts)) (s .loop .targets) (s .loop .starts) (s .loop .inv .2) (c .loop-test .left), s .loop .inv .1)
+    ended (a .size) (now (a .numbers)) (s .loop .i) (s .loop .targets) (s .loop .starts) (s .loop .inv .1) (c .loop-test .left)
 
 pub file-all-spec : {M : Type 1} → statement M
 file-all-spec =

@@ -2,8 +2,9 @@
 use mathlib.Core.Path.{sym, _∙_}
 use native.Mathlib.Omega.{arith}
 use Prim.Native.Nat.{_≤_, _<_}
+use denote.Ref.{now}
 use borrow.Author.Needs.{needs}
-use Rattle.table.proofs.Filing.{not-accepted, tried-early, tried-twice, tried-short, tried-filed}
+use Rattle.table.proofs.Filing.{not-accepted, tried-early, limits, tried-twice, tried-short, tried-filed}
 use Rattle.table.proofs.load_trial.Statement.{statement}
 use Rattle.table.proofs.load_trial.Tie as tie
 
@@ -16,18 +17,22 @@ enum-known-early c = search needs
 returns : tie.Need-returns
 returns c =
     let k = c .before in
-    (tried-early _ _ _ _ _ _ _ _ _ _ (sym (k .early .given .1) ∙ k .before .before .early-trial .ensures) not-accepted, search needs)
+    tried-early _ _ _ (sym (k .early .given .1) ∙ k .before .before .early-trial .ensures) _ _ not-accepted
 
 enum-told : tie.Need-enum-told
 enum-told c = search needs
 
 file-all-requires : tie.Need-file-all-requires
-file-all-requires c κs = search needs
+file-all-requires c κs =
+    let s = c .before .before in
+    let b = s .before .before .before .before in
+    limits (record { size = b .args .size; start = b .args .start; words = now (b .args .words); numbers = now (b .args .numbers) }) (b .args .room) _
+    (s .before .before .early-trial .ensures) (s .enum-told .given .1) _ _ (b .pre)
 
 returns-2 : tie.Need-returns-2
 returns-2 c =
     let s = c .before .before .before .before in
-    (tried-twice _ _ _ _ _ _ _ _ _ _ (s .before .before .early-trial .ensures) (s .enum-told .given .1) (c .before .file-all .result) (c .before .file-all .ensures .0) (c .if1 .taken), c .before .file-all .ensures .1)
+    tried-twice _ _ _ (s .before .before .early-trial .ensures) (s .enum-told .given .1) (c .before .file-all .result) _ _ (c .before .file-all .ensures) (c .if1 .taken)
 
 wide-requires : tie.Need-wide-requires
 wide-requires c κs = search needs
@@ -38,7 +43,7 @@ returns-3 c =
     let s = f .before .before .before in
     let a = s .before .before .before .before .args in
     let short : a .room < a .size = omega (arith, c .before .wide .ensures, c .if2 .taken) in
-    (tried-short _ _ _ _ _ _ _ _ _ _ (s .before .before .early-trial .ensures) (s .enum-told .given .1) (f .file-all .result) (f .file-all .ensures .0) (c .before .before .if1 .left) short, f .file-all .ensures .1)
+    tried-short _ _ _ (s .before .before .early-trial .ensures) (s .enum-told .given .1) (f .file-all .result) _ _ (f .file-all .ensures) (c .before .before .if1 .left) short
 
 returns-4 : tie.Need-returns-4
 returns-4 c =
@@ -46,7 +51,7 @@ returns-4 c =
     let s = f .before .before .before in
     let a = s .before .before .before .before .args in
     let enough : a .size ≤ a .room = omega (arith, c .before .wide .ensures, c .if2 .left) in
-    (tried-filed _ _ _ _ _ _ _ _ _ _ (s .before .before .early-trial .ensures) (s .enum-told .given .1) (f .file-all .result) (f .file-all .ensures .0) (c .before .before .if1 .left) enough, f .file-all .ensures .1)
+    tried-filed _ _ _ (s .before .before .early-trial .ensures) (s .enum-told .given .1) (f .file-all .result) _ _ (f .file-all .ensures) (c .before .before .if1 .left) enough
 
 pub load-trial-spec : {M : Type 1} → statement M
 load-trial-spec =
