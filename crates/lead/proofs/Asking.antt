@@ -14,7 +14,7 @@ use Rattle.table.specs.declared.Op.the-variants.{Add, Cut}
 use Rattle.lead.specs.declared.Stage.{Stage}
 use Rattle.lead.specs.declared.Stage.the-variants.{Gathering, Playing, Over}
 use Rattle.lead.specs.declared.Lead.{Lead}
-use Rattle.lead.specs.Asked.{noTask, refusing, loading, changing, isFull, askedFirst, askedMove, askedBefore, askedAfter, askedAt, asked, moveAt, takesMove}
+use Rattle.lead.specs.Asked.{noTask, refusing, loading, changing, isFull, askedFirst, askedMove, askedBefore, askedAfter, askedAt, asked, gathersMove, takesMove}
 
 -- ---- a `move`
 
@@ -33,7 +33,7 @@ module _ (l : Lead) (r : Record) where
   unfolding takesMove
   none-taken h = rw h
 
-  pub taken-at : (g : Stage) → isFull l ≡ false → l .stage ≡ g → moveAt g r ≡ takesMove l r
+  pub taken-at : (g : Stage) → isFull l ≡ false → l .stage ≡ g → gathersMove g r ≡ takesMove l r
   unfolding takesMove
   taken-at g h e = rw (h, e)
 

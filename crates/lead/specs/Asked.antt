@@ -93,15 +93,15 @@ asked l r = askedAt (l .stage) l r
 -- ---- the moves' numbers
 
 -- is the line a `move`, where moves are gathered?
-abbrev pub moveAt : Stage → Record → Bool
-moveAt Waiting r = false
-moveAt Gathering r = isWord (r .word) Move
-moveAt Playing r = false
-moveAt Over r = false
+abbrev pub gathersMove : Stage → Record → Bool
+gathersMove Waiting r = false
+gathersMove Gathering r = isWord (r .word) Move
+gathersMove Playing r = false
+gathersMove Over r = false
 
 -- is it one that is taken: are there fewer than 2,048 so far?
 unfoldable pub takesMove : Lead → Record → Bool
-takesMove l r = not (isFull l) && moveAt (l .stage) r
+takesMove l r = not (isFull l) && gathersMove (l .stage) r
 
 -- The list of the moves' numbers behind a line: those of a `move` that is taken stand behind the others, where the list has room. Every other line leaves
 -- the list as it was.

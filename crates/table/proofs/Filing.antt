@@ -221,8 +221,8 @@ module _ (l : Load) (room : ℕ) (early : Trial) (e : early ≡ tried (earlyTria
     few = omega (arith, length-pairs (l .numbers), ltb-false 4096 (length (l .numbers)) (or-false (eqb (length (l .numbers) % 2) 1) (ltb 4096 (length (l .numbers))) (passed .count-ok) .1))
 
     -- a list that passes the early trial may be filed
-    pub limits : (targets starts : List ℕ) → Empty targets starts → Limits (l .size) (l .numbers) targets starts
-    limits targets starts x = record { empty = x; states = states; within = passed .inside-ok; few = few }
+    pub may-be-filed : (targets starts : List ℕ) → Empty targets starts → Limits (l .size) (l .numbers) targets starts
+    may-be-filed targets starts x = record { empty = x; states = states; within = passed .inside-ok; few = few }
 
     module _ (b : Bool) (targets starts : List ℕ) (f : FiledAll (l .size) (l .numbers) b targets starts) where
       pub tried-twice : b ≡ true → Tried l room (Refused 8) targets starts

@@ -4,7 +4,7 @@ use native.Mathlib.Omega.{arith}
 use Prim.Native.Nat.{_≤_, _<_}
 use denote.Ref.{now}
 use borrow.Author.Needs.{needs}
-use Rattle.table.proofs.Filing.{not-accepted, tried-early, limits, tried-twice, tried-short, tried-filed}
+use Rattle.table.proofs.Filing.{not-accepted, tried-early, may-be-filed, tried-twice, tried-short, tried-filed}
 use Rattle.table.proofs.load_trial.Statement.{statement}
 use Rattle.table.proofs.load_trial.Tie as tie
 
@@ -26,7 +26,7 @@ file-all-requires : tie.Need-file-all-requires
 file-all-requires c κs =
     let s = c .before .before in
     let b = s .before .before .before .before in
-    limits (record { size = b .args .size; start = b .args .start; words = now (b .args .words); numbers = now (b .args .numbers) }) (b .args .room) _
+    may-be-filed (record { size = b .args .size; start = b .args .start; words = now (b .args .words); numbers = now (b .args .numbers) }) (b .args .room) _
     (s .before .before .early-trial .ensures) (s .enum-told .given .1) _ _ (b .pre)
 
 returns-2 : tie.Need-returns-2
