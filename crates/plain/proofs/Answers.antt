@@ -1,5 +1,6 @@
 -- What the lines of the plain answers say is true, and the looks that they tell are right. Assumes nothing.
-use mathlib.Core.Path.{_≡_, refl, ap, subst}
+use mathlib.Core.Path.{_≡_, refl, ap, subst, _∙_}
+use mathlib.Core.Logic.{_≢_}
 use mathlib.Core.List.{List, [], _∷_}
 use Prim.Native.Nat.{ℕ}
 use native.Mathlib.Omega.{arith}
@@ -8,6 +9,7 @@ use Rattle.plain.specs.Table.{Table, final}
 use Rattle.plain.specs.Refusals.{Trial, accepted, refused, Load, loadTrial}
 use Rattle.plain.specs.Machine.{answer, Change, apply, kept, tableOf, loadAnswer, changeAnswer, Call, trialOf, answerTo, tableAfter, Line, gameLine, answerLine}
 use Rattle.plain.specs.Claims.{Arises, loaded, changed, reportOf, ReportRight, KeptRight, LineTrue, LineCounted}
+use Rattle.plain.proofs.Trials.{change-never-7}
 use Rattle.plain.proofs.Demands.{report-right, demand-3-kept}
 
 -- the first line of some
@@ -45,9 +47,12 @@ pub record Told (c : Call) (t : Table) (l : Line) : Type 0 where
   pub counts : LineCounted l (c .change) t
 
 pub call-told : (c : Call) (t : Table) (l : Line) → Arises t → answerLine (answerTo c t) ≡ l ∷ [] → Told c t l
-unfolding answerTo changeAnswer answerLine tableAfter first-line
+unfolding answerTo changeAnswer answerLine tableAfter first-line trialOf
 call-told c t l a e = by-trial (trialOf c t) refl e
   where
+    never-7 : (n : ℕ) → trialOf c t ≡ refused n → n ≢ 7
+    never-7 n k z = change-never-7 (c .change) t (c .room) (k ∙ ap refused z)
+
     by-trial : (x : Trial) → trialOf c t ≡ x → answerLine (changeAnswer x (c .change) t) ≡ l ∷ [] → Told c t l
     by-trial accepted k f =
         let t′ = apply (c .change) t in
@@ -57,6 +62,6 @@ call-told c t l a e = by-trial (trialOf c t) refl e
           counts = counts-told (c .change) t (verdict (final t′)) _ _ l (demand-3-kept c t a k) f;
         }
     by-trial (refused n) k f = record {
-      truth = subst (λ (x : Line). LineTrue x (tableAfter c t)) (ap first-line f) tt;
+      truth = subst (λ (x : Line). LineTrue x (tableAfter c t)) (ap first-line f) (never-7 n k);
       counts = subst (λ (x : Line). LineCounted x (c .change) t) (ap first-line f) tt;
     }

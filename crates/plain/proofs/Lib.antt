@@ -17,3 +17,4 @@ pub mod Trials
 pub mod Tables
 pub mod Demands
 pub mod Answers
+pub mod Loops

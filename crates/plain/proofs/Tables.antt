@@ -11,11 +11,11 @@ use borrow.Author.Tests.{ltb-false, leb-false}
 use Rattle.plain.specs.Lists.{any, filter}
 use Rattle.plain.specs.Search.{Edge}
 use Rattle.plain.specs.Table.{Table}
-use Rattle.plain.specs.Refusals.{accepted, pairs, sameEdge, present, badSize, badStart, badMarks, badCount, outside, selfLoop, repeated, full, Load, loadTrial, addTrial}
+use Rattle.plain.specs.Refusals.{accepted, pairs, sameEdge, present, badSize, badStart, badMarks, badCount, outside, repeated, full, Load, loadTrial, addTrial}
 use Rattle.plain.specs.Machine.{Change, add, cut, tableOf, without, apply, changeTrial, trialOf}
 use Rattle.plain.specs.Claims.{Arises, loaded, changed}
 use Rattle.plain.proofs.Tests.{contra, either, not-true, or-false, or-neither, any-cases, none-cons, filter-yes, filter-no}
-use Rattle.plain.proofs.Trials.{passed}
+use Rattle.plain.proofs.Trials.{unheld}
 use Rattle.plain.proofs.Edges.{same-edge, same-self}
 
 -- what every table of a session keeps: none of the conditions for a refusal holds of it
@@ -25,7 +25,6 @@ pub record Valid (t : Table) : Type 0 where
   pub marks-ok : badMarks (t .size) (t .words) ≡ false
   pub count-ok : length (t .edges) ≤ 2048
   pub inside : any (outside (t .size)) (t .edges) ≡ false
-  pub no-loop : any selfLoop (t .edges) ≡ false
   pub once : repeated (t .edges) ≡ false
 
 -- ---- lists of edges
@@ -74,7 +73,8 @@ repeated-filter q (x ∷ es) r =
     (λ h. rw (filter-yes q x es h) (or-neither (any (sameEdge x) (filter q es)) (repeated (filter q es)) (any-filter (sameEdge x) q es (w .0)) (repeated-filter q es (w .1))))
     (λ h. rw (filter-no q x es h) (repeated-filter q es (w .1))) (either (q x))
 
-length-pairs : (ns : List ℕ) → 2 * length (pairs ns) ≤ length ns
+-- a move has two numbers
+pub length-pairs : (ns : List ℕ) → 2 * length (pairs ns) ≤ length ns
 unfolding pairs
 length-pairs [] = omega arith
 length-pairs (a ∷ []) = omega arith
@@ -84,40 +84,25 @@ length-pairs (a ∷ b ∷ ns) = omega (arith, length-pairs ns)
 
 valid-load : (l : Load) (room : ℕ) → loadTrial l room ≡ accepted → Valid (tableOf l)
 unfolding loadTrial tableOf badCount
-valid-load l room e =
-    let p2 = passed _ _ _ e in
-    let p3 = passed _ _ _ (p2 .1) in
-    let p4 = passed _ _ _ (p3 .1) in
-    let p5 = passed _ _ _ (p4 .1) in
-    let p6 = passed _ _ _ (p5 .1) in
-    let p7 = passed _ _ _ (p6 .1) in
-    let p8 = passed _ _ _ (p7 .1) in
-    record {
-      size-ok = p2 .0;
-      start-ok = p3 .0;
-      marks-ok = p4 .0;
-      count-ok = omega (arith, length-pairs (l .numbers), ltb-false 4096 (length (l .numbers)) (or-false (eqb (length (l .numbers) % 2) 1) (ltb 4096 (length (l .numbers))) (p5 .0) .1));
-      inside = p6 .0;
-      no-loop = p7 .0;
-      once = p8 .0;
-    }
+valid-load l room e = record {
+  size-ok = unheld 0 _ e;
+  start-ok = unheld 1 _ e;
+  marks-ok = unheld 2 _ e;
+  count-ok = omega (arith, length-pairs (l .numbers), ltb-false 4096 (length (l .numbers)) (or-false (eqb (length (l .numbers) % 2) 1) (ltb 4096 (length (l .numbers))) (unheld 3 _ e) .1));
+  inside = unheld 4 _ e;
+  once = unheld 5 _ e;
+}
 
 valid-add : (t : Table) (e : Edge) (room : ℕ) → Valid t → addTrial t e room ≡ accepted → Valid (apply (add e) t)
 unfolding addTrial apply full
-valid-add t e room v a =
-    let p6 = passed _ _ _ a in
-    let p7 = passed _ _ _ (p6 .1) in
-    let p8 = passed _ _ _ (p7 .1) in
-    let p9 = passed _ _ _ (p8 .1) in
-    record {
-      size-ok = v .size-ok;
-      start-ok = v .start-ok;
-      marks-ok = v .marks-ok;
-      count-ok = omega (arith, length-append (t .edges) (e ∷ []), leb-false 2048 (length (t .edges)) (p9 .0));
-      inside = any-append (outside (t .size)) (t .edges) e (v .inside) (p6 .0);
-      no-loop = any-append selfLoop (t .edges) e (v .no-loop) (p7 .0);
-      once = repeated-add (t .edges) e (v .once) (p8 .0);
-    }
+valid-add t e room v a = record {
+  size-ok = v .size-ok;
+  start-ok = v .start-ok;
+  marks-ok = v .marks-ok;
+  count-ok = omega (arith, length-append (t .edges) (e ∷ []), leb-false 2048 (length (t .edges)) (unheld 2 _ a));
+  inside = any-append (outside (t .size)) (t .edges) e (v .inside) (unheld 0 _ a);
+  once = repeated-add (t .edges) e (v .once) (unheld 1 _ a);
+}
 
 valid-cut : (t : Table) (e : Edge) → Valid t → Valid (apply (cut e) t)
 unfolding apply without
@@ -127,7 +112,6 @@ valid-cut t e v = record {
   marks-ok = v .marks-ok;
   count-ok = omega (arith, length-filter (λ f. not (sameEdge e f)) (t .edges), v .count-ok);
   inside = any-filter (outside (t .size)) (λ f. not (sameEdge e f)) (t .edges) (v .inside);
-  no-loop = any-filter selfLoop (λ f. not (sameEdge e f)) (t .edges) (v .no-loop);
   once = repeated-filter (λ f. not (sameEdge e f)) (t .edges) (v .once);
 }
 

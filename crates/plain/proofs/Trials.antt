@@ -1,16 +1,20 @@
 -- Refusals: the number handed back is the first whose condition holds, and only that. Assumes nothing.
 use mathlib.Core.Path.{_≡_, refl, sym, ap, _∙_}
-use mathlib.Core.Logic.{⊎-elim}
+use mathlib.Core.Logic.{_≢_, ⊎-elim}
 use mathlib.Core.Bool.{Bool, true, false}
-use mathlib.Core.List.{List, [], _∷_, _++_}
-use Prim.Native.Nat.{ℕ}
+use mathlib.Core.List.{List, [], _∷_, _++_, map}
+use Prim.Native.Nat.{ℕ, zero, suc}
 use native.Mathlib.Omega.{arith}
-use Rattle.plain.specs.Lists.{any}
+use lib.Dec.{eqb}
+use lib.ListN.{getD}
+use borrow.Author.Tests.{eqb-false}
+use Rattle.plain.specs.Lists.{any, elem}
 use Rattle.plain.specs.Search.{Edge}
 use Rattle.plain.specs.Table.{Table}
-use Rattle.plain.specs.Refusals.{accepted, refused, firstHeld, pairs, present, badSize, badStart, badMarks, badCount, outside, selfLoop, Load, loadTrial, addTrial, cutTrial}
+use Rattle.plain.specs.Refusals.{accepted, refused, firstHeld, pairs, present, badSize, badStart, badMarks, badCount, outside, Load, loadTrial, addTrial, cutTrial}
+use Rattle.plain.specs.Machine.{Change, add, cut, changeTrial}
 use Rattle.plain.specs.Claims.{Handed}
-use Rattle.plain.proofs.Tests.{either, or-neither, none-cons}
+use Rattle.plain.proofs.Tests.{either, or-false, or-neither, none-cons}
 
 -- a condition of a trial
 abbrev Condition : Type 0
@@ -31,10 +35,16 @@ refused-not : (n : ℕ) → refused n ≡ accepted → ⊥
 refused-not n e = let z : _≡_ {A = ℕ} 0 1 = cc in omega arith
 
 -- where a call is accepted, no condition holds
-pub passed : (n : ℕ) (b : Bool) (cs : List Condition) → firstHeld ((n, b) ∷ cs) ≡ accepted → (b ≡ false) × (firstHeld cs ≡ accepted)
+passed : (n : ℕ) (b : Bool) (cs : List Condition) → firstHeld ((n, b) ∷ cs) ≡ accepted → (b ≡ false) × (firstHeld cs ≡ accepted)
 passed n b cs e = ⊎-elim
     (λ h. absurd (refused-not n (sym (held-first (n, b) cs h) ∙ e)))
     (λ h. (h, sym (held-later (n, b) cs h) ∙ e)) (either b)
+
+-- the condition at place k does not hold
+pub unheld : (k : ℕ) (cs : List Condition) → firstHeld cs ≡ accepted → getD cs k (0, false) .1 ≡ false
+unheld k [] e = refl
+unheld zero (c ∷ cs) e = passed (c .0) (c .1) cs e .0
+unheld (suc k) (c ∷ cs) e = unheld k cs (passed (c .0) (c .1) cs e .1)
 
 -- "a number is handed back when its condition holds and no earlier one .. does"
 pub handed-when : (n : ℕ) (cs : List Condition) → Handed n cs → firstHeld cs ≡ refused n
@@ -80,12 +90,33 @@ unfolding any
 accepted-only [] e = refl
 accepted-only (c ∷ cs) e = let v = passed (c .0) (c .1) cs e in or-neither (c .1) (any holds cs) (v .0) (accepted-only cs (v .1))
 
+-- ---- "refusal 7 no longer occurs"
+
+-- a number that stands with no condition is never handed back
+never-handed : (n : ℕ) (cs : List Condition) → elem n (map (λ (c : Condition). c .0) cs) ≡ false → firstHeld cs ≢ refused n
+unfolding elem firstHeld
+never-handed n [] f e = refused-not n (sym e)
+never-handed n (c ∷ cs) f e =
+    let w = or-false (eqb n (c .0)) (elem n (map (λ (d : Condition). d .0) cs)) f in
+    ⊎-elim
+    (λ h. let z : refused (c .0) ≡ refused n = sym (held-first c cs h) ∙ e in let y : n ≡ c .0 = cc in eqb-false n (c .0) (w .0) y)
+    (λ h. never-handed n cs (w .1) (sym (held-later c cs h) ∙ e)) (either (c .1))
+
+pub load-never-7 : (l : Load) (room : ℕ) → loadTrial l room ≢ refused 7
+unfolding loadTrial elem
+load-never-7 l room = never-handed 7 _ refl
+
+pub change-never-7 : (c : Change) (t : Table) (room : ℕ) → changeTrial c t room ≢ refused 7
+unfolding changeTrial addTrial cutTrial elem
+change-never-7 (add e) t room = never-handed 7 _ refl
+change-never-7 (cut e) t room = never-handed 7 _ refl
+
 -- ---- orders that are easily mistaken
 
 -- a present move added to a full table: 8, not 9
-pub present-before-full : (t : Table) (e : Edge) (room : ℕ) → outside (t .size) e ≡ false → selfLoop e ≡ false → present (t .edges) e ≡ true → addTrial t e room ≡ refused 8
+pub present-before-full : (t : Table) (e : Edge) (room : ℕ) → outside (t .size) e ≡ false → present (t .edges) e ≡ true → addTrial t e room ≡ refused 8
 unfolding addTrial
-present-before-full t e room f g h = held-later _ _ f ∙ held-later _ _ g ∙ held-first _ _ h
+present-before-full t e room f h = held-later _ _ f ∙ held-first _ _ h
 
 -- a cut of a move outside the game: 6, not 10
 pub outside-before-absent : (t : Table) (e : Edge) (room : ℕ) → outside (t .size) e ≡ true → cutTrial t e room ≡ refused 6

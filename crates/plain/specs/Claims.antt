@@ -7,7 +7,7 @@ use mathlib.Core.List.{List, [], _∷_, _++_}
 use lib.ListN.{length, take, drop}
 use Rattle.plain.specs.Lists.{any, filter}
 use Rattle.plain.specs.Search.{Edge, Verdict, none, lasso, unfinished, verdict, count, taken}
-use Rattle.plain.specs.Cycles.{FreeRound, Lasso}
+use Rattle.plain.specs.Cycles.{FreeRound, AcceptingLoop, Lasso}
 use Rattle.plain.specs.Table.{Table, graphOf, final, firstMeeting}
 use Rattle.plain.specs.Refusals.{accepted, Load, loadTrial, sameEdge}
 use Rattle.plain.specs.Machine.{Change, named, apply, tableOf, Call, trialOf, Line, gameLine, roundLine, noneLine, noLine}
@@ -64,12 +64,23 @@ pub record KeptRight (c : Change) (t : Table) (spent kept : ℕ) : Type 0 where
   -- "Kept + spent = that search's full count"
   pub adds-up : kept + spent ≡ count (final (apply c t))
 
--- What an answer's line says of the table as the call leaves it is true.
+-- What an answer's line says of the table as the call leaves it is true. Of a `no` line: "refusal 7 no longer occurs" (document 02, ticket 1).
 abbrev pub LineTrue : Line → Table → Type 0
 LineTrue (gameLine size moves paying) t = Unit {0}
 LineTrue (roundLine spent kept stem cycle walk) t = ReportRight (round stem cycle walk) t
 LineTrue (noneLine spent kept) t = ReportRight clear t
-LineTrue (noLine r) t = Unit {0}
+LineTrue (noLine r) t = r .number ≢ 7
+
+-- a line that does not say "none"
+abbrev pub NotNone : Line → Type 0
+NotNone (gameLine size moves paying) = Unit {0}
+NotNone (roundLine spent kept stem cycle walk) = Unit {0}
+NotNone (noneLine spent kept) = ⊥
+NotNone (noLine r) = Unit {0}
+
+-- Document 02, ticket 1, "The trade counts such a repeat as a round": where a paying state with a move to itself can be reached, the line does not say "none".
+abbrev pub LoopTold : Line → Table → Type 0
+LoopTold l t = AcceptingLoop (graphOf t) → NotNone l
 
 -- The looks that the line of an accepted change tells are right; t is the table as the change finds it.
 abbrev pub LineCounted : Line → Change → Table → Type 0

@@ -1,4 +1,5 @@
--- Document 01, "Games with known results": games A to I, the changes made to them, and the lines printed. Assumes nothing.
+-- Document 01, "Games with known results": games A to I, the changes made to them, and the lines printed. Behind them games that tickets of document 02
+-- bring, worked by hand. Assumes nothing.
 use Prim.Native.Nat.{ℕ, _+_, _^_}
 use mathlib.Core.List.{List, [], _∷_}
 use lib.ListN.{replicate}
@@ -27,6 +28,10 @@ known n paying numbers cs ls = record {
 -- the list lent for the walk is the box's own
 unfoldable pub lent : Change → Call
 lent c = record { change = c; room = 512 }
+
+-- Ticket 1, "though the search may answer another": state 1 pays and returns to itself, and the older way back to 0 is found first
+unfoldable pub returning : Known
+returning = known 2 (1 ∷ []) (0 ∷ 1 ∷ 1 ∷ 0 ∷ 1 ∷ 1 ∷ []) [] (gameLine 2 3 1 ∷ roundLine 4 0 0 2 (0 ∷ 1 ∷ []) ∷ [])
 
 unfoldable pub games : List Known
 games =
@@ -57,4 +62,28 @@ games =
     (gameLine 3 4 2 ∷ roundLine 3 0 0 2 (0 ∷ 1 ∷ []) ∷ roundLine 3 0 0 2 (0 ∷ 2 ∷ []) ∷ roundLine 3 0 0 2 (0 ∷ 2 ∷ []) ∷ [])
     -- I
     ∷ known 3 (0 ∷ 1 ∷ []) (0 ∷ 1 ∷ 1 ∷ 2 ∷ 2 ∷ 1 ∷ []) [] (gameLine 3 3 2 ∷ roundLine 5 0 1 2 (0 ∷ 1 ∷ 2 ∷ []) ∷ [])
+    -- Ticket 1: a paying state that returns to itself
+    ∷ known 1 (0 ∷ []) (0 ∷ 0 ∷ []) [] (gameLine 1 1 1 ∷ roundLine 2 0 0 1 (0 ∷ []) ∷ [])
+    -- one that does not pay
+    ∷ known 1 [] (0 ∷ 0 ∷ []) [] (gameLine 1 1 0 ∷ noneLine 1 0 ∷ [])
+    -- a move to itself on a state of the stem
+    ∷ known 3 (2 ∷ []) (0 ∷ 0 ∷ 0 ∷ 1 ∷ 1 ∷ 2 ∷ 2 ∷ 1 ∷ []) [] (gameLine 3 4 1 ∷ roundLine 5 0 1 2 (0 ∷ 1 ∷ 2 ∷ []) ∷ [])
+    -- on a state of the round
+    ∷ known 2 (0 ∷ []) (0 ∷ 1 ∷ 1 ∷ 1 ∷ 1 ∷ 0 ∷ []) [] (gameLine 2 3 1 ∷ roundLine 6 0 0 2 (0 ∷ 1 ∷ []) ∷ [])
+    -- on the paying state, beside a longer round that is found first
+    ∷ returning
+    -- cut, added, added once more, cut where it is not, and outside
+    ∷ known 2 (1 ∷ []) (0 ∷ 1 ∷ 1 ∷ 1 ∷ [])
+    (cut (1, 1) ∷ add (1, 1) ∷ add (1, 1) ∷ cut (0, 0) ∷ add (0, 0) ∷ cut (0, 1) ∷ add (2, 2) ∷ cut (0, 0) ∷ [])
+    (gameLine 2 2 1
+    ∷ roundLine 3 0 1 1 (0 ∷ 1 ∷ [])
+    ∷ noneLine 0 1
+    ∷ roundLine 2 1 1 1 (0 ∷ 1 ∷ [])
+    ∷ noLine (numbered 8)
+    ∷ noLine (numbered 10)
+    ∷ roundLine 3 0 1 1 (0 ∷ 1 ∷ [])
+    ∷ noneLine 1 0
+    ∷ noLine (numbered 6)
+    ∷ noneLine 0 0
+    ∷ [])
     ∷ []

@@ -1,4 +1,5 @@
--- Document 01, "Turned back": the conditions, each with its sentence, and the order in which they are tried. Assumes nothing.
+-- Document 01, "Turned back": the conditions, each with its sentence, and the order in which they are tried. Document 02, ticket 1: a move from a state
+-- to itself "is .. taken like any other, refusal 7 no longer occurs"; the other numbers stay. Assumes nothing.
 use Prim.Native.Nat.{ℕ, _%_}
 use mathlib.Core.Bool.{Bool, true, false, _&&_, _||_, not}
 use mathlib.Core.List.{List, [], _∷_}
@@ -49,10 +50,6 @@ badCount ns = eqb (length ns % 2) 1 || ltb 4096 (length ns)
 unfoldable pub outside : ℕ → Edge → Bool
 outside n e = leb n (e .0) || leb n (e .1)
 
--- 7. "A move leads from a state to itself."
-unfoldable pub selfLoop : Edge → Bool
-selfLoop e = eqb (e .0) (e .1)
-
 -- 8. "A move to be loaded .. stands twice in the loaded list."
 unfoldable pub repeated : List Edge → Bool
 repeated [] = false
@@ -73,7 +70,7 @@ pub record Load : Type 0 where
   pub words : List ℕ
   pub numbers : List ℕ
 
--- "A load tries 2 to 8 and 11", "each over the whole list before the next"; room is the length of the list lent for the walk
+-- "A load tries 2 to 8 and 11" (7 no more), "each over the whole list before the next"; room is the length of the list lent for the walk
 unfoldable pub loadTrial : Load → ℕ → Trial
 loadTrial l room = firstHeld (
     (2, badSize (l .size))
@@ -81,26 +78,23 @@ loadTrial l room = firstHeld (
     ∷ (4, badMarks (l .size) (l .words))
     ∷ (5, badCount (l .numbers))
     ∷ (6, any (outside (l .size)) (pairs (l .numbers)))
-    ∷ (7, any selfLoop (pairs (l .numbers)))
     ∷ (8, repeated (pairs (l .numbers)))
     ∷ (11, shortRoom (l .size) room)
     ∷ [])
 
--- "an add 6 to 9 and 11"
+-- "an add 6 to 9 and 11" (7 no more)
 unfoldable pub addTrial : Table → Edge → ℕ → Trial
 addTrial t e room = firstHeld (
     (6, outside (t .size) e)
-    ∷ (7, selfLoop e)
     ∷ (8, present (t .edges) e)
     ∷ (9, full (t .edges))
     ∷ (11, shortRoom (t .size) room)
     ∷ [])
 
--- "a cut 6, 7, 10 and 11": 10. "A cut names a move that is not present."
+-- "a cut 6, 7, 10 and 11" (7 no more): 10. "A cut names a move that is not present."
 unfoldable pub cutTrial : Table → Edge → ℕ → Trial
 cutTrial t e room = firstHeld (
     (6, outside (t .size) e)
-    ∷ (7, selfLoop e)
     ∷ (10, not (present (t .edges) e))
     ∷ (11, shortRoom (t .size) room)
     ∷ [])

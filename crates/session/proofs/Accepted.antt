@@ -19,7 +19,7 @@ use Rattle.plain.specs.Claims.{changed}
 use Rattle.plain.proofs.Tests.{either, in-one}
 use Rattle.plain.proofs.Restore.{noted-run}
 use Rattle.plain.proofs.Prefix.{meets-one, unmet-one}
-use Rattle.plain.proofs.Trials.{passed}
+use Rattle.plain.proofs.Trials.{unheld}
 use Rattle.plain.proofs.Rows.{agree}
 use Rattle.plain.proofs.Tables.{Valid, valid, valid-change}
 use Rattle.plain.proofs.Demands.{run-final, verdict-right, change-unmet, change-met}
@@ -72,8 +72,8 @@ changed-words (Cut from to) t = refl
 -- an accepted change's list has room for the walk
 room-enough : (op : Op) (t : Table) (room : ℕ) → changeTrial (changeOf op) t room ≡ accepted → t .size ≤ room
 unfolding changeTrial addTrial cutTrial shortRoom
-room-enough (Add from to) t room e = ltb-false room (t .size) (passed _ _ _ (passed _ _ _ (passed _ _ _ (passed _ _ _ (passed _ _ _ e .1) .1) .1) .1) .0)
-room-enough (Cut from to) t room e = ltb-false room (t .size) (passed _ _ _ (passed _ _ _ (passed _ _ _ (passed _ _ _ e .1) .1) .1) .0)
+room-enough (Add from to) t room e = ltb-false room (t .size) (unheld 3 _ e)
+room-enough (Cut from to) t room e = ltb-false room (t .size) (unheld 2 _ e)
 
 -- what the new records are worth for the changed table
 record Worth (c : Change) (t : Table) (v : Verdict) (a : Records) : Type 0 where

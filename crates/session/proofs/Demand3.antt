@@ -7,11 +7,13 @@ use lib.ListN.{length}
 use Rattle.plain.specs.Table.{Table}
 use Rattle.plain.specs.Refusals.{Trial, Load, accepted, refused, loadTrial}
 use Rattle.plain.specs.Machine.{tableOf, loadAnswer, answerTo, tableAfter, answers, written, Line, answerLine, answerLines}
+use Rattle.plain.specs.Claims.{LoopTold}
 use Rattle.plain.proofs.Answers.{load-told, call-told}
+use Rattle.plain.proofs.Loops.{loop-told}
 use Rattle.session.specs.declared.Answer.{Answer}
 use Rattle.session.specs.declared.Session.{Session}
 use Rattle.session.specs.declared.Outcome.{Outcome}
-use Rattle.session.specs.Promises.{shown, NoRefusal, callIn, Holds, Loads, Changes, Exchange, Served, done, call, CallRight, AllRight, Demand3}
+use Rattle.session.specs.Promises.{shown, NoRefusal, callIn, Holds, Loads, Changes, Exchange, Served, done, call, CallRight, EachCall, AllRight, Demand3, LoopsTold}
 use Rattle.session.proofs.Told.{shown-refused}
 
 -- one call, by its contract alone
@@ -59,3 +61,14 @@ demand-3 l lent r lent′ a y xs w =
       same-answers = same-lines xs (tableOf l) calls;
       calls = calls;
     }
+
+-- Ticket 1: it follows from what is told being true
+pub loops-told : (l : Load) (lent : List ℕ) (r : Outcome) (lent′ : List ℕ) → Loads l lent r lent′ → NoRefusal (r .answer)
+    → (xs : List Exchange) → Served (r .session) xs → LoopsTold l r lent′ xs
+loops-told l lent r lent′ a y xs w =
+    let d = demand-3 l lent r lent′ a y xs w in
+    record { load = loop-told (shown (r .answer) lent′) (tableOf l) (d .load-truth); calls = each xs (tableOf l) (d .calls) }
+  where
+    each : (xs : List Exchange) (t : Table) → AllRight xs t → EachCall (λ x t. LoopTold (shown (x .answered) (x .after)) (tableAfter (callIn x) t)) xs t
+    each [] t h = tt
+    each (x ∷ xs) t h = (loop-told (shown (x .answered) (x .after)) (tableAfter (callIn x) t) (h .0 .truth), each xs (tableAfter (callIn x) t) (h .1))

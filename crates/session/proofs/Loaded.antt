@@ -10,7 +10,7 @@ use Rattle.plain.specs.Table.{Table, searched, final}
 use Rattle.plain.specs.Refusals.{Trial, accepted, refused, Load, loadTrial, shortRoom, pairs}
 use Rattle.plain.specs.Machine.{Answer as PlainAnswer, refusal, numbered, answer, tableOf, loadAnswer, written, answerLine}
 use Rattle.plain.specs.Claims.{Arises, loaded}
-use Rattle.plain.proofs.Trials.{passed}
+use Rattle.plain.proofs.Trials.{unheld}
 use Rattle.plain.proofs.Tables.{Valid, valid}
 use Rattle.plain.proofs.Demands.{verdict-right}
 use Rattle.rows.specs.Change.{Rows}
@@ -58,7 +58,7 @@ module _ (l : Load) (lent : List ℕ) where
 room-enough : (l : Load) (room : ℕ) → loadTrial l room ≡ accepted → l .size ≤ room
 unfolding loadTrial shortRoom
 room-enough l room e =
-    ltb-false room (l .size) (passed _ _ _ (passed _ _ _ (passed _ _ _ (passed _ _ _ (passed _ _ _ (passed _ _ _ (passed _ _ _ (passed _ _ _ e .1) .1) .1) .1) .1) .1) .1) .0)
+    ltb-false room (l .size) (unheld 6 _ e)
 
 -- the records of a search that has met the start state alone
 abbrev pub freshFrom : ℕ → List ℕ → Records

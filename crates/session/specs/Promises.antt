@@ -8,7 +8,7 @@ use Rattle.plain.specs.Search.{Config, outer, nested, exhausted, found, Verdict
 use Rattle.plain.specs.Table.{Table, searched, final}
 use Rattle.plain.specs.Refusals.{Load, accepted, refused, loadTrial}
 use Rattle.plain.specs.Machine.{numbered, loadAnswer, tableOf, Call, answerTo, tableAfter, answers, written, Line, roundLine, noneLine, noLine, answerLine, answerLines}
-use Rattle.plain.specs.Claims.{Arises, LineTrue, LineCounted}
+use Rattle.plain.specs.Claims.{Arises, LineTrue, LineCounted, LoopTold}
 use Rattle.rows.specs.Change.{rowsOf}
 use Rattle.search.specs.Archive.{Begins, Archived}
 use Rattle.session.specs.declared.Answer.{Answer}
@@ -111,10 +111,13 @@ pub record CallRight (x : Exchange) (t : Table) : Type 0 where
   pub counts : LineCounted (shown (x .answered) (x .after)) (callIn x .change) t
   pub truth : LineTrue (shown (x .answered) (x .after)) (tableAfter (callIn x) t)
 
--- each call, on the table that those before it leave
+-- something of each call, on the table that those before it leave
+abbrev pub EachCall : (Exchange → Table → Type 0) → List Exchange → Table → Type 0
+EachCall P [] t = Unit {0}
+EachCall P (x ∷ xs) t = P x t × EachCall P xs (tableAfter (callIn x) t)
+
 abbrev pub AllRight : List Exchange → Table → Type 0
-AllRight [] t = Unit {0}
-AllRight (x ∷ xs) t = CallRight x t × AllRight xs (tableAfter (callIn x) t)
+AllRight = EachCall CallRight
 
 -- DEMAND 3, "a single claim about the whole list": of a load that was accepted, and of every list of calls from its session on.
 pub record Demand3 (l : Load) (lent : List ℕ) (r : Outcome) (lent′ : List ℕ) (xs : List Exchange) : Type 0 where
@@ -124,3 +127,9 @@ pub record Demand3 (l : Load) (lent : List ℕ) (r : Outcome) (lent′ : List �
   -- the answers, one behind the other, are those of the plain table run on the same calls
   pub same-answers : map (λ (x : Exchange). shown (x .answered) (x .after)) xs ≡ answerLines (answers (map callIn xs) (tableOf l))
   pub calls : AllRight xs (tableOf l)
+
+-- Document 02, ticket 1, of the same load and calls: where the table that is then present has a paying state with a move to itself, and it can be reached, no
+-- answer is "none".
+pub record LoopsTold (l : Load) (r : Outcome) (lent′ : List ℕ) (xs : List Exchange) : Type 0 where
+  pub load : LoopTold (shown (r .answer) lent′) (tableOf l)
+  pub calls : EachCall (λ x t. LoopTold (shown (x .answered) (x .after)) (tableAfter (callIn x) t)) xs (tableOf l)

@@ -11,11 +11,11 @@ use borrow.Author.Tests.{ltb-true, leb-false, eqb-true, eqb-false, not-false}
 use Rattle.plain.specs.Lists.{filter, elem, Once}
 use Rattle.plain.specs.Search.{Edge}
 use Rattle.plain.specs.Table.{Table, row}
-use Rattle.plain.specs.Refusals.{accepted, firstHeld, present, outside, full, addTrial, cutTrial, shortRoom, selfLoop}
+use Rattle.plain.specs.Refusals.{accepted, firstHeld, present, outside, full, addTrial, cutTrial, shortRoom}
 use Rattle.plain.specs.Machine.{without, apply, changeTrial}
 use Rattle.plain.proofs.Tests.{either, or-false}
 use Rattle.plain.proofs.Rows.{row-once, row-cut, row-cut-other, without-length, but, but-yes, but-no}
-use Rattle.plain.proofs.Trials.{passed}
+use Rattle.plain.proofs.Trials.{unheld}
 use Rattle.plain.proofs.Tables.{Valid}
 use Rattle.rows.specs.Rows.{rowAt, degreeAt, placeOf, Tabled}
 use Rattle.rows.specs.Change.{Rows}
@@ -35,8 +35,8 @@ filed-tabled (Cut from to) size r r′ e l = removed-lengths size from _ r r′ 
 -- the state that an accepted change names
 pub source-below : (op : Op) (t : Table) (room : ℕ) → changeTrial (changeOf op) t room ≡ accepted → sourceOf op < t .size
 unfolding changeTrial addTrial cutTrial outside
-source-below (Add from to) t room e = leb-false (t .size) from (or-false (leb (t .size) from) (leb (t .size) to) (passed _ _ _ e .0) .0)
-source-below (Cut from to) t room e = leb-false (t .size) from (or-false (leb (t .size) from) (leb (t .size) to) (passed _ _ _ e .0) .0)
+source-below (Add from to) t room e = leb-false (t .size) from (or-false (leb (t .size) from) (leb (t .size) to) (unheld 0 _ e) .0)
+source-below (Cut from to) t room e = leb-false (t .size) from (or-false (leb (t .size) from) (leb (t .size) to) (unheld 0 _ e) .0)
 
 -- ---- the place of an entry of a list
 
@@ -75,14 +75,12 @@ module _ (t : Table) (before : Rows) (f : Filed (t .size) (t .edges) before) whe
   unfolding addTrialIn cutTrialIn changeTrial addTrial cutTrial full
   trial-same (Add from to) room = λ i. firstHeld (
       (6, outside (t .size) (from, to))
-      ∷ (7, selfLoop (from, to))
       ∷ (8, present-here from to i)
       ∷ (9, leb 2048 (f .count-is i))
       ∷ (11, shortRoom (t .size) room)
       ∷ [])
   trial-same (Cut from to) room = λ i. firstHeld (
       (6, outside (t .size) (from, to))
-      ∷ (7, selfLoop (from, to))
       ∷ (10, not (present-here from to i))
       ∷ (11, shortRoom (t .size) room)
       ∷ [])
@@ -101,11 +99,9 @@ module _ (t : Table) (before : Rows) (f : Filed (t .size) (t .edges) before) whe
         → Filed (apply (changeOf op) t .size) (apply (changeOf op) t .edges) rows
     unfolding changeTrial addTrial cutTrial apply full
     refiled valid (Add from to) room e new =
-        let p = passed _ _ _ (passed _ _ _ (passed _ _ _ (passed _ _ _ e .1) .1) .1) in
-        filed-insert (t .size) (t .edges) (from, to) before rows f (source-below (Add from to) t room e) (omega (arith, leb-false 2048 (length (t .edges)) (p .0), f .count-is)) new
+        filed-insert (t .size) (t .edges) (from, to) before rows f (source-below (Add from to) t room e) (omega (arith, leb-false 2048 (length (t .edges)) (unheld 2 _ e), f .count-is)) new
     refiled valid (Cut from to) room e new =
-        let p = passed _ _ _ (passed _ _ _ (passed _ _ _ e .1) .1) in
-        let is : present (t .edges) (from, to) ≡ true = not-false (present (t .edges) (from, to)) (p .0) in
+        let is : present (t .edges) (from, to) ≡ true = not-false (present (t .edges) (from, to)) (unheld 1 _ e) in
         let place : placeOf to (rowAt (before .targets) (before .starts) from) < degreeAt (before .starts) from = ltb-true _ _ (present-here from to ∙ is) in
         let i = removes-edge (t .size) from _ before rows new (f .compressed) (source-below (Cut from to) t room e) place in
         let size : length (rowAt (before .targets) (before .starts) from) ≡ degreeAt (before .starts) from = row-length (before .targets) (before .starts) from in

@@ -16,6 +16,7 @@ use Rattle.plain.specs.Refusals.{badSize, badCount, outside, pairs, sameEdge, p
 use Rattle.plain.proofs.Tests.{contra, not-true, or-first, or-second, or-false, or-neither, none-cons}
 use Rattle.plain.proofs.Edges.{Has, has-head, has-tail, has-cases, has-nil, same-edge, same-self}
 use Rattle.plain.proofs.Rows.{row-nil, row-has, has-row, row-add, row-add-other}
+use Rattle.plain.proofs.Tables.{length-pairs}
 use Rattle.rows.specs.Rows.{rowAt, edgeCount, placeOf}
 use Rattle.rows.specs.Change.{Rows, rowsOf, inserted}
 use Rattle.rows.proofs.Entries.{row-length}
@@ -25,7 +26,7 @@ use Rattle.table.specs.declared.Trial.{Trial}
 use Rattle.table.specs.declared.Trial.the-variants.{Accepted, Refused}
 use Rattle.table.specs.Trials.{tried, earlyTrial, there}
 use Rattle.table.specs.Filing.{Filed, Empty, Limits, FiledAll, Tried}
-use Rattle.table.proofs.Pairs.{moveAt, pairs-more, pairs-end, length-pairs}
+use Rattle.table.proofs.Pairs.{moveAt, pairs-more, pairs-end}
 use Rattle.table.proofs.Trying.{stop, skip, none-held, room-short, room-enough, early-held, Early, early-free}
 
 -- ---- an edge is present exactly when its target has a place in its row

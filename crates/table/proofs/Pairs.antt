@@ -2,16 +2,16 @@
 use mathlib.Core.Path.{_≡_, refl, sym, ap, _∙_}
 use mathlib.Core.Bool.{Bool, true, false, _&&_, _||_}
 use mathlib.Core.List.{List, [], _∷_}
-use Prim.Native.Nat.{ℕ, zero, suc, _+_, _-_, _*_, _≤_, _<_}
+use Prim.Native.Nat.{ℕ, zero, suc, _+_, _-_, _≤_, _<_}
 use native.Mathlib.Omega.{arith}
 use lib.Dec.{leb}
 use lib.ListN.{length, getD, drop, length-drop}
 use lib.Seq.{drop-cons}
-use borrow.Author.Tests.{le-leb, lt-leb, eq-eqb, ne-eqb}
+use borrow.Author.Tests.{le-leb, lt-leb}
 use Rattle.plain.specs.Lists.{any, anyBelow}
 use Rattle.plain.specs.Search.{Edge}
 use Rattle.plain.specs.Table.{accepts}
-use Rattle.plain.specs.Refusals.{pairs, outside, selfLoop}
+use Rattle.plain.specs.Refusals.{pairs, outside}
 use Rattle.plain.proofs.Tests.{or-first, or-second, or-neither, any-head}
 
 -- the move at place i
@@ -36,13 +36,6 @@ short (a ∷ b ∷ ns) h = absurd (omega arith)
 
 pub pairs-end : (ns : List ℕ) (i : ℕ) → length ns ≤ i + 1 → pairs (drop i ns) ≡ []
 pairs-end ns i h = short (drop i ns) (omega (arith, length-drop i ns))
-
--- a move has two numbers
-pub length-pairs : (ns : List ℕ) → 2 * length (pairs ns) ≤ length ns
-unfolding pairs
-length-pairs [] = omega arith
-length-pairs (a ∷ []) = omega arith
-length-pairs (a ∷ b ∷ ns) = omega (arith, length-pairs ns)
 
 -- does a move pass the test? now at place i
 module _ (p : Edge → Bool) (ns : List ℕ) (i : ℕ) where
@@ -75,14 +68,6 @@ module _ (a b : ℕ) where
   pub inside : (n : ℕ) → a < n → b < n → outside n (a, b) ≡ false
   unfolding outside
   inside n h k = or-neither (leb n a) (leb n b) (lt-leb n a h) (lt-leb n b k)
-
-  pub is-loop : a ≡ b → selfLoop (a, b) ≡ true
-  unfolding selfLoop
-  is-loop e = eq-eqb a b e
-
-  pub no-loop : (a ≡ b → ⊥) → selfLoop (a, b) ≡ false
-  unfolding selfLoop
-  no-loop e = ne-eqb a b e
 
 -- does a number below s pass the test?
 module _ (p : ℕ → Bool) where

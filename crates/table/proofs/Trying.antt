@@ -125,10 +125,9 @@ module _ (size start : ℕ) (words numbers : List ℕ) (room : ℕ) where
       let p4 = free 4 _ _ (p3 .1) in
       let p5 = free 5 _ _ (p4 .1) in
       let p6 = free 6 _ _ (p5 .1) in
-      let p7 = free 7 _ _ (p6 .1) in
       record {
         size-ok = p2 .0;
         count-ok = p5 .0;
         inside-ok = p6 .0;
-        rest = λ k h. skip k 2 _ _ (p2 .0) (skip k 3 _ _ (p3 .0) (skip k 4 _ _ (p4 .0) (skip k 5 _ _ (p5 .0) (skip k 6 _ _ (p6 .0) (skip k 7 _ _ (p7 .0) h)))));
+        rest = λ k h. skip k 2 _ _ (p2 .0) (skip k 3 _ _ (p3 .0) (skip k 4 _ _ (p4 .0) (skip k 5 _ _ (p5 .0) (skip k 6 _ _ (p6 .0) h))));
       }

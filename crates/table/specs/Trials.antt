@@ -4,7 +4,7 @@ use mathlib.Core.Bool.{Bool, not}
 use mathlib.Core.List.{List, [], _∷_}
 use lib.Dec.{ltb, leb}
 use Rattle.plain.specs.Lists.{any}
-use Rattle.plain.specs.Refusals.{Trial as PlainTrial, accepted, refused, firstHeld, badSize, badStart, badMarks, badCount, outside, selfLoop, shortRoom, pairs}
+use Rattle.plain.specs.Refusals.{Trial as PlainTrial, accepted, refused, firstHeld, badSize, badStart, badMarks, badCount, outside, shortRoom, pairs}
 use Rattle.rows.specs.Rows.{rowAt, degreeAt, edgeCount, placeOf}
 use Rattle.table.specs.declared.Op.{Op}
 use Rattle.table.specs.declared.Op.the-variants.{Add, Cut}
@@ -16,7 +16,7 @@ abbrev pub tried : PlainTrial → Trial
 tried accepted = Accepted
 tried (refused n) = Refused n
 
--- refusals 2 to 7 of a load
+-- refusals 2 to 6 of a load
 unfoldable pub earlyTrial : ℕ → ℕ → List ℕ → List ℕ → PlainTrial
 earlyTrial size start words numbers = firstHeld (
     (2, badSize size)
@@ -24,7 +24,6 @@ earlyTrial size start words numbers = firstHeld (
     ∷ (4, badMarks size words)
     ∷ (5, badCount numbers)
     ∷ (6, any (outside size) (pairs numbers))
-    ∷ (7, any selfLoop (pairs numbers))
     ∷ [])
 
 -- is the edge in the rows?
@@ -35,7 +34,6 @@ there targets starts from to = ltb (placeOf to (rowAt targets starts from)) (deg
 unfoldable pub addTrialIn : ℕ → List ℕ → List ℕ → ℕ → ℕ → ℕ → PlainTrial
 addTrialIn size targets starts from to room = firstHeld (
     (6, outside size (from, to))
-    ∷ (7, selfLoop (from, to))
     ∷ (8, there targets starts from to)
     ∷ (9, leb 2048 (edgeCount starts size))
     ∷ (11, shortRoom size room)
@@ -44,7 +42,6 @@ addTrialIn size targets starts from to room = firstHeld (
 unfoldable pub cutTrialIn : ℕ → List ℕ → List ℕ → ℕ → ℕ → ℕ → PlainTrial
 cutTrialIn size targets starts from to room = firstHeld (
     (6, outside size (from, to))
-    ∷ (7, selfLoop (from, to))
     ∷ (10, not (there targets starts from to))
     ∷ (11, shortRoom size room)
     ∷ [])

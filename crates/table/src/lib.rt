@@ -2,7 +2,7 @@
 use rows::wide;
 ghost use mathlib.Core.Path.{_≡_};
 ghost use Rattle.plain.specs.Lists.{any};
-ghost use Rattle.plain.specs.Refusals.{badMarks, outside, selfLoop, pairs};
+ghost use Rattle.plain.specs.Refusals.{badMarks, outside, pairs};
 ghost use Rattle.rows.specs.Rows.{Tabled};
 ghost use Rattle.rows.specs.Change.{rowsOf};
 ghost use Rattle.table.specs.Trials.{tried, earlyTrial, there, addTrialIn, cutTrialIn, trialIn};
@@ -63,21 +63,7 @@ fn any_outside(numbers: &[u16], size: u16) -> bool
     false
 }
 
-// Does a move of the list lead from a state to itself?
-fn any_loop(numbers: &[u16]) -> bool
-    ensures { λ r. ⌜ r ≡ any selfLoop (pairs (now (numbers .entry))) ⌝ }
-{
-    let mut i: usize = 0;
-    while i + 1 < numbers.len() {
-        if numbers[i] == numbers[i + 1] {
-            return true;
-        }
-        i += 2;
-    }
-    false
-}
-
-// Refusals 2 to 7 of a load.
+// Refusals 2 to 6 of a load.
 fn early_trial(size: u16, start: u16, words: &[u64; 8], numbers: &[u16]) -> Trial
     ensures { λ r. ⌜ r ≡ tried (earlyTrial size start (now (words .entry)) (now (numbers .entry))) ⌝ }
 {
@@ -101,9 +87,6 @@ fn early_trial(size: u16, start: u16, words: &[u64; 8], numbers: &[u16]) -> Tria
     }
     if any_outside(numbers, size) {
         return Trial::Refused(6);
-    }
-    if any_loop(numbers) {
-        return Trial::Refused(7);
     }
     Trial::Accepted
 }
@@ -170,7 +153,7 @@ fn is_outside(size: u16, from: u16, to: u16) -> bool
     size <= to
 }
 
-// Tries an add: 6 to 9 and 11.
+// Tries an add: 6, 8, 9 and 11.
 fn add_trial(
     size: u16,
     targets: &[u16; 2048],
@@ -185,9 +168,6 @@ fn add_trial(
     if is_outside(size, from, to) {
         return Trial::Refused(6);
     }
-    if from == to {
-        return Trial::Refused(7);
-    }
     if is_there(targets, starts, from, to) {
         return Trial::Refused(8);
     }
@@ -200,7 +180,7 @@ fn add_trial(
     Trial::Accepted
 }
 
-// Tries a cut: 6, 7, 10 and 11.
+// Tries a cut: 6, 10 and 11.
 fn cut_trial(
     size: u16,
     targets: &[u16; 2048],
@@ -214,9 +194,6 @@ fn cut_trial(
 {
     if is_outside(size, from, to) {
         return Trial::Refused(6);
-    }
-    if from == to {
-        return Trial::Refused(7);
     }
     if !is_there(targets, starts, from, to) {
         return Trial::Refused(10);

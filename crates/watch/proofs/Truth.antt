@@ -1,21 +1,25 @@
 -- DEMAND 2 for texts: every line that is printed is true of the table that is then present. Assumes nothing.
-use Prim.Native.Nat.{ℕ}
-use mathlib.Core.Path.{_≡_, refl}
+use Prim.Native.Nat.{ℕ, _<_}
+use mathlib.Core.Path.{_≡_, refl, ap, _∙_}
+use mathlib.Core.Logic.{_≢_}
 use mathlib.Core.Bool.{Bool, true, false, _&&_, cond}
 use mathlib.Core.List.{List, [], _∷_, map}
+use native.Mathlib.Omega.{arith}
 use Rattle.plain.specs.Search.{none, lasso, unfinished}
 use Rattle.plain.specs.Table.{Table}
 use Rattle.plain.specs.Refusals.{Trial, accepted, refused, loadTrial, full}
-use Rattle.plain.specs.Machine.{Change, Answer, refusal, answer, answerLine, loadAnswer, tableOf, Call, trialOf, answerTo, tableAfter, after, apply, Line}
-use Rattle.plain.specs.Claims.{Arises, loaded, changed, LineTrue}
+use Rattle.plain.specs.Machine.{Change, Answer, refusal, answer, answerLine, loadAnswer, tableOf, Call, trialOf, answerTo, tableAfter, after, apply, Line, gameLine, roundLine, noneLine, noLine}
+use Rattle.plain.specs.Claims.{Arises, loaded, changed, LineTrue, NotNone}
+use Rattle.plain.proofs.Trials.{load-never-7}
 use Rattle.plain.proofs.Answers.{load-told, call-told}
+use Rattle.plain.proofs.Loops.{loop-told}
 use Rattle.line.specs.Fields.{linesOf}
 use Rattle.line.specs.Records.{recordOf}
 use Rattle.line.specs.Words.{isWord}
 use Rattle.line.specs.declared.Word.the-variants.{Game, Pay, Move, Go, Add, Cut}
 use Rattle.line.specs.declared.Record.{Record}
-use Rattle.watch.specs.Text.{Draft, Play, playOf, Held, waiting, gathering, playing, ended, Step, empty, room, loadStep, loadOf, changeStep, atFirst, beforeGo, afterGo, step, counted}
-use Rattle.watch.specs.Truth.{AllSay, True}
+use Rattle.watch.specs.Text.{Draft, Play, playOf, Held, waiting, gathering, playing, ended, Step, stop, empty, room, loadStep, loadOf, changeStep, atFirst, beforeGo, afterGo, step, counted}
+use Rattle.watch.specs.Truth.{Verdictless, Says, SaysLoop, All, EachLine, True}
 
 -- the table that is held is one that a session can hold
 abbrev Sound : Held → Type 0
@@ -26,7 +30,7 @@ Sound ended = Unit {0}
 
 -- a step that says what is true, and holds such a table
 abbrev Right : Step → Type 0
-Right u = AllSay (u .lines) (u .next) × Sound (u .next)
+Right u = All (λ l. Says l (u .next)) (u .lines) × Sound (u .next)
 
 cond-right : (b : Bool) (u v : Step) → Right u → Right v → Right (cond b u v)
 cond-right true u v h k = h
@@ -35,16 +39,24 @@ cond-right false u v h k = k
 -- ---- answers
 
 -- an answer is told by at most one line
-lines-true : (t : Table) (a : Answer) → ((l : Line) → answerLine a ≡ l ∷ [] → LineTrue l t) → AllSay (answerLine a) (playing (playOf t))
+lines-true : (t : Table) (a : Answer) → ((l : Line) → answerLine a ≡ l ∷ [] → LineTrue l t) → All (λ l. Says l (playing (playOf t))) (answerLine a)
 unfolding answerLine
-lines-true t (refusal r) h = (tt, tt)
+lines-true t (refusal r) h = (h _ refl, tt)
 lines-true t (answer none spent kept) h = (h _ refl, tt)
 lines-true t (answer (lasso stem cycle) spent kept) h = (h _ refl, tt)
 lines-true t (answer unfinished spent kept) h = tt
 
+-- a number of document 01 that comes before 7
+early : (n : ℕ) → n < 7 → n ≢ 7
+early n h e = omega (arith, h, e)
+
+-- a refusal that ends the run
+stop-right : (n : ℕ) → n ≢ 7 → Right (stop n)
+stop-right n h = ((h, tt), tt)
+
 load-right : (x : Trial) (d : Draft) → loadTrial (loadOf d) room ≡ x → Right (loadStep x d)
 load-right accepted d e = ((tt, lines-true (tableOf (loadOf d)) (loadAnswer accepted (tableOf (loadOf d))) (λ l f. load-told (loadOf d) room l e f)), loaded (loadOf d) room e)
-load-right (refused n) d e = ((tt, tt), tt)
+load-right (refused n) d e = stop-right n (λ z. load-never-7 (loadOf d) room (e ∙ ap refused z))
 
 arises-after : (c : Call) (t : Table) (x : Trial) → trialOf c t ≡ x → Arises t → Arises (after x (apply (c .change) t) t)
 arises-after c t accepted e a = changed t c a e
@@ -60,12 +72,12 @@ change-right c p a =
 
 right : (p : Held) (r : Record) → Sound p → Right (step p r)
 unfolding step atFirst beforeGo afterGo
-right waiting r s = cond-right (isWord (r .word) Game) _ _ (tt, tt) ((tt, tt), tt)
+right waiting r s = cond-right (isWord (r .word) Game) _ _ (tt, tt) (stop-right 1 (early 1 (omega arith)))
 right (gathering d) r s =
     cond-right (isWord (r .word) Pay && empty (d .moves)) _ _ (tt, tt)
-    (cond-right (isWord (r .word) Move) _ _ (cond-right (full (d .moves)) _ _ ((tt, tt), tt) (tt, tt))
-    (cond-right (isWord (r .word) Go) _ _ (load-right (loadTrial (loadOf d) room) d refl) ((tt, tt), tt)))
-right (playing p) r s = cond-right (isWord (r .word) Add) _ _ (change-right _ p s) (cond-right (isWord (r .word) Cut) _ _ (change-right _ p s) ((tt, tt), s))
+    (cond-right (isWord (r .word) Move) _ _ (cond-right (full (d .moves)) _ _ (stop-right 5 (early 5 (omega arith))) (tt, tt))
+    (cond-right (isWord (r .word) Go) _ _ (load-right (loadTrial (loadOf d) room) d refl) (stop-right 1 (early 1 (omega arith)))))
+right (playing p) r s = cond-right (isWord (r .word) Add) _ _ (change-right _ p s) (cond-right (isWord (r .word) Cut) _ _ (change-right _ p s) ((early 1 (omega arith), tt), s))
 right ended r s = (tt, tt)
 
 all-true : (p : Held) (rs : List Record) → Sound p → True p rs
@@ -77,3 +89,29 @@ all-true p (r ∷ rs) s =
 -- DEMAND 2, for every text
 pub text-true : (text : List ℕ) → True waiting (map recordOf (linesOf (counted text)))
 text-true text = all-true waiting (map recordOf (linesOf (counted text))) tt
+
+-- ---- ticket 1, for every text
+
+no-verdict : (l : Line) → Verdictless l → NotNone l
+no-verdict (gameLine size moves paying) h = tt
+no-verdict (roundLine spent kept stem cycle walk) h = tt
+no-verdict (noneLine spent kept) h = h
+no-verdict (noLine r) h = tt
+
+says-loop : (l : Line) (p : Held) → Says l p → SaysLoop l p
+says-loop l waiting h = no-verdict l h
+says-loop l (gathering d) h = no-verdict l h
+says-loop l (playing p) h = loop-told l (p .table) h
+says-loop l ended h = no-verdict l h
+
+all-say-loop : (ls : List Line) (p : Held) → All (λ l. Says l p) ls → All (λ l. SaysLoop l p) ls
+all-say-loop [] p h = tt
+all-say-loop (l ∷ ls) p h = (says-loop l p (h .0), all-say-loop ls p (h .1))
+
+each-says-loop : (p : Held) (rs : List Record) → True p rs → EachLine SaysLoop p rs
+each-says-loop p [] h = tt
+each-says-loop p (r ∷ rs) h = (all-say-loop (step p r .lines) (step p r .next) (h .0), each-says-loop (step p r .next) rs (h .1))
+
+-- where a paying state with a move to itself can be reached, `none` is not printed
+pub text-loops : (text : List ℕ) → EachLine SaysLoop waiting (map recordOf (linesOf (counted text)))
+text-loops text = each-says-loop waiting (map recordOf (linesOf (counted text))) (text-true text)

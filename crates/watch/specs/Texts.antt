@@ -1,4 +1,5 @@
--- Document 01, "Games with known results", as texts: what is sent, and what the box writes. Tabs and newlines as the lead has them. Assumes nothing.
+-- The known games as texts: what is sent, and what the box writes. Tabs and newlines as the lead has them. A to I are document 01's, "Games with known
+-- results"; those behind them come with tickets of document 02. Assumes nothing.
 use Prim.Native.String.{String}
 use mathlib.Core.List.{List, [], _∷_}
 
@@ -53,5 +54,25 @@ games =
     ∷ record {
       sent = "game\t3\t0\npay\t0\npay\t1\nmove\t0\t1\nmove\t1\t2\nmove\t2\t1\ngo\n";
       written = "game\t3\t3\t2\n" ∷ "round\t5\t0\t1\t2\t0\t1\t2\n" ∷ [];
+    }
+    -- Ticket 1: a paying state that returns to itself
+    ∷ record {
+      sent = "game\t1\t0\npay\t0\nmove\t0\t0\ngo\n";
+      written = "game\t1\t1\t1\n" ∷ "round\t2\t0\t0\t1\t0\n" ∷ [];
+    }
+    -- one that does not pay
+    ∷ record {
+      sent = "game\t1\t0\nmove\t0\t0\ngo\n";
+      written = "game\t1\t1\t0\n" ∷ "none\t1\t0\n" ∷ [];
+    }
+    -- beside a longer round that is found first
+    ∷ record {
+      sent = "game\t2\t0\npay\t1\nmove\t0\t1\nmove\t1\t0\nmove\t1\t1\ngo\n";
+      written = "game\t2\t3\t1\n" ∷ "round\t4\t0\t0\t2\t0\t1\n" ∷ [];
+    }
+    -- cut, added, added once more, and cut where it is not
+    ∷ record {
+      sent = "game\t2\t0\npay\t1\nmove\t0\t1\nmove\t1\t1\ngo\ncut\t1\t1\nadd\t1\t1\nadd\t1\t1\ncut\t0\t0\n";
+      written = "game\t2\t2\t1\n" ∷ "round\t3\t0\t1\t1\t0\t1\n" ∷ "none\t0\t1\n" ∷ "round\t2\t1\t1\t1\t0\t1\n" ∷ "no\t8\n" ∷ "no\t10\n" ∷ [];
     }
     ∷ []

@@ -6,7 +6,7 @@ use denote.Ref.{now}
 use borrow.Author.Needs.{needs}
 use borrow.Author.Tests.{le-leb, lt-leb}
 use Rattle.plain.specs.Lists.{any}
-use Rattle.plain.specs.Refusals.{firstHeld, badSize, badStart, badMarks, badCount, outside, selfLoop, pairs}
+use Rattle.plain.specs.Refusals.{firstHeld, badSize, badStart, badMarks, badCount, outside, pairs}
 use Rattle.table.specs.declared.Trial.{Trial}
 use Rattle.table.specs.declared.Trial.the-variants.{Accepted, Refused}
 use Rattle.table.specs.Trials.{tried, earlyTrial}
@@ -50,7 +50,7 @@ returns-4 c =
 
 -- the conditions behind that of the marks decide
 behind : (c : tie.Else4) (k : Trial) → let a = c .before .before .before .before .before .before .args in
-    k ≡ tried (firstHeld ((5, badCount (now (a .numbers))) ∷ (6, any (outside (a .size)) (pairs (now (a .numbers)))) ∷ (7, any selfLoop (pairs (now (a .numbers)))) ∷ []))
+    k ≡ tried (firstHeld ((5, badCount (now (a .numbers))) ∷ (6, any (outside (a .size)) (pairs (now (a .numbers)))) ∷ []))
     → k ≡ tried (earlyTrial (a .size) (a .start) (now (a .words)) (now (a .numbers)))
 unfolding earlyTrial
 behind c k h = let c3 = c .before .before in skip k 2 _ _ (size-ok (c3 .before)) (skip k 3 _ _ (start-ok c3) (skip k 4 _ _ (marks-ok c) h))
@@ -69,21 +69,10 @@ returns-7 c =
     let c6 = c .before .before in
     behind (c6 .before .before) (Refused 6) (skip (Refused 6) 5 _ _ (count-ok c6) (stop 6 _ _ (sym (c .before .any-outside .ensures) ∙ c .if7 .taken)))
 
-any-loop-requires : tie.Need-any-loop-requires
-any-loop-requires c κs = search needs
-
--- the last condition decides
-last : (c : tie.Else7) (k : Trial) → let a = c .before .before .before .before .before .before .before .before .before .before .args in
-    k ≡ tried (firstHeld ((7, any selfLoop (pairs (now (a .numbers)))) ∷ [])) → k ≡ tried (earlyTrial (a .size) (a .start) (now (a .words)) (now (a .numbers)))
-last c k h =
-    let c6 = c .before .before in
-    behind (c6 .before .before) k (skip k 5 _ _ (count-ok c6) (skip k 6 _ _ (sym (c .before .any-outside .ensures) ∙ c .if7 .left) h))
-
 returns-8 : tie.Need-returns-8
-returns-8 c = last (c .before .before) (Refused 7) (stop 7 _ _ (sym (c .before .any-loop .ensures) ∙ c .if8 .taken))
-
-returns-9 : tie.Need-returns-9
-returns-9 c = last (c .before .before) Accepted (skip Accepted 7 _ _ (sym (c .before .any-loop .ensures) ∙ c .if8 .left) none-held)
+returns-8 c =
+    let c6 = c .before .before in
+    behind (c6 .before .before) Accepted (skip Accepted 5 _ _ (count-ok c6) (skip Accepted 6 _ _ (sym (c .before .any-outside .ensures) ∙ c .if7 .left) none-held))
 
 pub early-trial-spec : {M : Type 1} → statement M
 early-trial-spec =
@@ -98,6 +87,4 @@ early-trial-spec =
     returns-6
     any-outside-requires
     returns-7
-    any-loop-requires
-    returns-8
-    returns-9)
+    returns-8)
