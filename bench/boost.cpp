@@ -47,10 +47,10 @@ static bool free_round()
     std::vector<unsigned> members(count), marks(count);
     for (unsigned state = 0; state < size; state++)
         if (colours[state] != boost::white_color) {
-            members[component[state]]++;
+            members[component[state]] += 1u + (unsigned)has(state, state);     // one that returns to itself counts twice
             marks[component[state]] += pays[state];
         }
-    for (unsigned i = 0; i < count; i++)        // no move leads from a state to itself
+    for (unsigned i = 0; i < count; i++)
         if (members[i] > 1 && marks[i])
             return true;
     return false;

@@ -113,7 +113,7 @@ static void load(const struct record *record)
     } else if (is(record, "pay", 1) && a < size) {
         paying += !pays[a];
         pays[a] = 1;
-    } else if (is(record, "move", 2) && a < size && b < size && a != b && edges < MOVES && !has(a, b)) {
+    } else if (is(record, "move", 2) && a < size && b < size && edges < MOVES && !has(a, b)) {
         insert(a, b);
         edges++;
     } else {
@@ -129,8 +129,6 @@ static void change(const struct record *record)
         put_refusal(1);
     } else if (a >= size || b >= size) {
         put_refusal(6);
-    } else if (a == b) {
-        put_refusal(7);
     } else if (adds && has(a, b)) {
         put_refusal(8);
     } else if (adds && edges == MOVES) {

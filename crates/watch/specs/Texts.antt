@@ -65,14 +65,34 @@ games =
       sent = "game\t1\t0\nmove\t0\t0\ngo\n";
       written = "game\t1\t1\t0\n" ∷ "none\t1\t0\n" ∷ [];
     }
-    -- beside a longer round that is found first
+    -- a move to itself on a state of the stem
+    ∷ record {
+      sent = "game\t3\t0\npay\t2\nmove\t0\t0\nmove\t0\t1\nmove\t1\t2\nmove\t2\t1\ngo\n";
+      written = "game\t3\t4\t1\n" ∷ "round\t5\t0\t1\t2\t0\t1\t2\n" ∷ [];
+    }
+    -- on a state of the round
+    ∷ record {
+      sent = "game\t2\t0\npay\t0\nmove\t0\t1\nmove\t1\t1\nmove\t1\t0\ngo\n";
+      written = "game\t2\t3\t1\n" ∷ "round\t6\t0\t0\t2\t0\t1\n" ∷ [];
+    }
+    -- on the paying state, beside a longer round that is found first
     ∷ record {
       sent = "game\t2\t0\npay\t1\nmove\t0\t1\nmove\t1\t0\nmove\t1\t1\ngo\n";
       written = "game\t2\t3\t1\n" ∷ "round\t4\t0\t0\t2\t0\t1\n" ∷ [];
     }
-    -- cut, added, added once more, and cut where it is not
+    -- cut, added, added once more, cut where it is not, and outside
     ∷ record {
-      sent = "game\t2\t0\npay\t1\nmove\t0\t1\nmove\t1\t1\ngo\ncut\t1\t1\nadd\t1\t1\nadd\t1\t1\ncut\t0\t0\n";
-      written = "game\t2\t2\t1\n" ∷ "round\t3\t0\t1\t1\t0\t1\n" ∷ "none\t0\t1\n" ∷ "round\t2\t1\t1\t1\t0\t1\n" ∷ "no\t8\n" ∷ "no\t10\n" ∷ [];
+      sent = "game\t2\t0\npay\t1\nmove\t0\t1\nmove\t1\t1\ngo\ncut\t1\t1\nadd\t1\t1\nadd\t1\t1\ncut\t0\t0\nadd\t0\t0\ncut\t0\t1\nadd\t2\t2\ncut\t0\t0\n";
+      written = "game\t2\t2\t1\n"
+          ∷ "round\t3\t0\t1\t1\t0\t1\n"
+          ∷ "none\t0\t1\n"
+          ∷ "round\t2\t1\t1\t1\t0\t1\n"
+          ∷ "no\t8\n"
+          ∷ "no\t10\n"
+          ∷ "round\t3\t0\t1\t1\t0\t1\n"
+          ∷ "none\t1\t0\n"
+          ∷ "no\t6\n"
+          ∷ "none\t0\t0\n"
+          ∷ [];
     }
     ∷ []
