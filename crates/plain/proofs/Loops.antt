@@ -10,7 +10,7 @@ use Rattle.plain.specs.Cycles.{AcceptingLoop, OneMoveRound}
 use Rattle.plain.specs.Table.{Table, bit, accepts, row, graphOf, budget, final}
 use Rattle.plain.specs.Refusals.{firstHeld, pairs, sameEdge, present, badSize, badStart, badMarks, badCount, outside, repeated, shortRoom, loadTrial}
 use Rattle.plain.specs.Machine.{tableOf, Line, gameLine, roundLine, noneLine, noLine}
-use Rattle.plain.specs.Claims.{Arises, loaded, LineTrue, NotNone, LoopTold}
+use Rattle.plain.specs.Claims.{Arises, loaded, LineTrue, LoopTold}
 use Rattle.plain.specs.Games.{wordOf, known, returning}
 use Rattle.plain.proofs.Tests.{in-head}
 use Rattle.plain.proofs.Demands.{demand-2}

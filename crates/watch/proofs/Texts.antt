@@ -12,9 +12,9 @@ use Rattle.line.specs.Words.{isWord}
 use Rattle.line.specs.Records.{sameBytes, words, wordIn, wordOf, worded, fromFields, recordOf}
 use Rattle.answer.specs.Rendering.{digitsIn, decimal, fieldOf, fieldsOf as printedFields, lineOf, render}
 use Rattle.watch.specs.Text.{flat, atFirst, beforeGo, afterGo, step, printed, wholeLines, counted, outputOf, output}
-use Rattle.watch.specs.Texts.{Dialogue, games}
+use Rattle.watch.specs.Texts.{Dialogue, dialogue, games}
 
 -- one sentence for all games
 pub games-printed : map (λ (x : Dialogue). output (bytes (x .sent))) games ≡ map (λ (x : Dialogue). map bytes (x .written)) games
-unfolding any filter anyBelow elem before from onPath searchStep steps until statesOf stemOf cycleOf verdict bit accepts withBit withMark countBelow acceptingCount row budget final firstMeeting firstHeld pairs sameEdge present badSize badStart badMarks badCount outside repeated full shortRoom loadTrial addTrial cutTrial named tableOf without apply changeTrial kept loadAnswer changeAnswer trialOf answerTo tableAfter answerLine bytes tab newline onFirst parted linesOf fieldsOf all isDigit valueFrom value leadingZero isNumber isWord sameBytes words wordIn wordOf worded fromFields recordOf digitsIn decimal fieldOf printedFields lineOf render flat atFirst beforeGo afterGo step printed wholeLines counted outputOf output games
+unfolding any filter anyBelow elem before from onPath searchStep steps until statesOf stemOf cycleOf verdict bit accepts withBit withMark countBelow acceptingCount row budget final firstMeeting firstHeld pairs sameEdge present badSize badStart badMarks badCount outside repeated full shortRoom loadTrial addTrial cutTrial named tableOf without apply changeTrial kept loadAnswer changeAnswer trialOf answerTo tableAfter answerLine bytes tab newline onFirst parted linesOf fieldsOf all isDigit valueFrom value leadingZero isNumber isWord sameBytes words wordIn wordOf worded fromFields recordOf digitsIn decimal fieldOf printedFields lineOf render flat atFirst beforeGo afterGo step printed wholeLines counted outputOf output dialogue games
 games-printed = refl

@@ -8,91 +8,52 @@ pub record Dialogue : Type 0 where
   pub sent : String
   pub written : List String
 
+unfoldable pub dialogue : String → List String → Dialogue
+dialogue sent written = record { sent = sent; written = written }
+
 unfoldable pub games : List Dialogue
 games =
     -- A
-    record {
-      sent = "game\t4\t0\npay\t2\nmove\t0\t1\nmove\t1\t2\ngo\nadd\t2\t1\nadd\t2\t3\ncut\t1\t2\ncut\t1\t2\nadd\t2\t0\n";
-      written = "game\t4\t2\t1\n" ∷ "none\t2\t0\n" ∷ "round\t2\t2\t1\t2\t0\t1\t2\n" ∷ "round\t3\t2\t1\t2\t0\t1\t2\n" ∷ "none\t0\t1\n" ∷ "no\t10\n" ∷ "none\t0\t1\n" ∷ [];
-    }
+    dialogue "game\t4\t0\npay\t2\nmove\t0\t1\nmove\t1\t2\ngo\nadd\t2\t1\nadd\t2\t3\ncut\t1\t2\ncut\t1\t2\nadd\t2\t0\n"
+    ("game\t4\t2\t1\n" ∷ "none\t2\t0\n" ∷ "round\t2\t2\t1\t2\t0\t1\t2\n" ∷ "round\t3\t2\t1\t2\t0\t1\t2\n" ∷ "none\t0\t1\n" ∷ "no\t10\n" ∷ "none\t0\t1\n" ∷ [])
     -- B
-    ∷ record {
-      sent = "game\t1\t0\ngo\n";
-      written = "game\t1\t0\t0\n" ∷ "none\t0\t0\n" ∷ [];
-    }
+    ∷ dialogue "game\t1\t0\ngo\n" ("game\t1\t0\t0\n" ∷ "none\t0\t0\n" ∷ [])
     -- C
-    ∷ record {
-      sent = "game\t2\t0\npay\t1\nmove\t0\t1\nmove\t1\t0\ngo\n";
-      written = "game\t2\t2\t1\n" ∷ "round\t3\t0\t0\t2\t0\t1\n" ∷ [];
-    }
+    ∷ dialogue "game\t2\t0\npay\t1\nmove\t0\t1\nmove\t1\t0\ngo\n" ("game\t2\t2\t1\n" ∷ "round\t3\t0\t0\t2\t0\t1\n" ∷ [])
     -- D
-    ∷ record {
-      sent = "game\t2\t0\npay\t0\nmove\t0\t1\nmove\t1\t0\ngo\n";
-      written = "game\t2\t2\t1\n" ∷ "round\t4\t0\t0\t2\t0\t1\n" ∷ [];
-    }
+    ∷ dialogue "game\t2\t0\npay\t0\nmove\t0\t1\nmove\t1\t0\ngo\n" ("game\t2\t2\t1\n" ∷ "round\t4\t0\t0\t2\t0\t1\n" ∷ [])
     -- E
-    ∷ record {
-      sent = "game\t2\t0\nmove\t0\t1\nmove\t1\t0\ngo\n";
-      written = "game\t2\t2\t0\n" ∷ "none\t2\t0\n" ∷ [];
-    }
+    ∷ dialogue "game\t2\t0\nmove\t0\t1\nmove\t1\t0\ngo\n" ("game\t2\t2\t0\n" ∷ "none\t2\t0\n" ∷ [])
     -- F
-    ∷ record {
-      sent = "game\t3\t0\npay\t0\nmove\t0\t1\nmove\t1\t2\nmove\t2\t1\ngo\n";
-      written = "game\t3\t3\t1\n" ∷ "none\t6\t0\n" ∷ [];
-    }
+    ∷ dialogue "game\t3\t0\npay\t0\nmove\t0\t1\nmove\t1\t2\nmove\t2\t1\ngo\n" ("game\t3\t3\t1\n" ∷ "none\t6\t0\n" ∷ [])
     -- G
-    ∷ record {
-      sent = "game\t3\t0\npay\t1\nmove\t1\t2\nmove\t2\t1\ngo\n";
-      written = "game\t3\t2\t1\n" ∷ "none\t0\t0\n" ∷ [];
-    }
+    ∷ dialogue "game\t3\t0\npay\t1\nmove\t1\t2\nmove\t2\t1\ngo\n" ("game\t3\t2\t1\n" ∷ "none\t0\t0\n" ∷ [])
     -- H
-    ∷ record {
-      sent = "game\t3\t0\npay\t1\npay\t2\nmove\t0\t1\nmove\t0\t2\nmove\t1\t0\nmove\t2\t0\ngo\ncut\t0\t1\nadd\t0\t1\n";
-      written = "game\t3\t4\t2\n" ∷ "round\t3\t0\t0\t2\t0\t1\n" ∷ "round\t3\t0\t0\t2\t0\t2\n" ∷ "round\t3\t0\t0\t2\t0\t2\n" ∷ [];
-    }
+    ∷ dialogue "game\t3\t0\npay\t1\npay\t2\nmove\t0\t1\nmove\t0\t2\nmove\t1\t0\nmove\t2\t0\ngo\ncut\t0\t1\nadd\t0\t1\n"
+    ("game\t3\t4\t2\n" ∷ "round\t3\t0\t0\t2\t0\t1\n" ∷ "round\t3\t0\t0\t2\t0\t2\n" ∷ "round\t3\t0\t0\t2\t0\t2\n" ∷ [])
     -- I
-    ∷ record {
-      sent = "game\t3\t0\npay\t0\npay\t1\nmove\t0\t1\nmove\t1\t2\nmove\t2\t1\ngo\n";
-      written = "game\t3\t3\t2\n" ∷ "round\t5\t0\t1\t2\t0\t1\t2\n" ∷ [];
-    }
+    ∷ dialogue "game\t3\t0\npay\t0\npay\t1\nmove\t0\t1\nmove\t1\t2\nmove\t2\t1\ngo\n" ("game\t3\t3\t2\n" ∷ "round\t5\t0\t1\t2\t0\t1\t2\n" ∷ [])
     -- Ticket 1: a paying state that returns to itself
-    ∷ record {
-      sent = "game\t1\t0\npay\t0\nmove\t0\t0\ngo\n";
-      written = "game\t1\t1\t1\n" ∷ "round\t2\t0\t0\t1\t0\n" ∷ [];
-    }
+    ∷ dialogue "game\t1\t0\npay\t0\nmove\t0\t0\ngo\n" ("game\t1\t1\t1\n" ∷ "round\t2\t0\t0\t1\t0\n" ∷ [])
     -- one that does not pay
-    ∷ record {
-      sent = "game\t1\t0\nmove\t0\t0\ngo\n";
-      written = "game\t1\t1\t0\n" ∷ "none\t1\t0\n" ∷ [];
-    }
+    ∷ dialogue "game\t1\t0\nmove\t0\t0\ngo\n" ("game\t1\t1\t0\n" ∷ "none\t1\t0\n" ∷ [])
     -- a move to itself on a state of the stem
-    ∷ record {
-      sent = "game\t3\t0\npay\t2\nmove\t0\t0\nmove\t0\t1\nmove\t1\t2\nmove\t2\t1\ngo\n";
-      written = "game\t3\t4\t1\n" ∷ "round\t5\t0\t1\t2\t0\t1\t2\n" ∷ [];
-    }
+    ∷ dialogue "game\t3\t0\npay\t2\nmove\t0\t0\nmove\t0\t1\nmove\t1\t2\nmove\t2\t1\ngo\n" ("game\t3\t4\t1\n" ∷ "round\t5\t0\t1\t2\t0\t1\t2\n" ∷ [])
     -- on a state of the round
-    ∷ record {
-      sent = "game\t2\t0\npay\t0\nmove\t0\t1\nmove\t1\t1\nmove\t1\t0\ngo\n";
-      written = "game\t2\t3\t1\n" ∷ "round\t6\t0\t0\t2\t0\t1\n" ∷ [];
-    }
+    ∷ dialogue "game\t2\t0\npay\t0\nmove\t0\t1\nmove\t1\t1\nmove\t1\t0\ngo\n" ("game\t2\t3\t1\n" ∷ "round\t6\t0\t0\t2\t0\t1\n" ∷ [])
     -- on the paying state, beside a longer round that is found first
-    ∷ record {
-      sent = "game\t2\t0\npay\t1\nmove\t0\t1\nmove\t1\t0\nmove\t1\t1\ngo\n";
-      written = "game\t2\t3\t1\n" ∷ "round\t4\t0\t0\t2\t0\t1\n" ∷ [];
-    }
+    ∷ dialogue "game\t2\t0\npay\t1\nmove\t0\t1\nmove\t1\t0\nmove\t1\t1\ngo\n" ("game\t2\t3\t1\n" ∷ "round\t4\t0\t0\t2\t0\t1\n" ∷ [])
     -- cut, added, added once more, cut where it is not, and outside
-    ∷ record {
-      sent = "game\t2\t0\npay\t1\nmove\t0\t1\nmove\t1\t1\ngo\ncut\t1\t1\nadd\t1\t1\nadd\t1\t1\ncut\t0\t0\nadd\t0\t0\ncut\t0\t1\nadd\t2\t2\ncut\t0\t0\n";
-      written = "game\t2\t2\t1\n"
-          ∷ "round\t3\t0\t1\t1\t0\t1\n"
-          ∷ "none\t0\t1\n"
-          ∷ "round\t2\t1\t1\t1\t0\t1\n"
-          ∷ "no\t8\n"
-          ∷ "no\t10\n"
-          ∷ "round\t3\t0\t1\t1\t0\t1\n"
-          ∷ "none\t1\t0\n"
-          ∷ "no\t6\n"
-          ∷ "none\t0\t0\n"
-          ∷ [];
-    }
+    ∷ dialogue "game\t2\t0\npay\t1\nmove\t0\t1\nmove\t1\t1\ngo\ncut\t1\t1\nadd\t1\t1\nadd\t1\t1\ncut\t0\t0\nadd\t0\t0\ncut\t0\t1\nadd\t2\t2\ncut\t0\t0\n"
+    ("game\t2\t2\t1\n"
+    ∷ "round\t3\t0\t1\t1\t0\t1\n"
+    ∷ "none\t0\t1\n"
+    ∷ "round\t2\t1\t1\t1\t0\t1\n"
+    ∷ "no\t8\n"
+    ∷ "no\t10\n"
+    ∷ "round\t3\t0\t1\t1\t0\t1\n"
+    ∷ "none\t1\t0\n"
+    ∷ "no\t6\n"
+    ∷ "none\t0\t0\n"
+    ∷ [])
     ∷ []
