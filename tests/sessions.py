@@ -13,7 +13,7 @@ import sys
 
 import common
 from common import ROOT, STORED, as_lines, fail, game_a
-from reference import GAMES, MOST_MOVES, MOST_STATES, answer_text, bench_answer
+from reference import GAMES, MOST_MOVES, MOST_STATES, SELF_GAMES, answer_text, bench_answer
 
 
 # ------------------------------------------------------------ one text
@@ -30,7 +30,7 @@ class Text:
 
     def add(self, move):
         self.rows.append("add %d %d" % move)
-        if len(self.moves) < MOST_MOVES and max(move) < self.size and move[0] != move[1]:
+        if len(self.moves) < MOST_MOVES and max(move) < self.size:
             self.moves.setdefault(move)
 
     def cut(self, move):
@@ -39,14 +39,18 @@ class Text:
             del self.moves[move]
             self.last_cut = move
 
+    def switch(self, state):
+        """The state's move to itself comes or goes."""
+        (self.cut if (state, state) in self.moves else self.add)((state, state))
+
     def data(self):
         return b"".join(r + b"\n" if isinstance(r, bytes) else as_lines([r]) for r in self.rows)
 
 
 def some_move(rng, size):
-    """Any move that is not from a state to itself; needs two states."""
-    source, target = rng.randrange(size), rng.randrange(size - 1)
-    return source, target + (target >= source)
+    """Any move; one in ten, and more in a small game, leads from a state to itself."""
+    source = rng.randrange(size)
+    return source, source if rng.random() < 0.1 else rng.randrange(size)
 
 
 def some_moves(rng, size, count):
@@ -57,14 +61,14 @@ def some_moves(rng, size, count):
 
 
 def refused_change(rng, text):
-    """A change that names a state outside, a self-move, a present move to be added or an absent one to be cut."""
+    """A change that names a state outside, a present move to be added or an absent one to be cut."""
     state = rng.randrange(text.size)
     outside = rng.choice((text.size, text.size + 1, 512, 65535))
     kind = rng.randrange(4)
     if kind == 0:
         rng.choice((text.add, text.cut))(rng.choice(((state, outside), (outside, state), (outside, outside))))
-    elif kind == 1 or text.size == 1:
-        rng.choice((text.add, text.cut))((state, state))
+    elif kind == 1:
+        (text.add if (state, state) in text.moves else text.cut)((state, state))
     elif kind == 2 and text.moves:
         text.add(rng.choice(list(text.moves)))
     else:
@@ -78,13 +82,15 @@ def changes(rng, text, count, wanted, closing):
     closed = []
     for _ in range(count):
         dice = rng.random()
-        if dice < 0.10 or text.size == 1:
+        if dice < 0.10:
             refused_change(rng, text)
         elif dice < 0.13:
             text.rows.append(rng.choice(HOSTILE))
-        elif dice < 0.25 and text.last_cut:
+        elif dice < 0.18:
+            text.switch(rng.randrange(text.size))
+        elif dice < 0.28 and text.last_cut:
             text.add(text.last_cut)            # cut and added again: newest now
-        elif dice < 0.45:
+        elif dice < 0.46:
             closed.append(closing())
             text.add(closed[-1])
         elif dice < 0.65 and closed:
@@ -134,8 +140,7 @@ def staged():
 
 def small(rng):
     size = rng.choice((1, 2, 3, 3, 4, 4, 5, 6, 7, 8))
-    most = size * (size - 1)
-    wanted = min(most, int(size * rng.uniform(0.5, 2.2)))
+    wanted = min(size * size, int(size * rng.uniform(0.5, 2.2)))
     density = rng.choice((0.15, 0.3, 0.5, 0.8))
     pays = [s for s in range(size) if rng.random() < density]
     text = Text(size, rng.randrange(size), pays, some_moves(rng, size, wanted))
@@ -143,18 +148,23 @@ def small(rng):
 
 
 def onward(rng, size, moves, count):
-    """A game whose moves lead on in a hidden order, and a closing(): a move that leads back in it."""
+    """A game whose moves lead on in a hidden order, or from a state, seldom a paying one, to itself; and a closing(): a move
+    that leads back in that order, or from a state to itself."""
     order = rng.sample(range(size), size)
+    pays = rng.sample(range(size), rng.randint(1, max(1, size // 16)))
+    spared = pays if rng.random() < 0.8 else []
     some = {}
     while len(some) < moves:
-        at = rng.randrange(size - 1)
-        far = 12 if rng.random() < 0.9 else size
-        some[order[at], order[min(size - 1, at + rng.randint(1, far))]] = None
+        at = rng.randrange(size)
+        dice = rng.random()
+        far = 0 if dice < 0.1 else rng.randint(1, 12 if dice < 0.9 else size)
+        source, target = order[at], order[min(size - 1, at + far)]
+        if source != target or source not in spared:
+            some[source, target] = None
 
     def closing():
-        at = rng.randrange(1, size)
-        return order[at], order[max(0, at - rng.randint(1, 12))]
-    pays = rng.sample(range(size), rng.randint(1, max(1, size // 16)))
+        at = rng.randrange(size)
+        return order[at], order[max(0, at - (rng.randint(1, 12) if rng.random() < 0.8 else 0))]
     text = Text(size, order[0], pays, list(some))
     return changes(rng, text, count, moves, closing).data()
 
@@ -169,14 +179,16 @@ def full(rng):
 
 
 def chain(rng, count=60):
-    """A walk through all 512 states; its last state leads back, to near or far, or not at all."""
+    """A walk through all 512 states, some with a move to themselves; its last state leads back, to near or far, or to
+    itself, or not at all."""
     order = rng.sample(range(512), 512)
     moves = list(zip(order, order[1:]))
-    text = Text(512, order[0], [order[rng.choice((0, 1, 255, 510, 511))]], moves)
+    pays = order[rng.choice((0, 1, 255, 510, 511))]
+    own = [(s, s) for s in rng.sample(order, rng.choice((0, 20, 512))) if s != pays]
+    text = Text(512, order[0], [pays], rng.sample(moves + own, len(moves + own)))
 
     def closing():
-        at = rng.randrange(511) if rng.random() < 0.7 else 0
-        return order[511], order[at]
+        return order[511], order[rng.choice((0, 511, rng.randrange(512), rng.randrange(512)))]
     for _ in range(count):
         dice = rng.random()
         back = [m for m in text.moves if m[0] == order[511]]
@@ -185,8 +197,10 @@ def chain(rng, count=60):
             text.add(broken[0])
         elif back and dice < 0.3:
             text.cut(rng.choice(back))
-        elif dice < 0.85:
+        elif dice < 0.75:
             text.add(closing())
+        elif dice < 0.87:
+            text.switch(rng.choice((pays, rng.choice(order))))
         else:
             text.cut(rng.choice(moves[rng.choice((0, 300, 500)):]))
     return text.data()
@@ -204,7 +218,7 @@ def hostile(rng):
 
 def refused(rng):
     """A load with one or two faults."""
-    size = rng.randint(2, 8)
+    size = rng.randint(1, 8)
     moves = some_moves(rng, size, rng.randint(0, size))
     start, pays = rng.randrange(size), [rng.randrange(size)]
     for _ in range(rng.randint(1, 2)):
@@ -219,11 +233,12 @@ def refused(rng):
         elif fault == 3:
             moves.insert(at, rng.choice(((0, size), (size, 0), (65535, 65535))))
         elif fault == 4:
-            moves.insert(at, (1, 1))
+            moves.insert(at, (0, 0))
+            moves.insert(rng.randint(0, len(moves)), (0, 0))
         elif moves:
             moves.insert(at, rng.choice(moves))
     text = Text(size, start, pays)
-    text.rows[-1:] = ["move %d %d" % m for m in moves] + ["go", "add 0 1", "add 1 0"]
+    text.rows[-1:] = ["move %d %d" % m for m in moves] + ["go", "add 0 1", "add 1 0", "add 0 0"]
     return text.data()
 
 
@@ -238,13 +253,15 @@ def many(rng):
     size = rng.choice((64, 512))
     moves = some_moves(rng, size, rng.randint(2046, 2050))
     for _ in range(rng.choice((0, 0, 1))):
-        moves[rng.randrange(len(moves))] = rng.choice(((0, 0), (size, 1), moves[5], moves[-1]))
+        moves[rng.randrange(len(moves))] = rng.choice(((0, 0), (size, 1), (size, size), moves[5], moves[-1]))
     text = Text(size, rng.randrange(size), rng.sample(range(size), rng.choice((0, 3))), moves)
     for _ in range(6):
         text.add(rng.choice(moves))
         text.add(some_move(rng, size))
         text.cut(some_move(rng, size))
         text.cut(rng.choice(moves))
+        state = rng.randrange(size)
+        rng.choice((text.add, text.cut))((state, state))
     return text.data()
 
 
@@ -257,10 +274,25 @@ def session(seed, kind):
 
 # ------------------------------------------------------- stored sessions
 
-def full_table(rows):
-    """64 states and 2,048 moves, then these rows."""
-    moves = [(a, b) for a in range(64) for b in range(64) if a != b][:MOST_MOVES]
-    text = Text(64, 0, [63, 0], moves)
+def known(game):
+    """A game of the reference with its changes."""
+    _, size, pays, moves, _, calls = game
+    text = Text(size, 0, pays, moves)
+    text.rows += ["%s %d %d" % call[:3] for call in calls]
+    return text.data()
+
+
+def full_table(rows, last=()):
+    """64 states and 2,048 moves, these the last of them; then these rows."""
+    moves = [(a, b) for a in range(64) for b in range(64) if a != b][:MOST_MOVES - len(last)]
+    text = Text(64, 0, [63, 0], moves + list(last))
+    text.rows += rows
+    return text.data()
+
+
+def self_moves(pays, others, rows):
+    """512 states, each with a move to itself, and these other moves; then these rows."""
+    text = Text(MOST_STATES, 0, pays, [(s, s) for s in range(MOST_STATES)] + others)
     text.rows += rows
     return text.data()
 
@@ -274,10 +306,10 @@ def longest_walk():
 
 def stored():
     """Name and text of each stored session."""
-    for name, size, pays, moves, _, calls in GAMES:
-        text = Text(size, 0, pays, moves)
-        text.rows += ["%s %d %d" % call[:3] for call in calls]
-        yield "game-" + name.lower(), text.data()
+    for game in GAMES:
+        yield "game-" + game[0].lower(), known(game)
+    for game in SELF_GAMES:
+        yield game[0], known(game)
     yield "states-512", as_lines(["game 512 0", "pay 511", "move 0 511", "go", "add 511 0", "add 512 0", "cut 511 0"])
     yield "states-513", as_lines(["game 513 0", "pay 511", "move 0 511", "go", "add 511 0"])
     yield "start-511", as_lines(["game 512 511", "pay 511", "move 511 0", "move 0 511", "go", "cut 0 511", "add 0 511",
@@ -286,22 +318,32 @@ def stored():
     yield "moves-2048", full_table(["add 0 1", "add 63 62", "cut 63 62", "cut 0 1", "add 63 62", "add 0 1", "cut 5 6",
                                     "add 5 6", "add 5 6", "add 63 0"])
     yield "moves-2049", full_table([]).replace(b"go\n", b"move\t63\t62\ngo\nadd\t0\t1\n")
+    yield "self-move-2048", full_table(
+        ["add 0 1", "add 63 63", "add 63 62", "add 62 62", "cut 63 62", "cut 62 62", "cut 63 63", "add 62 62", "add 63 63",
+         "cut 0 1", "add 63 63", "add 0 1", "cut 62 62", "add 0 1", "add 0 1", "cut 5 6", "add 5 6", "add 64 64",
+         "cut 63 63", "add 0 0", "add 63 63"], [(63, 63)])
+    yield "self-move-2049", full_table([], [(63, 63)]).replace(b"go\n", b"move\t62\t62\ngo\nadd\t0\t1\n")
+    yield "self-moves-512", self_moves(
+        [255, 511], [],
+        ["add 0 511", "cut 511 511", "add 511 511", "add 511 511", "cut 0 0", "cut 0 0", "add 512 512", "cut 255 255",
+         "add 511 255", "add 255 255", "cut 511 511", "add 255 0", "add 0 0"])
     yield "longest-walk", longest_walk()
     yield "hostile-lines", STAGES[4] + b"".join(line + b"\n" for line in HOSTILE) + b"cut\t0\t1"
-    yield "refused-4", as_lines(["game 2 1", "pay 2", "move 0 0", "move 9 9", "go", "add 0 1"])
+    yield "refused-4", as_lines(["game 2 1", "pay 2", "move 0 0", "move 0 0", "move 9 9", "go", "add 0 1"])
     yield "refused-6", as_lines(["game 2 1", "move 0 1", "move 0 1", "move 0 0", "move 9 9", "go", "add 0 1"])
-    yield "refused-7", as_lines(["game 2 1", "move 0 1", "move 0 1", "move 0 0", "go", "add 0 1"])
     yield "refused-8", as_lines(["game 2 1", "move 0 1", "move 1 0", "move 0 1", "go", "add 0 1"])
+    yield "self-move-twice", as_lines(["game 2 1", "move 0 0", "move 1 0", "move 0 0", "go", "add 0 1"])
     yield "ends-before-go", as_lines(["game 513 600", "pay 511", "move 0 0", "move 0 0"])
-    yield "random-small", session(12, "small")
-    yield "random-mid", session(1, "mid")
-    yield "random-mid-changes", session(7, "mid")
-    yield "random-full", session(2, "full")
-    yield "random-chain", chain(random.Random(1), 16)
+    yield "random-small", session(96, "small")
+    yield "random-mid", session(165, "mid")
+    yield "random-mid-changes", session(207, "mid")
+    yield "random-full", session(7, "full")
+    yield "random-chain", chain(random.Random(3), 16)
 
 
 SEPARATOR = b"\x1e"                            # parts the texts that crates/texts is run on
-TOO_LONG = {"random-full", "random-chain"}     # it holds 65,536 bytes of input
+# It holds 65,536 bytes of input. What moves-2048 and moves-2049 ask is asked in self-move-2048 and self-move-2049 too.
+TOO_LONG = {"random-full", "random-chain", "moves-2048", "moves-2049", "self-moves-512"}
 
 
 def bundle():

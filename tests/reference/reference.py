@@ -1,13 +1,15 @@
 #!/usr/bin/env python3
 """The plain table with its plain search, and the lines on the lead.
 
-Written from the paper alone. After every accepted call the whole search is
-run afresh on the table; nothing is remembered from one run to the next.
+Written from the papers alone. After every accepted call the whole search is
+run afresh on the table; nothing is remembered from one run to the next. A move
+from a state to itself is taken like any other; there is no refusal 7.
 
     python3 reference.py --selftest      run the tests of this file
     python3 reference.py < text          answer a whole input text
 """
 
+import itertools
 import random
 import sys
 
@@ -166,8 +168,6 @@ class Table:
         if any(n >= size for n in numbers):
             return 6
         moves = pairs(numbers)
-        if any(a == b for a, b in moves):
-            return 7
         if len(set(moves)) < len(moves):
             return 8
         if room < size:
@@ -175,11 +175,7 @@ class Table:
         return 0
 
     def _change_refusal(self, a, b):
-        if a >= self.size or b >= self.size:
-            return 6
-        if a == b:
-            return 7
-        return 0
+        return 6 if a >= self.size or b >= self.size else 0
 
     def _answer(self, left):
         """left: the state that the changed move leaves; None after a load."""
@@ -334,6 +330,78 @@ GAMES = [
     ("I", 3, [0, 1], F_MOVES, ("round", 5, 0, [0], [1, 2]), []),
 ]
 
+# The same for moves from a state to itself, worked by hand.
+SELF_GAMES = [
+    ("self-alone", 1, [0], [(0, 0)], ("round", 2, 0, [], [0]), [
+        ("cut", 0, 0, ("none", 0, 0)),
+        ("cut", 0, 0, ("no", 10)),
+        ("add", 0, 0, ("round", 2, 0, [], [0])),
+        ("add", 0, 0, ("no", 8)),
+        ("add", 0, 1, ("no", 6)),
+        ("cut", 1, 1, ("no", 6)),
+    ]),
+    ("self-none", 1, [], [(0, 0)], ("none", 1, 0), [
+        ("cut", 0, 0, ("none", 0, 0)),
+        ("add", 0, 0, ("none", 1, 0)),
+    ]),
+    ("self-stem", 3, [2], [(0, 0), (0, 1), (1, 2), (2, 1)],
+     ("round", 5, 0, [0], [1, 2]), [
+        ("cut", 0, 0, ("round", 4, 0, [0], [1, 2])),
+        ("add", 0, 0, ("round", 4, 0, [0], [1, 2])),
+        ("cut", 2, 1, ("none", 1, 2)),
+    ]),
+    ("self-round", 3, [2], [(0, 1), (1, 1), (1, 2), (2, 0)],
+     ("round", 5, 0, [], [0, 1, 2]), [
+        ("cut", 1, 1, ("round", 3, 1, [], [0, 1, 2])),
+        ("add", 2, 2, ("round", 3, 2, [], [0, 1, 2])),
+        ("cut", 2, 0, ("round", 2, 2, [0, 1], [2])),
+        ("add", 2, 0, ("round", 3, 2, [0, 1], [2])),
+    ]),
+    ("self-inner", 2, [0], [(0, 1), (1, 1), (1, 0)],
+     ("round", 6, 0, [], [0, 1]), [
+        ("cut", 1, 0, ("none", 3, 1)),
+        ("add", 0, 0, ("round", 6, 0, [], [0])),
+    ]),
+    ("self-longer", 3, [0, 1], [(0, 0), (0, 1), (1, 2), (2, 1)],
+     ("round", 6, 0, [0], [1, 2]), [
+        ("cut", 2, 1, ("round", 2, 3, [], [0])),
+        ("cut", 0, 0, ("none", 4, 0)),
+        ("add", 2, 2, ("none", 4, 2)),
+        ("add", 1, 1, ("round", 6, 1, [0], [1])),
+    ]),
+    ("self-newest", 3, [1, 2], [(0, 1), (0, 2), (1, 1), (2, 2)],
+     ("round", 3, 0, [0], [1]), [
+        ("cut", 0, 1, ("round", 3, 0, [0], [2])),
+        ("add", 0, 1, ("round", 3, 0, [0], [2])),
+        ("cut", 2, 2, ("round", 3, 1, [0], [1])),
+        ("add", 2, 2, ("round", 2, 1, [0], [2])),
+    ]),
+    ("self-unmet", 2, [1], [(0, 0), (1, 1)], ("none", 1, 0), [
+        ("cut", 1, 1, ("none", 0, 1)),
+        ("add", 1, 1, ("none", 0, 1)),
+        ("cut", 0, 0, ("none", 0, 0)),
+        ("add", 0, 1, ("round", 3, 0, [0], [1])),
+        ("add", 0, 0, ("round", 3, 0, [0], [1])),
+        ("cut", 1, 1, ("none", 1, 1)),
+    ]),
+    ("self-moves", 3, [1], [(0, 1), (1, 1), (1, 2)],
+     ("round", 4, 0, [0], [1]), [
+        ("add", 1, 1, ("no", 8)),
+        ("cut", 1, 1, ("none", 2, 1)),
+        ("cut", 1, 1, ("no", 10)),
+        ("add", 2, 2, ("none", 3, 2)),
+        ("add", 1, 1, ("round", 6, 1, [0], [1])),
+        ("add", 3, 3, ("no", 6)),
+        ("cut", 3, 3, ("no", 6)),
+        ("cut", 0, 0, ("no", 10)),
+        ("add", 0, 0, ("round", 7, 0, [0], [1])),
+        ("add", 0, 0, ("no", 8)),
+        ("cut", 0, 1, ("none", 1, 0)),
+        ("cut", 1, 1, ("none", 0, 1)),
+        ("cut", 0, 0, ("none", 0, 0)),
+    ]),
+]
+
 
 def flat(moves):
     return [n for move in moves for n in move]
@@ -394,6 +462,15 @@ def told_search(size, start, pays, moves):
     return looks, met, walk
 
 
+def pays_again(table):
+    """By brute force: whether a reachable paying state has a move to itself."""
+    reached, before = {table.start}, 0
+    while before < len(reached):
+        before = len(reached)
+        reached |= {b for a, b in table.moves if a in reached}
+    return any(table.pays[s] and (s, s) in table.moves for s in reached)
+
+
 def check_run(table):
     run = table.run
     game = (table.size, table.start, table.pays, table.moves)
@@ -410,7 +487,7 @@ def check_run(table):
 
 
 def test_games():
-    for name, size, pay, moves, first, changes in GAMES:
+    for name, size, pay, moves, first, changes in GAMES + SELF_GAMES:
         table = Table()
         assert table.load(size, 0, words_of(pay), flat(moves), size) == first, name
         check_run(table)
@@ -457,10 +534,17 @@ def test_lines():
     says("game 2 0|pay 511|go", "no 4|")
     says("game 2 0|pay 512|go", "no 1|")
     says("game 2 0|move 0 2|go", "no 6|")
-    says("game 2 0|move 1 1|go", "no 7|")
+    says("game 2 0|move 2 2|go", "no 6|")
     says("game 2 0|move 1 1|move 0 2|go", "no 6|")
-    says("game 2 0|move 0 1|move 0 1|move 1 1|go", "no 7|")
+    says("game 2 0|move 1 1|move 1 1|move 0 2|go", "no 6|")
+    says("game 2 0|move 1 1|go", "game 2 1 0|none 0 0|")
+    says("game 2 1|move 1 1|go", "game 2 1 0|none 1 0|")
+    says("game 2 1|pay 1|move 1 1|go", "game 2 1 1|round 2 0 0 1 1|")
+    says("game 2 0|move 0 1|move 0 1|move 1 1|go", "no 8|")
+    says("game 2 0|move 1 1|move 0 1|move 1 1|go", "no 8|")
     says("game 2 0|move 0 1|move 0 1|go", "no 8|")
+    says("game 1 0|pay 0|move 0 0|go", "game 1 1 1|round 2 0 0 1 0|")
+    says("game 1 0|move 0 0|go", "game 1 1 0|none 1 0|")
     says("game 2 0|pay 1|pay 1|go", "game 2 0 1|none 0 0|")
     for bad in ("pay 1|game 2 0", "go", "add 0 1", "game 2", "game 2 0 ", "game 2  0",
                 "game 02 0", "game 2 00", "game 65536 0", "game 100000 0", "Game 2 0",
@@ -472,15 +556,18 @@ def test_lines():
     head, heard = "game 2 0|go|", "game 2 0 0|none 0 0|"
     says(head + "add 0 1|go|pay 1|move 0 1||add 0 01|add  1|add 0 1 |add 0|cut 65536 0|cut 0 1",
          heard + "none 1 0|" + "no 1|" * 9 + "none 0 0|")
-    says(head + "add 0 2|add 2 2|add 1 1|cut 65535 0|cut 0 0|cut 0 1",
-         heard + "no 6|no 6|no 7|no 6|no 7|no 10|")
+    says(head + "add 0 2|add 2 2|cut 65535 0|cut 2 2|cut 0 0|cut 0 1|add 1 1|add 1 1|add 0 0|cut 1 1",
+         heard + "no 6|no 6|no 6|no 6|no 10|no 10|none 0 0|no 8|none 1 0|none 0 1|")
     says(head + "x" * 32 + "|" + "x" * 33 + "|" + "x" * 1000, heard + "no 1|" * 3)
-    full = [(a, b) for a in range(64) for b in range(64) if a != b][:2048]
+    full = [(a, b) for a in range(64) for b in range(64)][:2047] + [(63, 63)]
     load = "game 64 0|" + "".join("move %d %d|" % m for m in full)
     search = plain_search(64, 0, [False] * 64, full)
     said = "game 64 2048 0|none %d 0|" % len(search.looks)
-    says(load + "go|add 0 1|add 63 62|", said + "no 8|no 9|")
+    says(load + "go|add 0 1|add 63 63|add 63 62|add 62 62|cut 62 62|",
+         said + "no 8|no 8|no 9|no 9|no 10|")
     says(load + "move 63 62|go", "no 5|")
+    says(load + "move 62 62|go", "no 5|")
+    says(load + "move 63 63|go", "no 5|")
     says(load + "move 9999 62|go", "no 5|")
     says(load + "move 62|go", "no 1|")
     says(load.replace("game 64 0", "game 64 64") + "move 63 62|go", "no 5|")
@@ -495,50 +582,80 @@ def test_refusals():
         (3, (2, 2, mark, [9, 9, 9], 0)), (4, (2, 1, mark, [9, 9, 9], 0)),
         (5, (2, 1, none, [9, 9, 9], 0)), (5, (2, 1, none, [9] * 4098, 0)),
         (6, (2, 1, none, [0, 1, 0, 1, 1, 1, 0, 2], 0)),
-        (7, (2, 1, none, [0, 1, 0, 1, 1, 1], 0)),
-        (8, (2, 1, none, [0, 1, 0, 1], 0)), (11, (2, 1, none, [0, 1], 1)),
+        (6, (2, 1, none, [1, 1, 1, 1, 2, 2], 0)),
+        (8, (2, 1, none, [0, 1, 0, 1, 1, 1], 0)), (8, (2, 1, none, [1, 1, 0, 1, 1, 1], 0)),
+        (11, (2, 1, none, [0, 1], 1)), (11, (2, 1, none, [1, 1], 1)),
     ]
     for number, args in cases:
         assert t.load(*args) == ("no", number), (number, args)
         assert not t.loaded
-    full = [(a, b) for a in range(512) for b in range(4, 9) if a != b][:2048]
+    full = [(a, b) for a in range(4, 512) for b in range(4, 9)][:2048]
+    assert full[0] == (4, 4)
     assert t.load(512, 511, none, flat(full), 512)[0] == "none"
-    assert t.add(512, 512, 0) == t.add(0, 512, 0) == t.cut(512, 0, 0) == ("no", 6)
-    assert t.add(4, 4, 0) == t.cut(4, 4, 0) == ("no", 7)
-    assert t.add(*full[0], 0) == ("no", 8)
-    assert t.add(511, 0, 0) == ("no", 9)
-    assert t.cut(511, 0, 0) == ("no", 10)
-    assert t.cut(*full[0], 511) == ("no", 11) and t.moves == full
-    assert t.cut(*full[0], 512)[0] == "none" and t.moves == full[1:]
-    assert t.add(*full[0], 511) == ("no", 11) and t.moves == full[1:]
-    assert t.add(*full[0], 512)[0] == "none" and t.moves == full[1:] + full[:1]
+    assert t.add(512, 512, 0) == t.add(0, 512, 0) == ("no", 6)
+    assert t.cut(512, 512, 0) == t.cut(512, 0, 0) == ("no", 6)
+    assert t.add(4, 4, 0) == t.add(4, 5, 0) == ("no", 8)
+    assert t.add(511, 511, 0) == t.add(511, 0, 0) == ("no", 9)
+    assert t.cut(511, 511, 0) == t.cut(511, 0, 0) == ("no", 10)
+    assert t.cut(4, 4, 511) == t.cut(4, 5, 511) == ("no", 11) and t.moves == full
+    assert t.cut(4, 4, 512)[0] == "none" and t.moves == full[1:]
+    assert t.add(4, 4, 511) == t.add(511, 0, 511) == ("no", 11) and t.moves == full[1:]
+    assert t.add(4, 4, 512)[0] == "none" and t.moves == full[1:] + full[:1]
+    assert t.cut(4, 5, 512)[0] == "none" and t.moves == full[2:] + full[:1]
+    assert t.add(511, 511, 512) == ("none", 1, 0)
+    assert t.moves == full[2:] + full[:1] + [(511, 511)]
+
+
+def test_every_call():
+    """Up to two moves between up to two states, with every fault: 7 never comes. The other
+    numbers do, but for 9, which needs a full table."""
+    heard = set()
+    pays = [], [0], [1], [0, 1], [2]
+    lists = [list(n) for count in range(6) for n in itertools.product(range(3), repeat=count)]
+    for size, start, pay, numbers in itertools.product(range(3), range(3), pays, lists):
+        for room in range(3):
+            t = Table()
+            heard.add(t.load(size, start, words_of(pay), numbers, room)[:2])
+        if not t.loaded:
+            continue
+        check_run(t)
+        for a, b, room in itertools.product(range(3), range(3), (0, 2)):
+            for call in (t.cut, t.cut, t.add, t.add):
+                heard.add(call(a, b, room)[:2])
+                check_run(t)
+    assert {number for word, number in heard if word == "no"} == {2, 3, 4, 5, 6, 8, 10, 11}
 
 
 def test_random():
     rng = random.Random(7)
-    seen = {"none": 0, "round": 0}
-    for _ in range(1500):
+    seen = {"none": 0, "round": 0, "length 1": 0, "another": 0, "about a self-move": 0}
+
+    def check(t, answer):
+        check_run(t)
+        seen[answer[0]] += 1
+        if pays_again(t):
+            assert answer[0] == "round", (t.size, t.start, t.pays, t.moves)
+            seen["length 1" if len(answer[4]) == 1 else "another"] += 1
+
+    for _ in range(2000):
         size = rng.randint(1, 8)
-        every = [(a, b) for a in range(size) for b in range(size) if a != b]
+        every = [(a, b) for a in range(size) for b in range(size)]
         rng.shuffle(every)
         moves = every[:rng.randint(0, min(len(every), 2 * size))]
         pay = [s for s in range(size) if rng.random() < 0.35]
         t = Table()
-        answer = t.load(size, rng.randrange(size), words_of(pay), flat(moves), size)
-        check_run(t)
-        seen[answer[0]] += 1
+        check(t, t.load(size, rng.randrange(size), words_of(pay), flat(moves), size))
         for _ in range(10):
-            if not every:
-                break
-            a, b = rng.choice(t.moves if t.moves and rng.random() < 0.6 else every)
+            a, b = rng.choice(t.moves if t.moves and rng.random() < 0.5 else every)
             before = t.run.looks
             answer = (t.cut if (a, b) in t.moves else t.add)(a, b, size)
-            check_run(t)
-            seen[answer[0]] += 1
+            check(t, answer)
+            seen["about a self-move"] += a == b
             # up to the changed state both runs are one and the same
             assert before[:answer[2]] == t.run.looks[:answer[2]]
             assert answer[1] + answer[2] == len(t.run.looks)
-    assert min(seen.values()) > 2000, seen
+    assert min(seen["none"], seen["round"], seen["about a self-move"]) > 4000, seen
+    assert min(seen["length 1"], seen["another"]) > 700, seen
 
 
 def selftest():
@@ -546,6 +663,7 @@ def selftest():
     test_game_a_as_printed()
     test_lines()
     test_refusals()
+    test_every_call()
     test_random()
     print("ok")
 

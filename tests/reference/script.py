@@ -10,16 +10,17 @@
 KIND is games, edges, small, full, or all (the four as one script, one end).
 """
 
+import itertools
 import random
 import struct
 import sys
 from collections import Counter
 
 import reference
-from reference import Table, flat, words_of
+from reference import Table, flat, pairs, words_of
 
 LENT = 600
-LIMITS = {"games": 2500, "edges": 28000, "small": 20000, "full": 13500}   # bytes
+LIMITS = {"games": 5100, "edges": 28800, "small": 16600, "full": 13500}   # bytes
 assert sum(LIMITS.values()) <= 64000
 
 
@@ -74,12 +75,14 @@ class Script:
         self.numbers = []
         self.table = Table()
         self.answers = []
+        self.own = []                           # of each answer, whether its call named a self-move
 
-    def _said(self, answer, want):
+    def _said(self, answer, moves, want):
         if want is not None:
             got = answer[1] if answer[0] == "no" else answer[0]
             assert got == want, (got, want)
         self.answers.append(answer)
+        self.own.append(any(a == b for a, b in moves))
         return answer
 
     def load(self, size, start, pay, numbers, room=None, want=None):
@@ -89,13 +92,14 @@ class Script:
         self.numbers += [1, size, start]
         self.numbers += [w >> (16 * i) & 0xFFFF for w in words for i in range(4)]
         self.numbers += [len(numbers), *numbers, room]
-        return self._said(self.table.load(size, start, words, numbers, room), want)
+        answer = self.table.load(size, start, words, numbers, room)
+        return self._said(answer, pairs(numbers), want)
 
     def change(self, word, a, b, room=None, want=None):
         assert self.table.loaded
         room = self.table.size if room is None else room
         self.numbers += [2 if word == "add" else 3, a, b, room]
-        return self._said(getattr(self.table, word)(a, b, room), want)
+        return self._said(getattr(self.table, word)(a, b, room), [(a, b)], want)
 
     def add(self, a, b, room=None, want=None):
         return self.change("add", a, b, room, want)
@@ -112,7 +116,7 @@ class Script:
 
 
 def make_games(s, rng):
-    for name, size, pay, moves, first, changes in reference.GAMES:
+    for name, size, pay, moves, first, changes in reference.GAMES + reference.SELF_GAMES:
         for room in (size - 1, size):          # refused with 11, then accepted
             answer = s.load(size, 0, pay, flat(moves), room)
             assert answer == (("no", 11) if room < size else first), name
@@ -120,20 +124,24 @@ def make_games(s, rng):
             assert s.change(word, a, b) == wanted, name
         s.add(size, 0, want=6)
         s.cut(0, size, want=6)
-        s.add(0, 0, want=7)
-        s.cut(0, 0, want=7)
         if moves:
             s.add(*s.table.moves[-1], want=8)
             s.cut(*s.table.moves[0], room=size - 1, want=11)
             s.cut(*s.table.moves[0], room=LENT)
+        for word in ("cut", "add") if (0, 0) in s.table.moves else ("add", "cut"):
+            s.change(word, 0, 0, room=size - 1, want=11)
+            s.change(word, 0, 0)
+            s.change(word, 0, 0, want=8 if word == "add" else 10)
 
 
-def distinct_moves(rng, size, count, banned=()):
+def distinct_moves(rng, size, count, banned=(), share=0.1):
+    """share: how many of the drawn moves lead from a state to itself."""
     moves = set(banned)
     out = []
     while len(out) < count:
-        a, b = rng.randrange(size), rng.randrange(size)
-        if a != b and (a, b) not in moves:
+        a = rng.randrange(size)
+        b = a if rng.random() < share else rng.randrange(size)
+        if (a, b) not in moves:
             moves.add((a, b))
             out.append((a, b))
     return out
@@ -142,12 +150,10 @@ def distinct_moves(rng, size, count, banned=()):
 def make_edges(s, rng):
     # the count of states
     s.load(1, 0, [], [], want="none")
-    s.add(0, 0, want=7)
     s.add(0, 1, want=6)
     s.cut(1, 0, want=6)
     s.load(1, 0, [0], [], want="none")
     s.load(1, 0, [0], [], room=0, want=11)
-    s.load(1, 0, [], [0, 0], want=7)
     s.load(1, 0, [], [0, 1], want=6)
     s.load(0, 0, [], [], want=2)
     s.load(0, 5, [3], [1], room=0, want=2)
@@ -161,6 +167,8 @@ def make_edges(s, rng):
     s.cut(0, 511, want="none")
     s.add(0, 511, want="round")
     s.add(511, 510, want="round")
+    s.cut(511, 0, want="none")
+    s.add(511, 511, want="round")
     s.load(512, 512, [], [], room=600, want=3)
     s.load(512, 65535, [], [], room=600, want=3)
     s.load(2, 2, [2], [0], room=0, want=3)
@@ -186,22 +194,49 @@ def make_edges(s, rng):
     s.load(3, 0, [], [0, 1, 1], want=5)
     s.load(3, 0, [], [3, 0, 1, 1, 9], room=0, want=5)
     two = [[0, 1], [1, 2]]
-    for bad6 in ([0, 3], [3, 0], [65535, 2]):
+    for bad6 in ([0, 3], [3, 0], [3, 3], [65535, 2]):
         for at in range(3):                     # 6 first, middle, last
             rest = two[:at] + [bad6] + two[at:]
             s.load(3, 0, [], sum(rest, []), want=6)
-    for six in range(4):                        # 6 with 7 and 8, in any place
+    for six in range(4):                        # 6 with 8, in any place
         rest = [[1, 1], [0, 1], [0, 1]]
         rest.insert(six, [0, 3])
         s.load(3, 0, [], sum(rest, []), room=0, want=6)
-    for seven in range(4):                      # 7 with 8, in any place
-        rest = [[0, 1], [1, 2], [0, 1]]
-        rest.insert(seven, [2, 2])
-        s.load(3, 0, [], sum(rest, []), room=0, want=7)
     s.load(3, 0, [], [0, 1, 0, 1], want=8)
     s.load(3, 0, [], [0, 1, 1, 2, 2, 0, 0, 1], room=2, want=8)
     s.load(3, 0, [], [1, 2, 0, 1, 2, 1, 2, 1], want=8)
     s.load(3, 0, [], [0, 1, 1, 0], room=3, want="none")
+
+    # moves from a state to itself
+    s.load(1, 0, [], [0, 0], room=0, want=11)
+    s.load(1, 0, [], [0, 0, 0, 0], room=0, want=8)
+    s.load(1, 0, [], [0, 0, 1, 1], room=0, want=6)
+    for pay, verdict in (([0], "round"), ([], "none")):
+        s.load(1, 0, pay, [0, 0], want=verdict)
+        s.add(0, 0, room=0, want=8)
+        s.cut(1, 1, room=0, want=6)
+        s.cut(0, 0, room=0, want=11)
+        s.cut(0, 0, want="none")
+        s.cut(0, 0, room=0, want=10)
+        s.add(1, 1, room=0, want=6)
+        s.add(0, 0, room=0, want=11)
+        s.add(0, 0, want=verdict)
+    for at in range(4):                         # beside an 8, in any place
+        rest = [[0, 1], [1, 2], [0, 1]]
+        rest.insert(at, [2, 2])
+        s.load(3, 0, [], sum(rest, []), room=0, want=8)
+    for at in range(3):                         # twice, in any two places
+        for again in range(at + 1, 4):
+            rest = [[0, 1], [1, 2]]
+            rest.insert(at, [2, 2])
+            rest.insert(again, [2, 2])
+            s.load(3, 0, [], sum(rest, []), room=2, want=8)
+    s.load(3, 1, [0, 2], [0, 0, 1, 1, 2, 2], want="none")        # and no others
+    s.add(1, 2, want="round")
+    s.cut(2, 2, want="none")
+    s.add(1, 0, want="round")
+    s.cut(1, 1, want="round")
+    s.cut(1, 1, want=10)
 
     # the lent list
     for pay, verdict in (([1], "round"), ([], "none")):
@@ -215,8 +250,13 @@ def make_edges(s, rng):
         s.add(3, 0, room=5, want=verdict)
         s.add(2, 3, room=3, want=8)
         s.cut(0, 3, room=0, want=10)
-        s.cut(0, 0, room=0, want=7)
+        s.cut(0, 0, room=0, want=10)
         s.cut(4, 4, room=0, want=6)
+        s.add(2, 2, room=3, want=11)
+        s.add(2, 2, room=4, want=verdict)
+        s.add(2, 2, room=0, want=8)
+        s.cut(2, 2, room=3, want=11)
+        s.cut(2, 2, room=4, want=verdict)
         s.cut(0, 3, room=4, want=10)
         s.cut(1, 2, room=0, want=11)            # would be none
         s.cut(1, 2, room=4, want="none")
@@ -226,7 +266,7 @@ def make_edges(s, rng):
 
     # the longest walk: all 512 states
     ring = [(i, (i + 1) % 512) for i in range(512)]
-    s.load(512, 0, [511], flat(ring), room=511, want=11)
+    s.load(512, 0, [511], [0, 511, 511, 511], room=511, want=11)
     answer = s.load(512, 0, [511], flat(ring), room=600, want="round")
     assert len(answer[3]) == 0 and len(answer[4]) == 512
     s.add(511, 510, want="round")
@@ -236,28 +276,62 @@ def make_edges(s, rng):
     s.cut(511, 510, want="none")
     answer = s.add(511, 256, want="round")
     assert len(answer[3]) == 256 and len(answer[4]) == 256
+    answer = s.add(511, 511, want="round")
+    assert len(answer[3]) == 256 and len(answer[4]) == 256
+    s.cut(511, 256, room=511, want=11)
+    answer = s.cut(511, 256, want="round")
+    assert len(answer[3]) == 511 and len(answer[4]) == 1
+    s.cut(511, 511, want="none")
 
-    # the full table
+    # 512 states, each with a move to itself, and no others
+    own = [(t, t) for t in range(512)]
+    answer = s.load(512, 511, [0, 511], flat(own), want="round")
+    assert answer[3:] == ([], [511])
+    s.add(511, 511, want=8)
+    s.add(512, 512, want=6)
+    s.cut(511, 511, room=511, want=11)
+    s.cut(511, 511, want="none")
+    s.cut(511, 511, want=10)
+    s.add(511, 510, want="none")
+    s.add(511, 0, want="round")
+    s.add(511, 511, room=511, want=11)
+    s.add(511, 511, want="round")
+    s.cut(0, 0, want="round")
+    s.cut(510, 510, want="round")
+    s.cut(511, 511, want="none")
+    s.cut(256, 256, want="none")                # of a state never met
+
+    # the full table: nearly every state has a move to itself; the 2,048th and the 2,049th are such
     size = 512
-    moves = distinct_moves(rng, size, 2049)
-    pay = rng.sample(range(size), 3)
+    rng.shuffle(own)
+    moves = own[5:] + distinct_moves(rng, size, 2047 - 507, own, share=0)
+    rng.shuffle(moves)
+    moves += own[3:5]
+    pay = [t for t, _ in own[5:8]]
     s.load(size, 0, pay, flat(moves), room=600, want=5)
     moves.pop()
     s.load(size, 0, pay, flat(moves), room=600)
     assert len(s.table.moves) == 2048
-    new = distinct_moves(rng, size, 6, moves)
+    for t in pay:
+        s.cut(t, t)
+        s.add(t, t)
+    other = distinct_moves(rng, size, 3, moves + own, share=0)
+    new = [other[0], own[0], other[1], own[1], other[2], own[2]]
     s.add(*moves[0], want=8)
     s.add(*moves[2047], room=0, want=8)
-    s.add(*new[0], want=9)
-    s.add(*new[0], room=0, want=9)
-    s.add(5, 5, room=0, want=7)
+    s.add(*moves[2047], want=8)
+    s.add(512, 512, room=0, want=6)
     s.add(5, 512, room=0, want=6)
-    s.cut(*new[0], room=0, want=10)
-    s.cut(*moves[9], room=511, want=11)
-    s.add(*new[0], want=9)
-    s.cut(*moves[9])
-    s.add(*moves[9])                            # cut and added again
-    s.add(*new[0], want=9)
+    for move in new[:2]:
+        s.add(*move, want=9)
+        s.add(*move, room=0, want=9)
+        s.cut(*move, room=0, want=10)
+    for move in (moves[9], moves[2047]):
+        s.cut(*move, room=511, want=11)
+        s.add(*new[0], want=9)
+        s.cut(*move)
+        s.add(*move)                            # cut and added again
+        s.add(*new[1], want=9)
     for i in range(6):                          # the place of a cut move is free
         s.cut(*moves[[0, 2047, 1000, 1, 2046, 500][i]])
         s.add(*new[i], room=511, want=11)
@@ -283,7 +357,7 @@ def small_room(rng, size):
 
 def small_session(s, rng):
     size = rng.choice((1, 2, 3, 3, 4, 4, 5, 5, 6, 6, 7, 7, 8, 8))
-    every = [(a, b) for a in range(size) for b in range(size) if a != b]
+    every = [(a, b) for a in range(size) for b in range(size)]
     wanted = min(len(every), int(size * rng.uniform(0.6, 2.2)))
     moves = rng.sample(every, wanted)
     density = rng.choice((0.15, 0.3, 0.5, 0.8))
@@ -291,7 +365,7 @@ def small_session(s, rng):
     start = rng.randrange(size)
     numbers = flat(moves)
     if rng.random() < 0.15:                     # a load that is mostly refused
-        fault = rng.randrange(6)
+        fault = rng.randrange(7)
         if fault == 0:
             s.load(rng.choice((0, 513)), start, pay, numbers, small_room(rng, size))
         elif fault == 1:
@@ -300,6 +374,9 @@ def small_session(s, rng):
             s.load(size, start, pay + [rng.randint(size, 511)], numbers, size)
         elif fault == 3:
             s.load(size, start, pay, numbers + [0], size)
+        elif fault == 4:
+            a = rng.randrange(size)
+            s.load(size, start, pay, [a, a] + numbers + [a, a], size)
         else:
             bad = [[rng.randint(0, size), rng.randint(0, size)] for _ in range(2)]
             at = 2 * rng.randint(0, len(moves))
@@ -313,16 +390,16 @@ def small_session(s, rng):
         near = [m for m in moves if m[0] in table.run.met_after]
         return rng.choice(near if near and rng.random() < 0.6 else moves)
 
-    for _ in range(rng.randint(16, 36) if size > 1 else 3):
+    for _ in range(rng.randint(16, 36) if size > 1 else 6):
         room = small_room(rng, size)
         dice = rng.random()
         absent = [m for m in every if m not in table.moves]
-        if dice < 0.04 or size == 1:
+        if dice < 0.04:
             a, b = rng.randrange(size), size + rng.choice((0, 0, 1, 57, 60000))
             if rng.random() < 0.5:
                 a, b = b, a
             s.change(rng.choice(("add", "cut")), a, b, room)
-            a = rng.randrange(size)
+            a = rng.randint(0, size)
             s.change(rng.choice(("add", "cut")), a, a, room)
         elif dice < 0.08 and table.moves:
             s.add(*rng.choice(table.moves), room)
@@ -339,8 +416,9 @@ def small_session(s, rng):
 
 
 def make_full(s, rng, limit):
-    """Moves lead mostly onwards in a hidden order; the moves that lead back and
-    close a round through a paying state come and go with the changes."""
+    """Moves lead mostly onwards in a hidden order, or to the same state where that
+    does not pay; the moves that lead back, or from a paying state to itself, and
+    close a round come and go with the changes."""
     size = 512
     order = list(range(size))
     rng.shuffle(order)
@@ -354,11 +432,11 @@ def make_full(s, rng, limit):
         return order[i], order[min(size - 1, i + rng.randint(1, far))]
 
     def back(i):
-        return order[i], order[max(0, i - rng.randint(1, 12))]
+        return order[i], order[max(0, i - (rng.randint(1, 12) if rng.random() < 0.75 else 0))]
 
     moves = []
     def put(move):
-        if move[0] != move[1] and move not in seen:
+        if move not in seen:
             seen.add(move)
             moves.append(move)
     seen = set()
@@ -374,6 +452,9 @@ def make_full(s, rng, limit):
         low, high = rng.choice(stretches)
         i, j = sorted((rng.randint(low, high), rng.randint(low, high)))
         put((order[j], order[i]))
+    for t in rng.sample(order, 200):
+        if t not in paying:
+            put((t, t))
     while len(moves) < 2044:
         put(onward(rng.randrange(size - 1)))
     rng.shuffle(moves)
@@ -400,11 +481,16 @@ def make_full(s, rng, limit):
         if dice < 0.03:
             s.add(*rng.choice(table.moves), room, want=8)
         elif dice < 0.05:
-            s.cut(*distinct_moves(rng, size, 1, table.moves)[0], room, want=10)
+            s.cut(*distinct_moves(rng, size, 1, table.moves, share=0.4)[0], room, want=10)
         elif dice < 0.06:
-            s.add(state, state, room, want=7)
-        elif dice < 0.07:
-            s.cut(size, state, room, want=6)
+            s.cut(size, rng.choice((state, size)), room, want=6)
+        elif dice < 0.12:                       # the state's own move comes or goes
+            move = (state, state)
+            if move in table.moves:
+                s.cut(*move, room)
+                last_cut = move
+            elif s.add(*move, room)[0] != "no" and state in paying:
+                back_part.append(move)
         elif back_part and dice < 0.28:         # open a closed round again
             walk = table.run.stem + table.run.round
             on_walk = [m for m in back_part if m[0] in walk and m[1] in walk]
@@ -414,7 +500,7 @@ def make_full(s, rng, limit):
                 s.cut(*move, room)
         elif dice < 0.34:                       # a move that may close a round
             move = back(place[rng.choice(pay)] if rng.random() < 0.4 else place[state])
-            if move[0] != move[1] and move not in table.moves:
+            if move not in table.moves:
                 if s.add(*move, room)[0] != "no":
                     back_part.append(move)
         elif dice < 0.42 and last_cut and last_cut not in table.moves:
@@ -426,7 +512,7 @@ def make_full(s, rng, limit):
                 s.add(*last_cut, room)
         else:
             move = onward(place[state])
-            if move[0] != move[1] and move not in table.moves:
+            if move not in table.moves:
                 s.add(*move, room)
 
 
@@ -446,8 +532,13 @@ def make(seed, kind):
         assert part.size_in_bytes() + 2 <= LIMITS[name], (name, part.size_in_bytes())
         whole.numbers += part.numbers
         whole.answers += part.answers
+        whole.own += part.own
     whole.numbers.append(0)
     return whole
+
+
+def counted(answers):
+    return dict(sorted(Counter("no %2d" % a[1] if a[0] == "no" else a[0] for a in answers).items()))
 
 
 def stats(seed):
@@ -455,12 +546,15 @@ def stats(seed):
         s = make(seed, kind)
         print(kind, "script", len(s.data()), "bytes; output", len(replay(s.data())), "bytes;",
               len(s.answers), "calls")
-        print("   ", dict(sorted(Counter(
-            "no %2d" % a[1] if a[0] == "no" else a[0] for a in s.answers).items())))
+        print("   ", counted(s.answers))
+        print("    calls that name a self-move: %d" % sum(s.own),
+              counted(itertools.compress(s.answers, s.own)))
         done = [a for a in s.answers if a[0] != "no"]
         print("    accepted: kept 0 in %d, spent 0 in %d, both above 0 in %d" % (
             sum(a[2] == 0 for a in done), sum(a[1] == 0 for a in done),
             sum(a[1] > 0 and a[2] > 0 for a in done)))
+        print("    rounds of length 1: %d, 2: %d, longer: %d" % tuple(
+            sum(a[0] == "round" and min(len(a[4]), 3) == n for a in done) for n in (1, 2, 3)))
 
 
 def main(args):
