@@ -70,8 +70,6 @@ games =
     ∷ known 3 (2 ∷ []) (0 ∷ 0 ∷ 0 ∷ 1 ∷ 1 ∷ 2 ∷ 2 ∷ 1 ∷ []) [] (gameLine 3 4 1 ∷ roundLine 5 0 1 2 (0 ∷ 1 ∷ 2 ∷ []) ∷ [])
     -- on a state of the round
     ∷ known 2 (0 ∷ []) (0 ∷ 1 ∷ 1 ∷ 1 ∷ 1 ∷ 0 ∷ []) [] (gameLine 2 3 1 ∷ roundLine 6 0 0 2 (0 ∷ 1 ∷ []) ∷ [])
-    -- on the paying state, beside a longer round that is found first
-    ∷ returning
     -- cut, added, added once more, cut where it is not, and outside
     ∷ known 2 (1 ∷ []) (0 ∷ 1 ∷ 1 ∷ 1 ∷ [])
     (cut (1, 1) ∷ add (1, 1) ∷ add (1, 1) ∷ cut (0, 0) ∷ add (0, 0) ∷ cut (0, 1) ∷ add (2, 2) ∷ cut (0, 0) ∷ [])
@@ -86,4 +84,6 @@ games =
     ∷ noLine (numbered 6)
     ∷ noneLine 0 0
     ∷ [])
+    -- a move to itself on the paying state, beside a longer round that is found first
+    ∷ returning
     ∷ []

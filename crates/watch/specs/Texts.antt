@@ -41,8 +41,6 @@ games =
     ∷ dialogue "game\t3\t0\npay\t2\nmove\t0\t0\nmove\t0\t1\nmove\t1\t2\nmove\t2\t1\ngo\n" ("game\t3\t4\t1\n" ∷ "round\t5\t0\t1\t2\t0\t1\t2\n" ∷ [])
     -- on a state of the round
     ∷ dialogue "game\t2\t0\npay\t0\nmove\t0\t1\nmove\t1\t1\nmove\t1\t0\ngo\n" ("game\t2\t3\t1\n" ∷ "round\t6\t0\t0\t2\t0\t1\n" ∷ [])
-    -- on the paying state, beside a longer round that is found first
-    ∷ dialogue "game\t2\t0\npay\t1\nmove\t0\t1\nmove\t1\t0\nmove\t1\t1\ngo\n" ("game\t2\t3\t1\n" ∷ "round\t4\t0\t0\t2\t0\t1\n" ∷ [])
     -- cut, added, added once more, cut where it is not, and outside
     ∷ dialogue "game\t2\t0\npay\t1\nmove\t0\t1\nmove\t1\t1\ngo\ncut\t1\t1\nadd\t1\t1\nadd\t1\t1\ncut\t0\t0\nadd\t0\t0\ncut\t0\t1\nadd\t2\t2\ncut\t0\t0\n"
     ("game\t2\t2\t1\n"
@@ -56,4 +54,6 @@ games =
     ∷ "no\t6\n"
     ∷ "none\t0\t0\n"
     ∷ [])
+    -- a move to itself on the paying state, beside a longer round that is found first
+    ∷ dialogue "game\t2\t0\npay\t1\nmove\t0\t1\nmove\t1\t0\nmove\t1\t1\ngo\n" ("game\t2\t3\t1\n" ∷ "round\t4\t0\t0\t2\t0\t1\n" ∷ [])
     ∷ []
