@@ -3,16 +3,19 @@
 
     tests/sessions.py SEED KIND     one random session, to standard output
     tests/sessions.py --write       the stored sessions and their results, by the reference
-    tests/sessions.py --check       whether the stored files are those that --write makes
+    tests/sessions.py --check       whether the stored files are those that --write makes, and the reference answers the
+                                    games of crates/watch/specs/Texts.antt as they are proved
 
 The same seed and kind give the same bytes.
 """
 
+import ast
 import random
+import re
 import sys
 
 import common
-from common import ROOT, STORED, as_lines, fail, game_a
+from common import ROOT, STORED, as_lines, difference, fail, game_a
 from reference import GAMES, MOST_MOVES, MOST_STATES, SELF_GAMES, answer_text, bench_answer
 
 
@@ -366,6 +369,16 @@ def stored_files():
     yield ROOT / "crates/texts/stdout", wanted
 
 
+def proved_games():
+    """Text and answers of each game whose answers crates/watch proves, as its table has them."""
+    table = (ROOT / "crates/watch/specs/Texts.antt").read_text()
+    rows = re.findall(r'dialogue ("[^"]*")\s*\(((?:[^"()]|"[^"]*")*)\)', table)
+    if len(rows) != table.count('dialogue "'):
+        fail("a row of the proved games cannot be read")
+    for sent, written in rows:
+        yield [b"".join(ast.literal_eval(s).encode() for s in re.findall(r'"[^"]*"', part)) for part in (sent, written)]
+
+
 def write():
     for path, content in stored_files():
         path.write_bytes(content)
@@ -375,6 +388,9 @@ def check():
     files = dict(stored_files())
     if answer_text(files[ROOT / "crates/monitor/stdin"]) != files[ROOT / "crates/monitor/stdout"]:
         fail("the reference does not answer Game A as document 01 does")
+    for sent, written in proved_games():
+        if answer_text(sent) != written:
+            fail("the reference does not answer a game as crates/watch proves it", *difference(written, answer_text(sent)))
     wrong = [p for p, content in files.items() if not p.exists() or p.read_bytes() != content]
     wrong += [p for p in STORED.iterdir() if p not in files]
     if wrong:

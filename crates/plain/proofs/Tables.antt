@@ -55,7 +55,8 @@ length-filter q (x ∷ es) = ⊎-elim
 same-sym : (e f : Edge) → sameEdge e f ≡ false → sameEdge f e ≡ false
 same-sym e f n = not-true (sameEdge f e) (λ h. let z : f ≡ e = same-edge f e h in contra (rw z (same-self e)) n)
 
-repeated-add : (es : List Edge) (e : Edge) → repeated es ≡ false → present es e ≡ false → repeated (es ++ (e ∷ [])) ≡ false
+-- an edge more, that was not there
+pub repeated-add : (es : List Edge) (e : Edge) → repeated es ≡ false → present es e ≡ false → repeated (es ++ (e ∷ [])) ≡ false
 unfolding repeated present
 repeated-add [] e r n = or-neither (any (sameEdge e) []) false n refl
 repeated-add (x ∷ es) e r n =
@@ -85,12 +86,12 @@ length-pairs (a ∷ b ∷ ns) = omega (arith, length-pairs ns)
 valid-load : (l : Load) (room : ℕ) → loadTrial l room ≡ accepted → Valid (tableOf l)
 unfolding loadTrial tableOf badCount
 valid-load l room e = record {
-  size-ok = unheld 0 _ e;
-  start-ok = unheld 1 _ e;
-  marks-ok = unheld 2 _ e;
-  count-ok = omega (arith, length-pairs (l .numbers), ltb-false 4096 (length (l .numbers)) (or-false (eqb (length (l .numbers) % 2) 1) (ltb 4096 (length (l .numbers))) (unheld 3 _ e) .1));
-  inside = unheld 4 _ e;
-  once = unheld 5 _ e;
+  size-ok = unheld 2 _ e;
+  start-ok = unheld 3 _ e;
+  marks-ok = unheld 4 _ e;
+  count-ok = omega (arith, length-pairs (l .numbers), ltb-false 4096 (length (l .numbers)) (or-false (eqb (length (l .numbers) % 2) 1) (ltb 4096 (length (l .numbers))) (unheld 5 _ e) .1));
+  inside = unheld 6 _ e;
+  once = unheld 8 _ e;
 }
 
 valid-add : (t : Table) (e : Edge) (room : ℕ) → Valid t → addTrial t e room ≡ accepted → Valid (apply (add e) t)
@@ -99,9 +100,9 @@ valid-add t e room v a = record {
   size-ok = v .size-ok;
   start-ok = v .start-ok;
   marks-ok = v .marks-ok;
-  count-ok = omega (arith, length-append (t .edges) (e ∷ []), leb-false 2048 (length (t .edges)) (unheld 2 _ a));
-  inside = any-append (outside (t .size)) (t .edges) e (v .inside) (unheld 0 _ a);
-  once = repeated-add (t .edges) e (v .once) (unheld 1 _ a);
+  count-ok = omega (arith, length-append (t .edges) (e ∷ []), leb-false 2048 (length (t .edges)) (unheld 9 _ a));
+  inside = any-append (outside (t .size)) (t .edges) e (v .inside) (unheld 6 _ a);
+  once = repeated-add (t .edges) e (v .once) (unheld 8 _ a);
 }
 
 valid-cut : (t : Table) (e : Edge) → Valid t → Valid (apply (cut e) t)

@@ -1,12 +1,11 @@
 -- Refusals: the number handed back is the first whose condition holds, and only that. Assumes nothing.
 use mathlib.Core.Path.{_≡_, refl, sym, ap, _∙_}
 use mathlib.Core.Logic.{_≢_, ⊎-elim}
-use mathlib.Core.Bool.{Bool, true, false}
+use mathlib.Core.Bool.{Bool, true, false, cond}
 use mathlib.Core.List.{List, [], _∷_, _++_, map}
-use Prim.Native.Nat.{ℕ, zero, suc}
+use Prim.Native.Nat.{ℕ}
 use native.Mathlib.Omega.{arith}
 use lib.Dec.{eqb}
-use lib.ListN.{getD}
 use borrow.Author.Tests.{eqb-false}
 use Rattle.plain.specs.Lists.{any, elem}
 use Rattle.plain.specs.Search.{Edge}
@@ -40,11 +39,21 @@ passed n b cs e = ⊎-elim
     (λ h. absurd (refused-not n (sym (held-first (n, b) cs h) ∙ e)))
     (λ h. (h, sym (held-later (n, b) cs h) ∙ e)) (either b)
 
--- the condition at place k does not hold
-pub unheld : (k : ℕ) (cs : List Condition) → firstHeld cs ≡ accepted → getD cs k (0, false) .1 ≡ false
-unheld k [] e = refl
-unheld zero (c ∷ cs) e = passed (c .0) (c .1) cs e .0
-unheld (suc k) (c ∷ cs) e = unheld k cs (passed (c .0) (c .1) cs e .1)
+-- the condition that stands with a number
+abbrev pub conditionOf : ℕ → List Condition → Bool
+conditionOf n [] = false
+conditionOf n (c ∷ cs) = cond (eqb n (c .0)) (c .1) (conditionOf n cs)
+
+cond-false : (b x y : Bool) → x ≡ false → y ≡ false → cond b x y ≡ false
+cond-false true x y f g = f
+cond-false false x y f g = g
+
+-- where a call is accepted, the condition of that number does not hold
+pub unheld : (n : ℕ) (cs : List Condition) → firstHeld cs ≡ accepted → conditionOf n cs ≡ false
+unheld n [] e = refl
+unheld n (c ∷ cs) e =
+    let p = passed (c .0) (c .1) cs e in
+    cond-false (eqb n (c .0)) (c .1) (conditionOf n cs) (p .0) (unheld n cs (p .1))
 
 -- "a number is handed back when its condition holds and no earlier one .. does"
 pub handed-when : (n : ℕ) (cs : List Condition) → Handed n cs → firstHeld cs ≡ refused n

@@ -36,7 +36,7 @@ use Rattle.session.specs.declared.Session.{Session}
 use Rattle.session.specs.declared.Settled.{Settled}
 use Rattle.session.specs.declared.Resumption.{Resumption}
 use Rattle.session.specs.declared.Verdict.{Verdict}
-use Rattle.table.specs.Trials.{addTrialIn, cutTrialIn, trialIn}
+use Rattle.table.specs.Trials.{conditionsIn, trialIn}
 use Rattle.table.specs.Filing.{sourceOf, filedIn, Filed}
 use Rattle.session.specs.Model.{Records, recordsOf, recordsIn, resumptionAt, backAt, Sought, verdictOf, sessionOf, refusing, answerIs, shownWalk, Settles, ChangedIn}
 use Rattle.table.specs.Filing.{changeOf}
@@ -72,8 +72,8 @@ changed-words (Cut from to) t = refl
 -- an accepted change's list has room for the walk
 room-enough : (op : Op) (t : Table) (room : ℕ) → changeTrial (changeOf op) t room ≡ accepted → t .size ≤ room
 unfolding changeTrial addTrial cutTrial shortRoom
-room-enough (Add from to) t room e = ltb-false room (t .size) (unheld 3 _ e)
-room-enough (Cut from to) t room e = ltb-false room (t .size) (unheld 2 _ e)
+room-enough (Add from to) t room e = ltb-false room (t .size) (unheld 11 _ e)
+room-enough (Cut from to) t room e = ltb-false room (t .size) (unheld 11 _ e)
 
 -- what the new records are worth for the changed table
 record Worth (c : Change) (t : Table) (v : Verdict) (a : Records) : Type 0 where
@@ -261,7 +261,7 @@ table-refused c room t n e = ap (λ (x : Trial). after x (apply c t) t) e
 
 -- without a state, each change names one outside
 empty-six : (op : Op) (s : Session) (room : ℕ) → s .size ≡ 0 → trialIn op (s .size) (s .targets) (s .starts) room ≡ refused 6
-unfolding addTrialIn cutTrialIn
+unfolding conditionsIn trialIn
 empty-six (Add from to) s room z = tried-refused _ 6 (stop 6 _ _ (outside-from from to (s .size) (omega (arith, z))))
 empty-six (Cut from to) s room z = tried-refused _ 6 (stop 6 _ _ (outside-from from to (s .size) (omega (arith, z))))
 

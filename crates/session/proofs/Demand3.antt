@@ -7,7 +7,6 @@ use lib.ListN.{length}
 use Rattle.plain.specs.Table.{Table}
 use Rattle.plain.specs.Refusals.{Trial, Load, accepted, refused, loadTrial}
 use Rattle.plain.specs.Machine.{tableOf, loadAnswer, answerTo, tableAfter, answers, written, Line, answerLine, answerLines}
-use Rattle.plain.specs.Claims.{LoopTold}
 use Rattle.plain.proofs.Answers.{load-told, call-told}
 use Rattle.plain.proofs.Loops.{loop-told}
 use Rattle.session.specs.declared.Answer.{Answer}
@@ -62,13 +61,17 @@ demand-3 l lent r lent′ a y xs w =
       calls = calls;
     }
 
+-- what follows for one call follows for each
+each-call : (P Q : Exchange → Table → Type 0) → ((x : Exchange) (t : Table) → P x t → Q x t) → (xs : List Exchange) (t : Table) → EachCall P xs t → EachCall Q xs t
+each-call P Q f [] t h = tt
+each-call P Q f (x ∷ xs) t h = (f x t (h .0), each-call P Q f xs (tableAfter (callIn x) t) (h .1))
+
 -- Ticket 1: it follows from what is told being true
 pub loops-told : (l : Load) (lent : List ℕ) (r : Outcome) (lent′ : List ℕ) → Loads l lent r lent′ → NoRefusal (r .answer)
     → (xs : List Exchange) → Served (r .session) xs → LoopsTold l r lent′ xs
 loops-told l lent r lent′ a y xs w =
     let d = demand-3 l lent r lent′ a y xs w in
-    record { load = loop-told (shown (r .answer) lent′) (tableOf l) (d .load-truth); calls = each xs (tableOf l) (d .calls) }
-  where
-    each : (xs : List Exchange) (t : Table) → AllRight xs t → EachCall (λ x t. LoopTold (shown (x .answered) (x .after)) (tableAfter (callIn x) t)) xs t
-    each [] t h = tt
-    each (x ∷ xs) t h = (loop-told (shown (x .answered) (x .after)) (tableAfter (callIn x) t) (h .0 .truth), each xs (tableAfter (callIn x) t) (h .1))
+    record {
+      load = loop-told (shown (r .answer) lent′) (tableOf l) (d .load-truth);
+      calls = each-call CallRight _ (λ x t c. loop-told (shown (x .answered) (x .after)) (tableAfter (callIn x) t) (c .truth)) xs (tableOf l) (d .calls);
+    }

@@ -58,7 +58,7 @@ module _ (l : Load) (lent : List ℕ) where
 room-enough : (l : Load) (room : ℕ) → loadTrial l room ≡ accepted → l .size ≤ room
 unfolding loadTrial shortRoom
 room-enough l room e =
-    ltb-false room (l .size) (unheld 6 _ e)
+    ltb-false room (l .size) (unheld 11 _ e)
 
 -- the records of a search that has met the start state alone
 abbrev pub freshFrom : ℕ → List ℕ → Records

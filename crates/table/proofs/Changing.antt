@@ -23,7 +23,7 @@ use Rattle.rows.proofs.Entries.{row-length}
 use Rattle.rows.proofs.Change.{removes-edge, inserted-lengths, removed-lengths}
 use Rattle.table.specs.declared.Op.{Op}
 use Rattle.table.specs.declared.Op.the-variants.{Add, Cut}
-use Rattle.table.specs.Trials.{there, addTrialIn, cutTrialIn, trialIn}
+use Rattle.table.specs.Trials.{there, conditionsIn, roomCondition, trialIn}
 use Rattle.table.specs.Filing.{changeOf, sourceOf, filedIn, Filed}
 use Rattle.table.proofs.Filing.{there-present, filed-insert}
 
@@ -35,8 +35,8 @@ filed-tabled (Cut from to) size r r′ e l = removed-lengths size from _ r r′ 
 -- the state that an accepted change names
 pub source-below : (op : Op) (t : Table) (room : ℕ) → changeTrial (changeOf op) t room ≡ accepted → sourceOf op < t .size
 unfolding changeTrial addTrial cutTrial outside
-source-below (Add from to) t room e = leb-false (t .size) from (or-false (leb (t .size) from) (leb (t .size) to) (unheld 0 _ e) .0)
-source-below (Cut from to) t room e = leb-false (t .size) from (or-false (leb (t .size) from) (leb (t .size) to) (unheld 0 _ e) .0)
+source-below (Add from to) t room e = leb-false (t .size) from (or-false (leb (t .size) from) (leb (t .size) to) (unheld 6 _ e) .0)
+source-below (Cut from to) t room e = leb-false (t .size) from (or-false (leb (t .size) from) (leb (t .size) to) (unheld 6 _ e) .0)
 
 -- ---- the place of an entry of a list
 
@@ -72,7 +72,7 @@ module _ (t : Table) (before : Rows) (f : Filed (t .size) (t .edges) before) whe
 
   -- the refusals read off the rows are the table's
   pub trial-same : (op : Op) (room : ℕ) → trialIn op (t .size) (before .targets) (before .starts) room ≡ changeTrial (changeOf op) t room
-  unfolding addTrialIn cutTrialIn changeTrial addTrial cutTrial full
+  unfolding conditionsIn roomCondition trialIn changeTrial addTrial cutTrial full
   trial-same (Add from to) room = λ i. firstHeld (
       (6, outside (t .size) (from, to))
       ∷ (8, present-here from to i)
@@ -99,9 +99,9 @@ module _ (t : Table) (before : Rows) (f : Filed (t .size) (t .edges) before) whe
         → Filed (apply (changeOf op) t .size) (apply (changeOf op) t .edges) rows
     unfolding changeTrial addTrial cutTrial apply full
     refiled valid (Add from to) room e new =
-        filed-insert (t .size) (t .edges) (from, to) before rows f (source-below (Add from to) t room e) (omega (arith, leb-false 2048 (length (t .edges)) (unheld 2 _ e), f .count-is)) new
+        filed-insert (t .size) (t .edges) (from, to) before rows f (source-below (Add from to) t room e) (omega (arith, leb-false 2048 (length (t .edges)) (unheld 9 _ e), f .count-is)) new
     refiled valid (Cut from to) room e new =
-        let is : present (t .edges) (from, to) ≡ true = not-false (present (t .edges) (from, to)) (unheld 1 _ e) in
+        let is : present (t .edges) (from, to) ≡ true = not-false (present (t .edges) (from, to)) (unheld 10 _ e) in
         let place : placeOf to (rowAt (before .targets) (before .starts) from) < degreeAt (before .starts) from = ltb-true _ _ (present-here from to ∙ is) in
         let i = removes-edge (t .size) from _ before rows new (f .compressed) (source-below (Cut from to) t room e) place in
         let size : length (rowAt (before .targets) (before .starts) from) ≡ degreeAt (before .starts) from = row-length (before .targets) (before .starts) from in

@@ -12,11 +12,11 @@ use borrow.Author.Tests.{lt-ltb, ltb-false, leb-false, ne-eqb}
 use Rattle.plain.specs.Lists.{any, elem}
 use Rattle.plain.specs.Search.{Edge}
 use Rattle.plain.specs.Table.{row}
-use Rattle.plain.specs.Refusals.{badSize, badCount, outside, pairs, sameEdge, present, repeated, Load}
-use Rattle.plain.proofs.Tests.{contra, not-true, or-first, or-second, or-false, or-neither, none-cons}
-use Rattle.plain.proofs.Edges.{Has, has-head, has-tail, has-cases, has-nil, same-edge, same-self}
+use Rattle.plain.specs.Refusals.{firstHeld, badSize, badCount, outside, pairs, present, repeated, Load}
+use Rattle.plain.proofs.Tests.{or-first, or-second, or-false, none-cons}
+use Rattle.plain.proofs.Edges.{Has, has-head, has-tail, has-cases, has-nil}
 use Rattle.plain.proofs.Rows.{row-nil, row-has, has-row, row-add, row-add-other}
-use Rattle.plain.proofs.Tables.{length-pairs}
+use Rattle.plain.proofs.Tables.{length-pairs, repeated-add}
 use Rattle.rows.specs.Rows.{rowAt, edgeCount, placeOf}
 use Rattle.rows.specs.Change.{Rows, rowsOf, inserted}
 use Rattle.rows.proofs.Entries.{row-length}
@@ -24,10 +24,10 @@ use Rattle.rows.proofs.Empty.{empty-row, empty-count, empty-compressed}
 use Rattle.rows.proofs.Change.{inserts-edge}
 use Rattle.table.specs.declared.Trial.{Trial}
 use Rattle.table.specs.declared.Trial.the-variants.{Accepted, Refused}
-use Rattle.table.specs.Trials.{tried, earlyTrial, there}
+use Rattle.table.specs.Trials.{tried, earlyTrial, there, roomCondition}
 use Rattle.table.specs.Filing.{Filed, Empty, Limits, FiledAll, Tried}
 use Rattle.table.proofs.Pairs.{moveAt, pairs-more, pairs-end}
-use Rattle.table.proofs.Trying.{stop, skip, none-held, room-short, room-enough, early-held, Early, early-free}
+use Rattle.table.proofs.Trying.{stop, skip, early-held, Early, early-free}
 
 -- ---- an edge is present exactly when its target has a place in its row
 
@@ -57,25 +57,6 @@ there-present targets starts es v t e =
 none-within : (p : Edge → Bool) (es : List Edge) (e : Edge) (rest : List Edge) → any p (es ++ (e ∷ rest)) ≡ false → p e ≡ false
 none-within p [] e rest h = none-cons p e rest h .0
 none-within p (x ∷ es) e rest h = none-within p es e rest (none-cons p x (es ++ (e ∷ rest)) h .1)
-
-none-more : (p : Edge → Bool) (es : List Edge) (e : Edge) → any p es ≡ false → p e ≡ false → any p (es ++ (e ∷ [])) ≡ false
-unfolding any
-none-more p [] e f h = or-neither (p e) false h refl
-none-more p (x ∷ es) e f h =
-    let w = or-false (p x) (any p es) f in
-    or-neither (p x) (any p (es ++ (e ∷ []))) (w .0) (none-more p es e (w .1) h)
-
-other-way : (e f : Edge) → sameEdge e f ≡ false → sameEdge f e ≡ false
-other-way e f n = not-true (sameEdge f e) (λ h. let z : f ≡ e = same-edge f e h in contra (rw z (same-self e)) n)
-
-once-more : (es : List Edge) (e : Edge) → repeated es ≡ false → present es e ≡ false → repeated (es ++ (e ∷ [])) ≡ false
-unfolding repeated present
-once-more [] e r n = or-neither (any (sameEdge e) []) false n refl
-once-more (x ∷ es) e r n =
-    let w = or-false (any (sameEdge x) es) (repeated es) r in
-    let v = none-cons (sameEdge e) x es n in
-    or-neither (any (sameEdge x) (es ++ (e ∷ []))) (repeated (es ++ (e ∷ [])))
-    (none-more (sameEdge x) es e (w .0) (other-way e x (v .0))) (once-more es e (w .1) (v .1))
 
 has-within : (es : List Edge) (e : Edge) (rest : List Edge) → Has (es ++ (e ∷ rest)) e
 has-within [] e rest = has-head e rest
@@ -176,7 +157,7 @@ module _ (size : ℕ) where
         filed-more h targets′ starts′ new = record {
           edges = f .edges ++ (move ∷ []);
           filed = filed-insert size (f .edges) move (rowsOf targets starts) (rowsOf targets′ starts′) (f .filed) source room new;
-          once = once-more (f .edges) move (f .once) (sym test ∙ h);
+          once = repeated-add (f .edges) move (f .once) (sym test ∙ h);
           split = parts ∙ sym (append-assoc (f .edges) (move ∷ []) later);
         }
 
@@ -233,14 +214,10 @@ module _ (l : Load) (room : ℕ) (early : Trial) (e : early ≡ tried (earlyTria
       }
 
       module _ (t : b ≡ false) where
-        pub tried-short : room < l .size → Tried l room (Refused 11) targets starts
-        tried-short h = record {
-          trial-is = passed .rest (Refused 11) (skip (Refused 11) 8 _ _ (sym (f .repeats) ∙ t) (stop 11 _ _ (room-short (l .size) room h)));
-          filed = λ n. absurd (not-accepted n);
-        }
-
-        pub tried-filed : l .size ≤ room → Tried l room Accepted targets starts
-        tried-filed h = record {
-          trial-is = passed .rest Accepted (skip Accepted 8 _ _ (sym (f .repeats) ∙ t) (skip Accepted 11 _ _ (room-enough (l .size) room h) none-held));
+        -- nothing stands twice: 11 decides
+        pub tried-filed : (r : Trial) → r ≡ tried (firstHeld (roomCondition (l .size) room)) → Tried l room r targets starts
+        unfolding roomCondition
+        tried-filed r h = record {
+          trial-is = passed .rest r (skip r 8 _ _ (sym (f .repeats) ∙ t) h);
           filed = λ n. f .filed t;
         }

@@ -11,6 +11,7 @@ use borrow.Author.Tests.{eq-eqb, ne-eqb, lt-ltb, le-ltb}
 use Rattle.plain.specs.Lists.{any}
 use Rattle.plain.specs.Refusals.{Trial as PlainTrial, accepted, refused, firstHeld, badSize, badCount, outside, shortRoom, pairs, repeated, loadTrial}
 use Rattle.plain.proofs.Tests.{either, or-first, or-second, or-neither}
+use Rattle.plain.proofs.Trials.{unheld}
 use Rattle.table.specs.declared.Trial.{Trial}
 use Rattle.table.specs.declared.Trial.the-variants.{Accepted, Refused}
 use Rattle.table.specs.Trials.{tried, earlyTrial}
@@ -48,7 +49,7 @@ unfolding firstHeld
 none-held = refl
 
 -- where nothing is refused, no condition holds
-pub free : (n : ℕ) (b : Bool) (cs : List Condition) → Accepted ≡ tried (firstHeld ((n, b) ∷ cs)) → (b ≡ false) × (Accepted ≡ tried (firstHeld cs))
+free : (n : ℕ) (b : Bool) (cs : List Condition) → Accepted ≡ tried (firstHeld ((n, b) ∷ cs)) → (b ≡ false) × (Accepted ≡ tried (firstHeld cs))
 unfolding firstHeld
 free n true cs h = let z : _≡_ {A = ℕ} 0 1 = cc in absurd (omega arith)
 free n false cs h = (refl, h)
@@ -62,6 +63,13 @@ held-before (c ∷ cs) ds n = ⊎-elim
     (λ e.
     let here : tried (firstHeld cs) ≡ tried (firstHeld (c ∷ cs)) = skip (tried (firstHeld cs)) (c .0) (c .1) cs e refl in
     sym here ∙ skip (tried (firstHeld cs)) (c .0) (c .1) (cs ++ ds) e (held-before cs ds (λ z. n (sym here ∙ z)))) (either (c .1))
+
+-- where none of the first conditions holds, the others decide
+pub free-before : (cs ds : List Condition) → tried (firstHeld cs) ≡ Accepted → tried (firstHeld ds) ≡ tried (firstHeld (cs ++ ds))
+free-before [] ds e = refl
+free-before (c ∷ cs) ds e =
+    let p = free (c .0) (c .1) cs (sym e) in
+    skip (tried (firstHeld ds)) (c .0) (c .1) (cs ++ ds) (p .0) (free-before cs ds (sym (p .1)))
 
 -- ---- conditions of a load
 
@@ -120,14 +128,10 @@ module _ (size start : ℕ) (words numbers : List ℕ) (room : ℕ) where
   pub early-free : tried (earlyTrial size start words numbers) ≡ Accepted → Early
   unfolding earlyTrial loadTrial
   early-free e =
-      let p2 = free 2 _ _ (sym e) in
-      let p3 = free 3 _ _ (p2 .1) in
-      let p4 = free 4 _ _ (p3 .1) in
-      let p5 = free 5 _ _ (p4 .1) in
-      let p6 = free 6 _ _ (p5 .1) in
+      let a = tried-accepted _ e in
       record {
-        size-ok = p2 .0;
-        count-ok = p5 .0;
-        inside-ok = p6 .0;
-        rest = λ k h. skip k 2 _ _ (p2 .0) (skip k 3 _ _ (p3 .0) (skip k 4 _ _ (p4 .0) (skip k 5 _ _ (p5 .0) (skip k 6 _ _ (p6 .0) h))));
+        size-ok = unheld 2 _ a;
+        count-ok = unheld 5 _ a;
+        inside-ok = unheld 6 _ a;
+        rest = λ k h. h ∙ free-before _ ((8, repeated (pairs numbers)) ∷ (11, shortRoom size room) ∷ []) e;
       }

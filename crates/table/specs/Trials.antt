@@ -1,7 +1,7 @@
 -- The trials of calls, read off the arrays of a table. Assumes nothing.
 use Prim.Native.Nat.{ℕ}
 use mathlib.Core.Bool.{Bool, not}
-use mathlib.Core.List.{List, [], _∷_}
+use mathlib.Core.List.{List, [], _∷_, _++_}
 use lib.Dec.{ltb, leb}
 use Rattle.plain.specs.Lists.{any}
 use Rattle.plain.specs.Refusals.{Trial as PlainTrial, accepted, refused, firstHeld, badSize, badStart, badMarks, badCount, outside, shortRoom, pairs}
@@ -30,22 +30,16 @@ earlyTrial size start words numbers = firstHeld (
 abbrev pub there : List ℕ → List ℕ → ℕ → ℕ → Bool
 there targets starts from to = ltb (placeOf to (rowAt targets starts from)) (degreeAt starts from)
 
--- refusals of an add and of a cut, read off the rows
-unfoldable pub addTrialIn : ℕ → List ℕ → List ℕ → ℕ → ℕ → ℕ → PlainTrial
-addTrialIn size targets starts from to room = firstHeld (
-    (6, outside size (from, to))
-    ∷ (8, there targets starts from to)
-    ∷ (9, leb 2048 (edgeCount starts size))
-    ∷ (11, shortRoom size room)
-    ∷ [])
+-- the conditions of a change itself, read off the rows: 6, 8 and 9 of an add, 6 and 10 of a cut
+unfoldable pub conditionsIn : Op → ℕ → List ℕ → List ℕ → List (ℕ × Bool)
+conditionsIn (Add from to) size targets starts =
+    (6, outside size (from, to)) ∷ (8, there targets starts from to) ∷ (9, leb 2048 (edgeCount starts size)) ∷ []
+conditionsIn (Cut from to) size targets starts = (6, outside size (from, to)) ∷ (10, not (there targets starts from to)) ∷ []
 
-unfoldable pub cutTrialIn : ℕ → List ℕ → List ℕ → ℕ → ℕ → ℕ → PlainTrial
-cutTrialIn size targets starts from to room = firstHeld (
-    (6, outside size (from, to))
-    ∷ (10, not (there targets starts from to))
-    ∷ (11, shortRoom size room)
-    ∷ [])
+-- refusal 11
+unfoldable pub roomCondition : ℕ → ℕ → List (ℕ × Bool)
+roomCondition size room = (11, shortRoom size room) ∷ []
 
-abbrev pub trialIn : Op → ℕ → List ℕ → List ℕ → ℕ → PlainTrial
-trialIn (Add from to) size targets starts room = addTrialIn size targets starts from to room
-trialIn (Cut from to) size targets starts room = cutTrialIn size targets starts from to room
+-- the trial of a change: 11 behind its own conditions
+unfoldable pub trialIn : Op → ℕ → List ℕ → List ℕ → ℕ → PlainTrial
+trialIn op size targets starts room = firstHeld (conditionsIn op size targets starts ++ roomCondition size room)

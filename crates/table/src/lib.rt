@@ -2,10 +2,11 @@
 use rows::wide;
 ghost use mathlib.Core.Path.{_≡_};
 ghost use Rattle.plain.specs.Lists.{any};
-ghost use Rattle.plain.specs.Refusals.{badMarks, outside, pairs};
+ghost use Rattle.plain.specs.Refusals.{firstHeld, badMarks, outside, pairs};
 ghost use Rattle.rows.specs.Rows.{Tabled};
 ghost use Rattle.rows.specs.Change.{rowsOf};
-ghost use Rattle.table.specs.Trials.{tried, earlyTrial, there, addTrialIn, cutTrialIn, trialIn};
+ghost use Rattle.table.specs.declared.Op.the-variants.{Add, Cut};
+ghost use Rattle.table.specs.Trials.{tried, earlyTrial, there, conditionsIn, roomCondition, trialIn};
 ghost use Rattle.table.specs.Filing.{sourceOf, filedIn, Attempted, Empty, Limits, FiledAll, Tried};
 
 // A refusal: its number in document 01's list.
@@ -117,6 +118,16 @@ fn file_all(numbers: &[u16], size: u16, targets: &mut [u16; 2048], starts: &mut 
     false
 }
 
+// Refusal 11: the list lent for the walk has fewer entries than the game has states.
+fn room_trial(size: u16, room: usize) -> Trial
+    ensures { λ r. ⌜ r ≡ tried (firstHeld (roomCondition size room)) ⌝ }
+{
+    if room < wide(size) {
+        return Trial::Refused(11);
+    }
+    Trial::Accepted
+}
+
 // Tries a load, and files its moves into empty rows where it is accepted.
 pub fn load_trial(
     size: u16,
@@ -137,10 +148,7 @@ pub fn load_trial(
     if file_all(numbers, size, targets, starts) {
         return Trial::Refused(8);
     }
-    if room < wide(size) {
-        return Trial::Refused(11);
-    }
-    Trial::Accepted
+    room_trial(size, room)
 }
 
 // Does a move name a number that is not below the count of states?
@@ -153,17 +161,10 @@ fn is_outside(size: u16, from: u16, to: u16) -> bool
     size <= to
 }
 
-// Tries an add: 6, 8, 9 and 11.
-fn add_trial(
-    size: u16,
-    targets: &[u16; 2048],
-    starts: &[u16; 513],
-    from: u16,
-    to: u16,
-    room: usize,
-) -> Trial
+// Refusals 6, 8 and 9 of an add.
+fn add_trial(size: u16, targets: &[u16; 2048], starts: &[u16; 513], from: u16, to: u16) -> Trial
     requires { ⌜ Tabled (now targets) (now starts) ⌝ }
-    ensures { λ r. ⌜ r ≡ tried (addTrialIn size (now (targets .entry)) (now (starts .entry)) from to room) ⌝ }
+    ensures { λ r. ⌜ r ≡ tried (firstHeld (conditionsIn (Add from to) size (now (targets .entry)) (now (starts .entry)))) ⌝ }
 {
     if is_outside(size, from, to) {
         return Trial::Refused(6);
@@ -174,23 +175,13 @@ fn add_trial(
     if MOVES <= rows::edge_count(starts, size) {
         return Trial::Refused(9);
     }
-    if room < wide(size) {
-        return Trial::Refused(11);
-    }
     Trial::Accepted
 }
 
-// Tries a cut: 6, 10 and 11.
-fn cut_trial(
-    size: u16,
-    targets: &[u16; 2048],
-    starts: &[u16; 513],
-    from: u16,
-    to: u16,
-    room: usize,
-) -> Trial
+// Refusals 6 and 10 of a cut.
+fn cut_trial(size: u16, targets: &[u16; 2048], starts: &[u16; 513], from: u16, to: u16) -> Trial
     requires { ⌜ Tabled (now targets) (now starts) ⌝ }
-    ensures { λ r. ⌜ r ≡ tried (cutTrialIn size (now (targets .entry)) (now (starts .entry)) from to room) ⌝ }
+    ensures { λ r. ⌜ r ≡ tried (firstHeld (conditionsIn (Cut from to) size (now (targets .entry)) (now (starts .entry)))) ⌝ }
 {
     if is_outside(size, from, to) {
         return Trial::Refused(6);
@@ -198,21 +189,30 @@ fn cut_trial(
     if !is_there(targets, starts, from, to) {
         return Trial::Refused(10);
     }
-    if room < wide(size) {
-        return Trial::Refused(11);
-    }
     Trial::Accepted
 }
 
-// Tries a change.
+// The refusals of a change itself.
+fn own_trial(op: Op, size: u16, targets: &[u16; 2048], starts: &[u16; 513]) -> Trial
+    requires { ⌜ Tabled (now targets) (now starts) ⌝ }
+    ensures { λ r. ⌜ r ≡ tried (firstHeld (conditionsIn op size (now (targets .entry)) (now (starts .entry)))) ⌝ }
+{
+    match op {
+        Op::Add { from, to } => add_trial(size, targets, starts, from, to),
+        Op::Cut { from, to } => cut_trial(size, targets, starts, from, to),
+    }
+}
+
+// Tries a change: 11 comes behind its own refusals.
 fn change_trial(op: Op, size: u16, targets: &[u16; 2048], starts: &[u16; 513], room: usize) -> Trial
     requires { ⌜ Tabled (now targets) (now starts) ⌝ }
     ensures { λ r. ⌜ r ≡ tried (trialIn op size (now (targets .entry)) (now (starts .entry)) room) ⌝ }
 {
-    match op {
-        Op::Add { from, to } => add_trial(size, targets, starts, from, to, room),
-        Op::Cut { from, to } => cut_trial(size, targets, starts, from, to, room),
+    let own = own_trial(op, size, targets, starts);
+    if let Trial::Refused(n) = own {
+        return Trial::Refused(n);
     }
+    room_trial(size, room)
 }
 
 // The change is made in the rows.

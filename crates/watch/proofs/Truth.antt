@@ -104,14 +104,17 @@ says-loop l (gathering d) h = no-verdict l h
 says-loop l (playing p) h = loop-told l (p .table) h
 says-loop l ended h = no-verdict l h
 
-all-say-loop : (ls : List Line) (p : Held) → All (λ l. Says l p) ls → All (λ l. SaysLoop l p) ls
-all-say-loop [] p h = tt
-all-say-loop (l ∷ ls) p h = (says-loop l p (h .0), all-say-loop ls p (h .1))
+-- what follows for one line follows for each
+all-lines : (P Q : Line → Type 0) → ((l : Line) → P l → Q l) → (ls : List Line) → All P ls → All Q ls
+all-lines P Q f [] h = tt
+all-lines P Q f (l ∷ ls) h = (f l (h .0), all-lines P Q f ls (h .1))
 
-each-says-loop : (p : Held) (rs : List Record) → True p rs → EachLine SaysLoop p rs
-each-says-loop p [] h = tt
-each-says-loop p (r ∷ rs) h = (all-say-loop (step p r .lines) (step p r .next) (h .0), each-says-loop (step p r .next) rs (h .1))
+each-line : (P Q : Line → Held → Type 0) → ((l : Line) (p : Held) → P l p → Q l p) → (p : Held) (rs : List Record) → EachLine P p rs → EachLine Q p rs
+each-line P Q f p [] h = tt
+each-line P Q f p (r ∷ rs) h =
+    let q = step p r .next in
+    (all-lines (λ l. P l q) (λ l. Q l q) (λ l. f l q) (step p r .lines) (h .0), each-line P Q f q rs (h .1))
 
 -- where a paying state with a move to itself can be reached, `none` is not printed
 pub text-loops : (text : List ℕ) → EachLine SaysLoop waiting (map recordOf (linesOf (counted text)))
-text-loops text = each-says-loop waiting (map recordOf (linesOf (counted text))) (text-true text)
+text-loops text = each-line Says SaysLoop says-loop waiting (map recordOf (linesOf (counted text))) (text-true text)

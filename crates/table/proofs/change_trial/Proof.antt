@@ -1,33 +1,36 @@
--- `change_trial` meets its contract. Assumes nothing.
+-- `change_trial` meets its contract: where one of the change's own conditions holds it decides, else 11. Assumes nothing.
+use mathlib.Core.Path.{sym, _∙_}
 use borrow.Author.Needs.{needs}
+use Rattle.table.specs.Trials.{trialIn}
+use Rattle.table.proofs.Trying.{held-before, free-before}
+use Rattle.table.proofs.Filing.{not-accepted}
 use Rattle.table.proofs.change_trial.Statement.{statement}
 use Rattle.table.proofs.change_trial.Tie as tie
 
-enum-known-op : tie.Need-enum-known-op
-enum-known-op c = search needs
+own-trial-requires : tie.Need-own-trial-requires
+own-trial-requires c κs = search needs
 
-add-trial-requires : tie.Need-add-trial-requires
-add-trial-requires c κs = search needs
-
-enum-known-op-2 : tie.Need-enum-known-op-2
-enum-known-op-2 c = search needs
-
-cut-trial-requires : tie.Need-cut-trial-requires
-cut-trial-requires c κs = search needs
+enum-known-own : tie.Need-enum-known-own
+enum-known-own c = search needs
 
 returns : tie.Need-returns
-returns c = rw (c .before .before .op .given .1) (c .add-trial .ensures)
+unfolding trialIn
+returns c =
+    let k = c .before in
+    let own = sym (k .own .given .1) ∙ k .before .before .own-trial .ensures in
+    own ∙ held-before _ _ (λ z. not-accepted (own ∙ z))
+
+enum-told : tie.Need-enum-told
+enum-told c = search needs
+
+room-trial-requires : tie.Need-room-trial-requires
+room-trial-requires c κs = search needs
 
 returns-2 : tie.Need-returns-2
-returns-2 c = rw (c .before .before .op2 .given .1) (c .cut-trial .ensures)
+unfolding trialIn
+returns-2 c =
+    let e = c .before in
+    c .room-trial .ensures ∙ free-before _ _ (sym (e .before .before .own-trial .ensures) ∙ e .enum-told .given .1)
 
 pub change-trial-spec : {M : Type 1} → statement M
-change-trial-spec =
-    tie.close
-    (tie.spec
-    enum-known-op
-    add-trial-requires
-    enum-known-op-2
-    cut-trial-requires
-    returns
-    returns-2)
+change-trial-spec = tie.close (tie.spec own-trial-requires enum-known-own returns enum-told room-trial-requires returns-2)

@@ -1,10 +1,8 @@
 -- `load_trial` meets its contract. Assumes nothing.
 use mathlib.Core.Path.{sym, _∙_}
-use native.Mathlib.Omega.{arith}
-use Prim.Native.Nat.{_≤_, _<_}
 use denote.Ref.{now}
 use borrow.Author.Needs.{needs}
-use Rattle.table.proofs.Filing.{not-accepted, tried-early, may-be-filed, tried-twice, tried-short, tried-filed}
+use Rattle.table.proofs.Filing.{not-accepted, tried-early, may-be-filed, tried-twice, tried-filed}
 use Rattle.table.proofs.load_trial.Statement.{statement}
 use Rattle.table.proofs.load_trial.Tie as tie
 
@@ -34,24 +32,14 @@ returns-2 c =
     let s = c .before .before .before .before in
     tried-twice _ _ _ (s .before .before .early-trial .ensures) (s .enum-told .given .1) (c .before .file-all .result) _ _ (c .before .file-all .ensures) (c .if1 .taken)
 
-wide-requires : tie.Need-wide-requires
-wide-requires c κs = search needs
+room-trial-requires : tie.Need-room-trial-requires
+room-trial-requires c κs = search needs
 
 returns-3 : tie.Need-returns-3
 returns-3 c =
-    let f = c .before .before .before in
+    let f = c .before .before in
     let s = f .before .before .before in
-    let a = s .before .before .before .before .args in
-    let short : a .room < a .size = omega (arith, c .before .wide .ensures, c .if2 .taken) in
-    tried-short _ _ _ (s .before .before .early-trial .ensures) (s .enum-told .given .1) (f .file-all .result) _ _ (f .file-all .ensures) (c .before .before .if1 .left) short
-
-returns-4 : tie.Need-returns-4
-returns-4 c =
-    let f = c .before .before .before in
-    let s = f .before .before .before in
-    let a = s .before .before .before .before .args in
-    let enough : a .size ≤ a .room = omega (arith, c .before .wide .ensures, c .if2 .left) in
-    tried-filed _ _ _ (s .before .before .early-trial .ensures) (s .enum-told .given .1) (f .file-all .result) _ _ (f .file-all .ensures) (c .before .before .if1 .left) enough
+    tried-filed _ _ _ (s .before .before .early-trial .ensures) (s .enum-told .given .1) (f .file-all .result) _ _ (f .file-all .ensures) (c .before .if1 .left) _ (c .room-trial .ensures)
 
 pub load-trial-spec : {M : Type 1} → statement M
 load-trial-spec =
@@ -63,6 +51,5 @@ load-trial-spec =
     enum-told
     file-all-requires
     returns-2
-    wide-requires
-    returns-3
-    returns-4)
+    room-trial-requires
+    returns-3)
