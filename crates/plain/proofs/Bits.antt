@@ -1,15 +1,16 @@
 -- A bit of a word, against and, or and the powers of 2. Assumes nothing.
 use mathlib.Core.Path.{_≡_, refl, sym, ap, _∙_}
-use mathlib.Core.Logic.{⊎-elim}
+use mathlib.Core.Logic.{_≢_, ⊎-elim}
 use mathlib.Core.Bool.{Bool, true, false, _||_, or-comm}
-use Prim.Native.Nat.{ℕ, zero, suc, _+_, _*_, _/_, _%_, _^_, _<_}
-use native.Mathlib.Nat.{zero-lt-suc, le-of-suc-le-suc, not-suc-le-zero, one-mul, zero-div, div-one, mod-lt, mul-mod-left, mul-div-cancel, pow-suc}
+use Prim.Native.Nat.{ℕ, zero, suc, _+_, _*_, _-_, _/_, _%_, _^_, _≤_, _<_}
+use native.Mathlib.Nat.{zero-lt-suc, le-of-suc-le-suc, not-suc-le-zero, one-mul, zero-div, div-one, mod-lt, mul-mod-left, mul-div-cancel, pow-suc, add-div-right}
 use native.Mathlib.Numerals.{one-add}
 use native.Mathlib.Omega.{arith}
-use lib.Bits.{bitAnd, bitOr, and-high, or-add-and, or-shr, or-mod}
+use lib.Bits.{bitAnd, bitOr, and-le-l, and-high, or-add-and, or-shr, or-mod}
 use lib.Dec.{eqb, eqb·zero-suc, eqb·suc-zero, eqb·suc-suc}
-use lib.Pow.{high-ones, shr-shr}
-use Rattle.plain.specs.Table.{bit, one, withBit}
+use lib.Pow.{pow-pos, high-ones, shr-shr}
+use borrow.Author.Tests.{eqb-true, ne-eqb}
+use Rattle.plain.specs.Table.{bit, one, withBit, withoutBit}
 use Rattle.plain.proofs.Tests.{either}
 
 -- what holds of 0 and of 1 holds of the remainder by 2
@@ -78,3 +79,48 @@ bit-of-or a x y =
 pub bit-of-withBit : (a b w : ℕ) → bit a (withBit b w) ≡ (eqb a b || bit a w)
 bit-of-withBit a b w =
     ap (bit a) (sym (or-sets b w)) ∙ bit-of-or a w (2 ^ b) ∙ ap (λ (t : Bool). bit a w || t) (bit-of-power a b) ∙ or-comm (bit a w) (eqb a b)
+
+-- ---- a bit is cleared
+
+-- a bit that is not set stays as it is, one that is set is taken away
+bit-stays-clear : (b w : ℕ) → bit b w ≡ false → withoutBit b w ≡ w
+unfolding withoutBit
+bit-stays-clear b w e = rw (e, withoutBit)
+
+bit-taken : (b w : ℕ) → bit b w ≡ true → withoutBit b w ≡ w - 2 ^ b
+unfolding withoutBit
+bit-taken b w e = rw (e, withoutBit)
+
+-- the word less its own digit is the word with the bit cleared
+pub less-clears : (b w : ℕ) → w - bitAnd w (2 ^ b) ≡ withoutBit b w
+less-clears b w =
+    let h = and-power b w in
+    ⊎-elim (λ e. omega (arith, rw e at h, bit-taken b w e)) (λ e. omega (arith, rw e at h, bit-stays-clear b w e)) (either (bit b w))
+
+-- where bit b is set, the word is that of the other bits, with bit b set
+module _ (b w : ℕ) (e : bit b w ≡ true) where
+  power-le : 2 ^ b ≤ w
+  power-le = let h = and-power b w in omega (arith, and-le-l w (2 ^ b), rw e at h)
+
+  rest-clear : bit b (w - 2 ^ b) ≡ false
+  unfolding bit
+  rest-clear =
+      let q : w / 2 ^ b ≡ (w - 2 ^ b) / 2 ^ b + 1 = ap (λ (x : ℕ). x / 2 ^ b) (omega (arith, power-le)) ∙ add-div-right (w - 2 ^ b) (pow-pos b) in
+      let odd : ((w - 2 ^ b) / 2 ^ b + 1) % 2 ≡ 1 = ap (λ (x : ℕ). x % 2) (sym q) ∙ eqb-true (w / 2 ^ b % 2) 1 e in
+      ap (λ (d : ℕ). eqb d 1) (even ((w - 2 ^ b) / 2 ^ b) odd)
+    where
+      even : (n : ℕ) → (n + 1) % 2 ≡ 1 → n % 2 ≡ 0
+      even n h = omega arith
+
+  rest-set : withBit b (w - 2 ^ b) ≡ w
+  rest-set = bit-added b (w - 2 ^ b) rest-clear ∙ omega (arith, power-le)
+
+-- the bit is clear
+pub cleared : (b w : ℕ) → bit b (withoutBit b w) ≡ false
+cleared b w = ⊎-elim (λ e. ap (bit b) (bit-taken b w e) ∙ rest-clear b w e) (λ e. ap (bit b) (bit-stays-clear b w e) ∙ e) (either (bit b w))
+
+-- the others are as they were
+pub cleared-other : (a b w : ℕ) → a ≢ b → bit a (withoutBit b w) ≡ bit a w
+cleared-other a b w n = ⊎-elim
+    (λ e. ap (bit a) (bit-taken b w e) ∙ sym (ap (bit a) (sym (rest-set b w e)) ∙ bit-of-withBit a b (w - 2 ^ b) ∙ rw (ne-eqb a b n)))
+    (λ e. ap (bit a) (bit-stays-clear b w e)) (either (bit b w))

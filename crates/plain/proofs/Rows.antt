@@ -1,21 +1,22 @@
 -- The rows of a table: an edge is present exactly when its target is in its row; a change alters one row. Assumes nothing.
 use mathlib.Core.Path.{_≡_, refl, sym, ap, _∙_}
-use mathlib.Core.Logic.{⊎-elim}
+use mathlib.Core.Logic.{_≢_, ⊎-elim}
 use mathlib.Core.Bool.{true, false, not}
 use mathlib.Core.List.{List, [], _∷_, _++_}
 use Prim.Native.Nat.{ℕ, suc, _+_, _≤_}
 use native.Mathlib.Omega.{arith}
 use lib.Dec.{eqb}
 use lib.ListN.{length}
-use borrow.Author.Tests.{eqb-false}
+use borrow.Author.Tests.{eqb-false, ne-eqb}
 use Rattle.plain.specs.Lists.{filter, elem, In, Once}
 use Rattle.plain.specs.Search.{Edge}
 use Rattle.plain.specs.Table.{Table, one, row, searched}
 use Rattle.plain.specs.Refusals.{sameEdge, present, repeated}
-use Rattle.plain.specs.Machine.{Change, add, cut, named, without, apply}
+use Rattle.plain.specs.Machine.{Change, add, cut, mark, unmark, named, without, apply}
 use Rattle.plain.proofs.Tests.{contra, either, not-true, same, self, in-nil, in-head, in-tail, in-cases, not-in, or-false, one-le, none-cons, filter-yes, filter-no}
 use Rattle.plain.proofs.Edges.{Has, has-head, has-tail, has-cases, has-nil, same-edge, same-self}
 use Rattle.plain.proofs.Prefix.{Agree}
+use Rattle.plain.proofs.Words.{accepts-marked-other, accepts-unmarked-other}
 
 pub row-yes : (e : Edge) (es : List Edge) (s : ℕ) → eqb (e .0) s ≡ true → row (e ∷ es) s ≡ e .1 ∷ row es s
 unfolding row
@@ -168,12 +169,18 @@ without-length (f ∷ es) e r h =
 pub row-again : (es : List Edge) (e : Edge) → row (without e es ++ (e ∷ [])) (e .0) ≡ but (e .1) (row es (e .0)) ++ (e .1 ∷ [])
 row-again es e = row-add (without e es) e ∙ ap (λ (l : List ℕ). l ++ (e .1 ∷ [])) (row-cut es e)
 
--- ---- so the graphs that are searched before and after a change agree but for the state that it names
+-- ---- so the graphs that are searched before and after a change, of moves or of marks, agree but for the state that it names
+
+-- a state that is not the one named
+not-named : (s x : ℕ) → elem x (s ∷ []) ≡ false → x ≢ s
+not-named s x o e = contra (rw e (in-head s [])) o
 
 other-source : (e : Edge) (x : ℕ) → elem x (e .0 ∷ []) ≡ false → eqb (e .0) x ≡ false
-other-source e x o = not-true (eqb (e .0) x) (λ h. let z : e .0 ≡ x = same h in contra (rw z (in-head x [])) o)
+other-source e x o = ne-eqb (e .0) x (λ z. not-named (e .0) x o (sym z))
 
 pub agree : (c : Change) (t : Table) → Agree (named c) (searched t) (searched (apply c t))
 unfolding named apply
 agree (add e) t = record { start = refl; edges = λ x o. sym (row-add-other (t .edges) e x (other-source e x o)); acceptance = λ x o. refl }
 agree (cut e) t = record { start = refl; edges = λ x o. sym (row-cut-other (t .edges) e x (other-source e x o)); acceptance = λ x o. refl }
+agree (mark s) t = record { start = refl; edges = λ x o. refl; acceptance = λ x o. sym (accepts-marked-other (t .words) s x (not-named s x o)) }
+agree (unmark s) t = record { start = refl; edges = λ x o. refl; acceptance = λ x o. sym (accepts-unmarked-other (t .words) s x (not-named s x o)) }

@@ -1,22 +1,23 @@
 -- The tables that a session can hold keep the limits of document 01. Assumes nothing.
-use mathlib.Core.Path.{_≡_, refl, ap}
-use mathlib.Core.Logic.{⊎-elim}
-use mathlib.Core.Bool.{Bool, false, not}
+use mathlib.Core.Path.{_≡_, refl, ap, _∙_}
+use mathlib.Core.Logic.{_≢_, ⊎-elim}
+use mathlib.Core.Bool.{Bool, false, _&&_, not}
 use mathlib.Core.List.{List, [], _∷_, _++_}
 use Prim.Native.Nat.{ℕ, _*_, _%_, _≤_}
 use native.Mathlib.Omega.{arith}
-use lib.Dec.{eqb, ltb}
+use lib.Dec.{eqb, ltb, leb}
 use lib.ListN.{length, length-append}
-use borrow.Author.Tests.{ltb-false, leb-false}
-use Rattle.plain.specs.Lists.{any, filter}
+use borrow.Author.Tests.{ltb-false, leb-false, eqb-false}
+use Rattle.plain.specs.Lists.{any, anyBelow, filter}
 use Rattle.plain.specs.Search.{Edge}
-use Rattle.plain.specs.Table.{Table}
-use Rattle.plain.specs.Refusals.{accepted, pairs, sameEdge, present, badSize, badStart, badMarks, badCount, outside, repeated, full, Load, loadTrial, addTrial}
-use Rattle.plain.specs.Machine.{Change, add, cut, tableOf, without, apply, changeTrial, trialOf}
+use Rattle.plain.specs.Table.{Table, accepts, withMark, withoutMark}
+use Rattle.plain.specs.Refusals.{accepted, pairs, sameEdge, present, badSize, badStart, badMarks, badCount, outside, repeated, beyond, full, Load, loadTrial}
+use Rattle.plain.specs.Machine.{Change, add, cut, mark, unmark, tableOf, without, withWords, conditions, apply, changeTrial, trialOf}
 use Rattle.plain.specs.Claims.{Arises, loaded, changed}
-use Rattle.plain.proofs.Tests.{contra, either, not-true, or-false, or-neither, any-cases, none-cons, filter-yes, filter-no}
+use Rattle.plain.proofs.Tests.{contra, either, not-true, same, or-false, or-neither, any-cases, none-cons, filter-yes, filter-no}
 use Rattle.plain.proofs.Trials.{unheld}
 use Rattle.plain.proofs.Edges.{same-edge, same-self}
+use Rattle.plain.proofs.Words.{accepts-marked-other, accepts-unmarked-other}
 
 -- what every table of a session keeps: none of the conditions for a refusal holds of it
 pub record Valid (t : Table) : Type 0 where
@@ -94,8 +95,8 @@ valid-load l room e = record {
   once = unheld 8 _ e;
 }
 
-valid-add : (t : Table) (e : Edge) (room : ℕ) → Valid t → addTrial t e room ≡ accepted → Valid (apply (add e) t)
-unfolding addTrial apply full
+valid-add : (t : Table) (e : Edge) (room : ℕ) → Valid t → changeTrial (add e) t room ≡ accepted → Valid (apply (add e) t)
+unfolding changeTrial conditions apply full
 valid-add t e room v a = record {
   size-ok = v .size-ok;
   start-ok = v .start-ok;
@@ -116,10 +117,29 @@ valid-cut t e v = record {
   once = repeated-filter (λ f. not (sameEdge e f)) (t .edges) (v .once);
 }
 
+-- the mark of one state is switched, set or cleared: the words mark no state outside where that one is none
+valid-switch : (t : Table) (s : ℕ) (words : List ℕ) → Valid t → beyond (t .size) s ≡ false → ((x : ℕ) → x ≢ s → accepts words x ≡ accepts (t .words) x) → Valid (withWords t words)
+unfolding badMarks beyond
+valid-switch t s words v inside others = record {
+  size-ok = v .size-ok;
+  start-ok = v .start-ok;
+  marks-ok = (λ i. anyBelow 512 (λ x. same-mark x i)) ∙ v .marks-ok;
+  count-ok = v .count-ok;
+  inside = v .inside;
+  once = v .once;
+}
+  where
+    same-mark : (x : ℕ) → (leb (t .size) x && accepts words x) ≡ (leb (t .size) x && accepts (t .words) x)
+    same-mark x = ⊎-elim
+        (λ e. let z : x ≡ s = same e in rw (z, inside))
+        (λ f. ap (λ (b : Bool). leb (t .size) x && b) (others x (eqb-false x s f))) (either (eqb x s))
+
 pub valid-change : (c : Change) (t : Table) (room : ℕ) → Valid t → changeTrial c t room ≡ accepted → Valid (apply c t)
-unfolding changeTrial
+unfolding changeTrial conditions apply
 valid-change (add e) t room v a = valid-add t e room v a
 valid-change (cut e) t room v a = valid-cut t e v
+valid-change (mark s) t room v a = valid-switch t s (withMark (t .words) s) v (unheld 6 _ a) (accepts-marked-other (t .words) s)
+valid-change (unmark s) t room v a = valid-switch t s (withoutMark (t .words) s) v (unheld 6 _ a) (accepts-unmarked-other (t .words) s)
 
 pub valid : (t : Table) → Arises t → Valid t
 unfolding trialOf

@@ -9,9 +9,9 @@ use lib.Dec.{eqb}
 use borrow.Author.Tests.{eqb-false}
 use Rattle.plain.specs.Lists.{any, elem}
 use Rattle.plain.specs.Search.{Edge}
-use Rattle.plain.specs.Table.{Table}
-use Rattle.plain.specs.Refusals.{accepted, refused, firstHeld, pairs, present, badSize, badStart, badMarks, badCount, outside, Load, loadTrial, addTrial, cutTrial}
-use Rattle.plain.specs.Machine.{Change, add, cut, changeTrial}
+use Rattle.plain.specs.Table.{Table, accepts}
+use Rattle.plain.specs.Refusals.{accepted, refused, firstHeld, pairs, present, badSize, badStart, badMarks, badCount, outside, beyond, Load, loadTrial}
+use Rattle.plain.specs.Machine.{Change, add, cut, mark, unmark, conditions, changeTrial}
 use Rattle.plain.specs.Claims.{Handed}
 use Rattle.plain.proofs.Tests.{either, or-false, or-neither, none-cons}
 
@@ -54,6 +54,11 @@ unheld n [] e = refl
 unheld n (c ∷ cs) e =
     let p = passed (c .0) (c .1) cs e in
     cond-false (eqb n (c .0)) (c .1) (conditionOf n cs) (p .0) (unheld n cs (p .1))
+
+-- nor do those that stand behind others
+pub passed-behind : (cs ds : List Condition) → firstHeld (cs ++ ds) ≡ accepted → firstHeld ds ≡ accepted
+passed-behind [] ds e = e
+passed-behind (c ∷ cs) ds e = passed-behind cs ds (passed (c .0) (c .1) (cs ++ ds) e .1)
 
 -- "a number is handed back when its condition holds and no earlier one .. does"
 pub handed-when : (n : ℕ) (cs : List Condition) → Handed n cs → firstHeld cs ≡ refused n
@@ -116,21 +121,28 @@ unfolding loadTrial elem
 load-never-7 l room = never-handed 7 _ refl
 
 pub change-never-7 : (c : Change) (t : Table) (room : ℕ) → changeTrial c t room ≢ refused 7
-unfolding changeTrial addTrial cutTrial elem
+unfolding changeTrial conditions elem
 change-never-7 (add e) t room = never-handed 7 _ refl
 change-never-7 (cut e) t room = never-handed 7 _ refl
+change-never-7 (mark s) t room = never-handed 7 _ refl
+change-never-7 (unmark s) t room = never-handed 7 _ refl
 
 -- ---- orders that are easily mistaken
 
 -- a present move added to a full table: 8, not 9
-pub present-before-full : (t : Table) (e : Edge) (room : ℕ) → outside (t .size) e ≡ false → present (t .edges) e ≡ true → addTrial t e room ≡ refused 8
-unfolding addTrial
+pub present-before-full : (t : Table) (e : Edge) (room : ℕ) → outside (t .size) e ≡ false → present (t .edges) e ≡ true → changeTrial (add e) t room ≡ refused 8
+unfolding changeTrial conditions
 present-before-full t e room f h = held-later _ _ f ∙ held-first _ _ h
 
 -- a cut of a move outside the game: 6, not 10
-pub outside-before-absent : (t : Table) (e : Edge) (room : ℕ) → outside (t .size) e ≡ true → cutTrial t e room ≡ refused 6
-unfolding cutTrial
+pub outside-before-absent : (t : Table) (e : Edge) (room : ℕ) → outside (t .size) e ≡ true → changeTrial (cut e) t room ≡ refused 6
+unfolding changeTrial conditions
 outside-before-absent t e room h = held-first _ _ h
+
+-- a state to be marked that pays already: 13, however short the lent list is
+pub marked-before-short : (t : Table) (s room : ℕ) → beyond (t .size) s ≡ false → accepts (t .words) s ≡ true → changeTrial (mark s) t room ≡ refused 13
+unfolding changeTrial conditions
+marked-before-short t s room f h = held-later _ _ f ∙ held-first _ _ h
 
 -- a loaded move that names a state outside comes before every repeated one, wherever they stand in the list
 pub outside-before-repeated : (l : Load) (room : ℕ) → badSize (l .size) ≡ false → badStart (l .size) (l .start) ≡ false → badMarks (l .size) (l .words) ≡ false → badCount (l .numbers) ≡ false

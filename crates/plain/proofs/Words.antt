@@ -1,4 +1,4 @@
--- The paying words: which states pay once the word of one state is changed, and once that state is marked. Assumes nothing.
+-- The paying words: which states pay once the word of one state is changed, and once that state is marked or unmarked. Assumes nothing.
 use mathlib.Core.Path.{_≡_, ap, ap₂, _∙_}
 use mathlib.Core.Logic.{_≢_, ⊎-elim}
 use mathlib.Core.Bool.{true, false, _||_}
@@ -11,9 +11,9 @@ use lib.Dec.{eqb}
 use lib.ListN.{length, getD, set}
 use lib.Seq.{set-out, getD-set-same, getD-set-other}
 use borrow.Author.Tests.{eqb-false, ne-eqb}
-use Rattle.plain.specs.Table.{accepts, bit, withBit, withMark}
+use Rattle.plain.specs.Table.{accepts, bit, withBit, withoutBit, withMark, withoutMark}
 use Rattle.plain.proofs.Tests.{either, self, same}
-use Rattle.plain.proofs.Bits.{bit-of-withBit}
+use Rattle.plain.proofs.Bits.{bit-of-withBit, cleared, cleared-other}
 
 -- state b of word n
 pub accepts-in-word : (words : List ℕ) (n b : ℕ) → b < 64 → accepts words (n * 64 + b) ≡ bit b (getD words n 0)
@@ -63,3 +63,17 @@ accepts-marked words s h x = ⊎-elim
     (λ e. let z : x ≡ s = same e in rw (e, z) (
     accepts-set words s (withBit (s % 64) (getD words (s / 64) 0)) h ∙ bit-of-withBit (s % 64) (s % 64) (getD words (s / 64) 0) ∙ rw (self (s % 64))))
     (λ f. accepts-marked-other words s x (eqb-false x s f) ∙ rw f) (either (eqb x s))
+
+-- ---- s is unmarked
+
+-- the other states stay as they were
+pub accepts-unmarked-other : (words : List ℕ) (s x : ℕ) → x ≢ s → accepts (withoutMark words s) x ≡ accepts words x
+unfolding withoutMark
+accepts-unmarked-other words s x n =
+    accepts-set-other words s (withoutBit (s % 64) (getD words (s / 64) 0))
+    (λ b m. cleared-other b (s % 64) (getD words (s / 64) 0) m) x n
+
+-- s pays no more
+pub accepts-unmarked : (words : List ℕ) (s : ℕ) → s / 64 < length words → accepts (withoutMark words s) s ≡ false
+unfolding withoutMark
+accepts-unmarked words s h = accepts-set words s (withoutBit (s % 64) (getD words (s / 64) 0)) h ∙ cleared (s % 64) (getD words (s / 64) 0)

@@ -4,7 +4,7 @@ use Prim.Native.Nat.{ℕ, _+_, _^_}
 use mathlib.Core.List.{List, [], _∷_}
 use lib.ListN.{replicate}
 use Rattle.plain.specs.Refusals.{Load}
-use Rattle.plain.specs.Machine.{Change, add, cut, Call, numbered, Line, gameLine, roundLine, noneLine, noLine}
+use Rattle.plain.specs.Machine.{Change, add, cut, mark, unmark, Call, numbered, Line, gameLine, roundLine, noneLine, noLine}
 
 -- a game, the changes made to it in turn, and the lines printed
 pub record Known : Type 0 where
@@ -86,4 +86,41 @@ games =
     ∷ [])
     -- a move to itself on the paying state, beside a longer round that is found first
     ∷ returning
+    -- Ticket 2: game A with its round; the paying state is unmarked, and marked again; then the start state
+    ∷ known 4 (2 ∷ []) (0 ∷ 1 ∷ 1 ∷ 2 ∷ []) (add (2, 1) ∷ unmark 2 ∷ unmark 2 ∷ mark 2 ∷ mark 2 ∷ mark 0 ∷ unmark 0 ∷ [])
+    (gameLine 4 2 1
+    ∷ noneLine 2 0
+    ∷ roundLine 2 2 1 2 (0 ∷ 1 ∷ 2 ∷ [])
+    ∷ noneLine 1 2
+    ∷ noLine (numbered 14)
+    ∷ roundLine 2 2 1 2 (0 ∷ 1 ∷ 2 ∷ [])
+    ∷ noLine (numbered 13)
+    ∷ roundLine 4 0 1 2 (0 ∷ 1 ∷ 2 ∷ [])
+    ∷ roundLine 4 0 1 2 (0 ∷ 1 ∷ 2 ∷ [])
+    ∷ [])
+    -- a state never met, one on the stem, the payer, one on the round, the start state, states outside
+    ∷ known 5 (3 ∷ []) (0 ∷ 1 ∷ 1 ∷ 2 ∷ 2 ∷ 3 ∷ 3 ∷ 2 ∷ [])
+    (mark 4 ∷ mark 4 ∷ mark 1 ∷ unmark 3 ∷ unmark 3 ∷ mark 2 ∷ mark 0 ∷ mark 5 ∷ unmark 512 ∷ unmark 1 ∷ [])
+    (gameLine 5 4 1
+    ∷ roundLine 5 0 2 2 (0 ∷ 1 ∷ 2 ∷ 3 ∷ [])
+    ∷ roundLine 0 5 2 2 (0 ∷ 1 ∷ 2 ∷ 3 ∷ [])
+    ∷ noLine (numbered 13)
+    ∷ roundLine 4 1 2 2 (0 ∷ 1 ∷ 2 ∷ 3 ∷ [])
+    ∷ noneLine 4 3
+    ∷ noLine (numbered 14)
+    ∷ roundLine 4 2 2 2 (0 ∷ 1 ∷ 2 ∷ 3 ∷ [])
+    ∷ roundLine 6 0 2 2 (0 ∷ 1 ∷ 2 ∷ 3 ∷ [])
+    ∷ noLine (numbered 6)
+    ∷ noLine (numbered 6)
+    ∷ roundLine 5 1 2 2 (0 ∷ 1 ∷ 2 ∷ 3 ∷ [])
+    ∷ [])
+    -- a mark by which another round is found first, and without it the old one
+    ∷ known 3 (2 ∷ []) (0 ∷ 1 ∷ 0 ∷ 2 ∷ 1 ∷ 0 ∷ 2 ∷ 0 ∷ []) (mark 1 ∷ unmark 1 ∷ unmark 2 ∷ mark 1 ∷ [])
+    (gameLine 3 4 1
+    ∷ roundLine 5 0 0 2 (0 ∷ 2 ∷ [])
+    ∷ roundLine 2 1 0 2 (0 ∷ 1 ∷ [])
+    ∷ roundLine 4 1 0 2 (0 ∷ 2 ∷ [])
+    ∷ noneLine 1 3
+    ∷ roundLine 2 1 0 2 (0 ∷ 1 ∷ [])
+    ∷ [])
     ∷ []

@@ -1,22 +1,28 @@
--- Document 01, "The plain table" and "Load, add, cut": what each call answers, and what it leaves. Assumes nothing.
+-- Document 01, "The plain table" and "Load, add, cut": what each call answers, and what it leaves. Document 02, ticket 2: the paying marks can be switched too.
+-- Assumes nothing.
 use Prim.Native.Nat.{ℕ, _+_, _-_}
-use mathlib.Core.Bool.{not}
+use mathlib.Core.Bool.{Bool, not}
 use mathlib.Core.List.{List, [], _∷_, _++_}
 use lib.ListN.{length, drop}
 use Rattle.plain.specs.Lists.{filter}
 use Rattle.plain.specs.Search.{Edge, Verdict, none, lasso, unfinished, verdict, count}
-use Rattle.plain.specs.Table.{Table, final, firstMeeting, acceptingCount}
-use Rattle.plain.specs.Refusals.{Trial, accepted, refused, Load, loadTrial, addTrial, cutTrial, pairs, sameEdge}
+use Rattle.plain.specs.Table.{Table, accepts, withMark, withoutMark, final, firstMeeting, acceptingCount}
+use Rattle.plain.specs.Refusals.{Trial, accepted, refused, firstHeld, pairs, sameEdge, present, outside, beyond, full, roomCondition, Load, loadTrial}
 
 -- A change of a session. Tickets of document 02 bring more kinds.
 pub data Change : Type 0 where
   add : Edge → Change
   cut : Edge → Change
+  -- ticket 2: "turns a state's pay on or off in mid-session"
+  mark : ℕ → Change
+  unmark : ℕ → Change
 
--- the states that it names: "the state that the move leaves"
+-- the states that it names: "the state that the move leaves"; of a mark, "that state"
 unfoldable pub named : Change → List ℕ
 named (add e) = e .0 ∷ []
 named (cut e) = e .0 ∷ []
+named (mark s) = s ∷ []
+named (unmark s) = s ∷ []
 
 -- "An accepted load sets these as given, its moves in their order."
 unfoldable pub tableOf : Load → Table
@@ -25,18 +31,30 @@ tableOf l = record { size = l .size; start = l .start; words = l .words; edges =
 abbrev pub withEdges : Table → List Edge → Table
 withEdges t es = record { size = t .size; start = t .start; words = t .words; edges = es }
 
+abbrev pub withWords : Table → List ℕ → Table
+withWords t words = record { size = t .size; start = t .start; words = words; edges = t .edges }
+
 -- "takes its move out; the others keep their order"
 unfoldable pub without : Edge → List Edge → List Edge
 without e es = filter (λ f. not (sameEdge e f)) es
 
--- "An accepted add puts its move at the end. An accepted cut takes its move out"
+-- "An accepted add puts its move at the end. An accepted cut takes its move out"; "the marks of that moment" are those that accepted marks leave
 unfoldable pub apply : Change → Table → Table
 apply (add e) t = withEdges t (t .edges ++ (e ∷ []))
 apply (cut e) t = withEdges t (without e (t .edges))
+apply (mark s) t = withWords t (withMark (t .words) s)
+apply (unmark s) t = withWords t (withoutMark (t .words) s)
+
+-- The conditions of a change itself, in the order tried: "an add 6 to 9 and 11, a cut 6, 7, 10 and 11" (7 no more), 11 being behind them. Ticket 2:
+-- "13, the state to be marked already pays; 14, the state to be unmarked does not; both are tried after 6 and before 11".
+unfoldable pub conditions : Change → Table → List (ℕ × Bool)
+conditions (add e) t = (6, outside (t .size) e) ∷ (8, present (t .edges) e) ∷ (9, full (t .edges)) ∷ []
+conditions (cut e) t = (6, outside (t .size) e) ∷ (10, not (present (t .edges) e)) ∷ []
+conditions (mark s) t = (6, beyond (t .size) s) ∷ (13, accepts (t .words) s) ∷ []
+conditions (unmark s) t = (6, beyond (t .size) s) ∷ (14, not (accepts (t .words) s)) ∷ []
 
 unfoldable pub changeTrial : Change → Table → ℕ → Trial
-changeTrial (add e) t room = addTrial t e room
-changeTrial (cut e) t room = cutTrial t e room
+changeTrial c t room = firstHeld (conditions c t ++ roomCondition (t .size) room)
 
 -- "A refused call's answer is its number, with what a ticket adds to it."
 pub record Refusal : Type 0 where
@@ -50,8 +68,8 @@ pub data Answer : Type 0 where
   refusal : Refusal → Answer
   answer : Verdict → ℕ → ℕ → Answer
 
--- "kept is the looks of the plain search on the new table before it first meets the state that the move leaves, or all its looks"
--- t is the table as the change finds it
+-- "kept is the looks of the plain search on the new table before it first meets the state that the move leaves, or all its looks"; of a mark, "what the plain
+-- search looks at before it first meets that state". t is the table as the change finds it.
 unfoldable pub kept : Change → Table → ℕ
 kept c t = count (firstMeeting (named c) (apply c t))
 

@@ -1,13 +1,13 @@
--- Document 01, "Turned back": the conditions, each with its sentence, and the order in which they are tried. Document 02, ticket 1: a move from a state
--- to itself "is .. taken like any other, refusal 7 no longer occurs"; the other numbers stay. Assumes nothing.
+-- Document 01, "Turned back": the conditions, each with its sentence, and the order in which a load tries them; that of a change is in Machine.antt.
+-- Document 02, ticket 1: a move from a state to itself "is .. taken like any other, refusal 7 no longer occurs"; the other numbers stay. Assumes nothing.
 use Prim.Native.Nat.{ℕ, _%_}
-use mathlib.Core.Bool.{Bool, true, false, _&&_, _||_, not}
+use mathlib.Core.Bool.{Bool, true, false, _&&_, _||_}
 use mathlib.Core.List.{List, [], _∷_}
 use lib.Dec.{eqb, ltb, leb}
 use lib.ListN.{length}
 use Rattle.plain.specs.Lists.{any, anyBelow}
 use Rattle.plain.specs.Search.{Edge}
-use Rattle.plain.specs.Table.{Table, accepts}
+use Rattle.plain.specs.Table.{accepts}
 
 pub data Trial : Type 0 where
   accepted : Trial
@@ -27,6 +27,7 @@ pairs (a ∷ b ∷ ns) = (a, b) ∷ pairs ns
 unfoldable pub sameEdge : Edge → Edge → Bool
 sameEdge e f = eqb (e .0) (f .0) && eqb (e .1) (f .1)
 
+-- 8. "A move to be .. added is already there"; 10. "A cut names a move that is not present."
 unfoldable pub present : List Edge → Edge → Bool
 present es e = any (sameEdge e) es
 
@@ -50,6 +51,10 @@ badCount ns = eqb (length ns % 2) 1 || ltb 4096 (length ns)
 unfoldable pub outside : ℕ → Edge → Bool
 outside n e = leb n (e .0) || leb n (e .1)
 
+-- 6, of a state that is named alone: "A state outside the game gets refusal 6." (document 02, ticket 2)
+unfoldable pub beyond : ℕ → ℕ → Bool
+beyond n s = leb n s
+
 -- 8. "A move to be loaded .. stands twice in the loaded list."
 unfoldable pub repeated : List Edge → Bool
 repeated [] = false
@@ -62,6 +67,9 @@ full es = leb 2048 (length es)
 -- 11. "The lent list for the walk has fewer entries than the game has states."
 unfoldable pub shortRoom : ℕ → ℕ → Bool
 shortRoom n room = ltb room n
+
+abbrev pub roomCondition : ℕ → ℕ → List (ℕ × Bool)
+roomCondition n room = (11, shortRoom n room) ∷ []
 
 -- the arguments of a load: the count of states, the start state, the paying words, the moves as a list of numbers
 pub record Load : Type 0 where
@@ -79,22 +87,4 @@ loadTrial l room = firstHeld (
     ∷ (5, badCount (l .numbers))
     ∷ (6, any (outside (l .size)) (pairs (l .numbers)))
     ∷ (8, repeated (pairs (l .numbers)))
-    ∷ (11, shortRoom (l .size) room)
-    ∷ [])
-
--- "an add 6 to 9 and 11" (7 no more)
-unfoldable pub addTrial : Table → Edge → ℕ → Trial
-addTrial t e room = firstHeld (
-    (6, outside (t .size) e)
-    ∷ (8, present (t .edges) e)
-    ∷ (9, full (t .edges))
-    ∷ (11, shortRoom (t .size) room)
-    ∷ [])
-
--- "a cut 6, 7, 10 and 11" (7 no more): 10. "A cut names a move that is not present."
-unfoldable pub cutTrial : Table → Edge → ℕ → Trial
-cutTrial t e room = firstHeld (
-    (6, outside (t .size) e)
-    ∷ (10, not (present (t .edges) e))
-    ∷ (11, shortRoom (t .size) room)
-    ∷ [])
+    ∷ roomCondition (l .size) room)

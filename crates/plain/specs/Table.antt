@@ -1,5 +1,5 @@
 -- Document 01, "The game table", and the plain search on it. Assumes nothing.
-use Prim.Native.Nat.{ℕ, zero, suc, _+_, _*_, _/_, _%_, _^_}
+use Prim.Native.Nat.{ℕ, zero, suc, _+_, _*_, _-_, _/_, _%_, _^_}
 use mathlib.Core.Bool.{Bool, true, false}
 use mathlib.Core.List.{List, map}
 use lib.Dec.{eqb}
@@ -29,9 +29,17 @@ accepts words s = bit (s % 64) (getD words (s / 64) 0)
 unfoldable pub withBit : ℕ → ℕ → ℕ
 withBit b w = elim (bit b w) [ true ↦ w | false ↦ w + 2 ^ b ]
 
--- the words with the mark of s set: what a line `pay` does
+-- the word with bit b cleared
+unfoldable pub withoutBit : ℕ → ℕ → ℕ
+withoutBit b w = elim (bit b w) [ true ↦ w - 2 ^ b | false ↦ w ]
+
+-- the words with the mark of s set: what a line `pay` does, and a line `mark`
 unfoldable pub withMark : List ℕ → ℕ → List ℕ
 withMark words s = set words (s / 64) (withBit (s % 64) (getD words (s / 64) 0))
+
+-- the words with the mark of s cleared: what a line `unmark` does
+unfoldable pub withoutMark : List ℕ → ℕ → List ℕ
+withoutMark words s = set words (s / 64) (withoutBit (s % 64) (getD words (s / 64) 0))
 
 abbrev pub one : Bool → ℕ
 one true = 1
