@@ -1,5 +1,5 @@
 -- Equality of lists of bytes as a test, and the lookup of a word in the table, row by row. Assumes nothing.
-use mathlib.Core.Path.{_≡_, refl, sym, ap}
+use mathlib.Core.Path.{_≡_, refl, sym, ap, _∙_}
 use mathlib.Core.List.{List, [], _∷_}
 use mathlib.Core.Bool.{Bool, true, false, cond, true≢false}
 use Prim.Native.Nat.{ℕ, suc, _+_, _≤_, _<_}
@@ -10,6 +10,7 @@ use lib.ListN.{length, getD, drop, drop-of-length-le}
 use lib.Seq.{drop-cons}
 use Rattle.line.specs.Records.{sameBytes, wordIn}
 use Rattle.line.specs.declared.Word.{Word}
+use Rattle.line.specs.declared.Word.the-variants.{Unreadable}
 
 -- ---- equality as a test, from a place on
 
@@ -58,12 +59,17 @@ unfolding sameBytes
 same-self [] = refl
 same-self (x ∷ xs) = rw (eq-eqb x x refl) (same-self xs)
 
--- ---- a row of the table
+-- ---- the table: t is whether a field is the first row's word, and w the word that the rows give
 
-pub row-hit : (row : List ℕ × Word) (rows : List (List ℕ × Word)) (l : List ℕ) → sameBytes l (row .0) ≡ true → row .1 ≡ wordIn (row ∷ rows) l
-unfolding wordIn
-row-hit row rows l e = rw e
+module _ (row : List ℕ × Word) (rows : List (List ℕ × Word)) (l : List ℕ) {t : Bool} {w : Word} (e : t ≡ sameBytes l (row .0)) where
+  pub row-hit : t ≡ true → wordIn (row ∷ rows) l ≡ w → row .1 ≡ w
+  unfolding wordIn
+  row-hit h k = rw (sym e ∙ h) at k
 
-pub row-miss : (row : List ℕ × Word) (rows : List (List ℕ × Word)) (l : List ℕ) → sameBytes l (row .0) ≡ false → wordIn rows l ≡ wordIn (row ∷ rows) l
+  pub row-miss : t ≡ false → wordIn (row ∷ rows) l ≡ w → wordIn rows l ≡ w
+  unfolding wordIn
+  row-miss h k = rw (sym e ∙ h) at k
+
+pub no-rows : (l : List ℕ) {w : Word} → wordIn [] l ≡ w → Unreadable ≡ w
 unfolding wordIn
-row-miss row rows l e = rw e
+no-rows l k = k

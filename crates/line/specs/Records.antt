@@ -5,7 +5,7 @@ use mathlib.Core.List.{List, [], _∷_, map}
 use lib.Dec.{eqb, ltb}
 use lib.ListN.{length, getD}
 use Rattle.line.specs.declared.Word.{Word}
-use Rattle.line.specs.declared.Word.the-variants.{Game, Pay, Move, Go, Add, Cut, Unreadable}
+use Rattle.line.specs.declared.Word.the-variants.{Game, Pay, Move, Go, Add, Cut, Mark, Unmark, Unreadable}
 use Rattle.line.specs.declared.Record.{Record}
 use Rattle.line.specs.Fields.{bytes, fieldsOf}
 use Rattle.line.specs.Numbers.{all, value, isNumber}
@@ -20,7 +20,16 @@ sameBytes (x ∷ xs) (y ∷ ys) = cond (eqb x y) (sameBytes xs ys) false
 
 -- "The words are": each with its bytes. Tickets of document 02 add rows.
 unfoldable pub words : List (List ℕ × Word)
-words = (bytes "game", Game) ∷ (bytes "pay", Pay) ∷ (bytes "move", Move) ∷ (bytes "go", Go) ∷ (bytes "add", Add) ∷ (bytes "cut", Cut) ∷ []
+words =
+    (bytes "game", Game)
+    ∷ (bytes "pay", Pay)
+    ∷ (bytes "move", Move)
+    ∷ (bytes "go", Go)
+    ∷ (bytes "add", Add)
+    ∷ (bytes "cut", Cut)
+    ∷ (bytes "mark", Mark)
+    ∷ (bytes "unmark", Unmark)
+    ∷ []
 
 -- the word that a field spells, by the table; an unknown one makes the line unreadable
 unfoldable pub wordIn : List (List ℕ × Word) → List ℕ → Word

@@ -21,6 +21,10 @@ pub const ADD: [u8; 3] = *b"add";
 
 pub const CUT: [u8; 3] = *b"cut";
 
+pub const MARK: [u8; 4] = *b"mark";
+
+pub const UNMARK: [u8; 6] = *b"unmark";
+
 pub const TAB: u8 = 9;
 
 pub const NEWLINE: u8 = 10;
@@ -39,6 +43,8 @@ pub enum Word {
     Go,
     Add,
     Cut,
+    Mark,
+    Unmark,
     Unreadable,
 }
 
@@ -160,6 +166,12 @@ fn read_word(s: &[u8]) -> Word
     if same(s, &CUT) {
         return Word::Cut;
     }
+    if same(s, &MARK) {
+        return Word::Mark;
+    }
+    if same(s, &UNMARK) {
+        return Word::Unmark;
+    }
     Word::Unreadable
 }
 
@@ -180,7 +192,9 @@ fn form_of(word: Word) -> Form
         Word::Go => row(3, 0, 65535),
         Word::Add => row(4, 2, 65535),
         Word::Cut => row(5, 2, 65535),
-        Word::Unreadable => row(6, 0, 65535),
+        Word::Mark => row(6, 1, 65535),
+        Word::Unmark => row(7, 1, 65535),
+        Word::Unreadable => row(8, 0, 65535),
     }
 }
 
