@@ -1,6 +1,6 @@
 // The paying marks: eight 64-bit words. State s has bit (s mod 64) of word (s div 64).
 ghost use mathlib.Core.Path.{_≡_};
-ghost use Rattle.plain.specs.Table.{accepts, withMark, acceptingCount};
+ghost use Rattle.plain.specs.Table.{accepts, withMark, withoutMark, acceptingCount};
 
 // 2 to the power 0 up to 63.
 const MASKS: [u64; 64] = [
@@ -84,16 +84,35 @@ pub fn accepts_in(words: &[u64], s: usize) -> bool
     }
 }
 
-// The words with the mark of s set; for 512 and above as they are.
-pub fn with_mark(words: [u64; 8], s: usize) -> [u64; 8]
-    ensures { λ r. ⌜ r ≡ withMark words s ⌝ }
+// Sets the mark of s in words that are lent. A state past the last word has none, and the words stay as they are.
+pub fn set_mark(words: &mut [u64], s: usize)
+    ensures { λ r. ⌜ now (words .exit) ≡ withMark (now (words .entry)) s ⌝ }
 {
     let word = s / 64;
     let bit = s % 64;
-    let mut marked = words;
-    if word < 8 {
-        marked[word] = words[word] | MASKS[bit];
+    if word < words.len() {
+        words[word] = words[word] | MASKS[bit];
     }
+}
+
+// Clears the mark of s: its word loses what it has of the mask.
+pub fn clear_mark(words: &mut [u64], s: usize)
+    ensures { λ r. ⌜ now (words .exit) ≡ withoutMark (now (words .entry)) s ⌝ }
+{
+    let word = s / 64;
+    let bit = s % 64;
+    if word < words.len() {
+        let w = words[word];
+        words[word] = w - (w & MASKS[bit]);
+    }
+}
+
+// The words with the mark of s set.
+pub fn with_mark(words: [u64; 8], s: usize) -> [u64; 8]
+    ensures { λ r. ⌜ r ≡ withMark words s ⌝ }
+{
+    let mut marked = words;
+    set_mark(&mut marked, s);
     marked
 }
 
