@@ -1,5 +1,5 @@
--- A change of the table: its trial is the plain table's, and the rows that it leaves hold the changed table's edges. Assumes nothing.
-use mathlib.Core.Path.{_≡_, refl, sym, ap, subst, _∙_}
+-- A change of the table: its trial is the plain table's, and the arrays that it leaves hold the changed table. Assumes nothing.
+use mathlib.Core.Path.{_≡_, refl, sym, ap, subst, subst⁻¹, _∙_}
 use mathlib.Core.Logic.{⊎-elim}
 use mathlib.Core.Bool.{true, false, not}
 use mathlib.Core.List.{List, [], _∷_, _++_}
@@ -10,33 +10,40 @@ use lib.ListN.{length, take, drop}
 use borrow.Author.Tests.{ltb-true, leb-false, eqb-true, eqb-false, not-false}
 use Rattle.plain.specs.Lists.{filter, elem, Once}
 use Rattle.plain.specs.Search.{Edge}
-use Rattle.plain.specs.Table.{Table, row}
-use Rattle.plain.specs.Refusals.{accepted, firstHeld, present, outside, full, addTrial, cutTrial, shortRoom}
-use Rattle.plain.specs.Machine.{without, apply, changeTrial}
+use Rattle.plain.specs.Table.{Table, accepts, row, withMark, withoutMark}
+use Rattle.plain.specs.Refusals.{accepted, firstHeld, present, outside, beyond, full, roomCondition}
+use Rattle.plain.specs.Machine.{without, withWords, apply, conditions, changeTrial}
 use Rattle.plain.proofs.Tests.{either, or-false}
 use Rattle.plain.proofs.Rows.{row-once, row-cut, row-cut-other, without-length, but, but-yes, but-no}
 use Rattle.plain.proofs.Trials.{unheld}
 use Rattle.plain.proofs.Tables.{Valid}
 use Rattle.rows.specs.Rows.{rowAt, degreeAt, placeOf, Tabled}
-use Rattle.rows.specs.Change.{Rows}
+use Rattle.rows.specs.Change.{Rows, removed}
 use Rattle.rows.proofs.Entries.{row-length}
 use Rattle.rows.proofs.Change.{removes-edge, inserted-lengths, removed-lengths}
 use Rattle.table.specs.declared.Op.{Op}
-use Rattle.table.specs.declared.Op.the-variants.{Add, Cut}
-use Rattle.table.specs.Trials.{there, conditionsIn, roomCondition, trialIn}
-use Rattle.table.specs.Filing.{changeOf, sourceOf, filedIn, Filed}
+use Rattle.table.specs.declared.Op.the-variants.{Add, Cut, Mark, Unmark}
+use Rattle.table.specs.Trials.{Arrays, there, addConditions, cutConditions, markConditions, unmarkConditions, conditionsIn, trialIn}
+use Rattle.table.specs.Filing.{changeOf, namedBy, filedIn, Filed, Stored}
 use Rattle.table.proofs.Filing.{there-present, filed-insert}
 
+rows-of : {a b : Arrays} → a ≡ b → a .rows ≡ b .rows
+rows-of e = λ i. e i .rows
+
 -- the arrays of the rows keep their lengths
-pub filed-tabled : (op : Op) (size : ℕ) (r r′ : Rows) → r′ ≡ filedIn op size r → Tabled (r .targets) (r .starts) → Tabled (r′ .targets) (r′ .starts)
-filed-tabled (Add from to) size r r′ e l = inserted-lengths size from to r r′ e l
-filed-tabled (Cut from to) size r r′ e l = removed-lengths size from _ r r′ e l
+pub filed-tabled : (op : Op) (size : ℕ) (a a′ : Arrays) → a′ ≡ filedIn op size a → Tabled (a .rows .targets) (a .rows .starts) → Tabled (a′ .rows .targets) (a′ .rows .starts)
+filed-tabled (Add from to) size a a′ e l = inserted-lengths size from to (a .rows) (a′ .rows) (rows-of e) l
+filed-tabled (Cut from to) size a a′ e l = removed-lengths size from _ (a .rows) (a′ .rows) (rows-of e) l
+filed-tabled (Mark state) size a a′ e l = subst⁻¹ (λ (r : Rows). Tabled (r .targets) (r .starts)) (rows-of e) l
+filed-tabled (Unmark state) size a a′ e l = subst⁻¹ (λ (r : Rows). Tabled (r .targets) (r .starts)) (rows-of e) l
 
 -- the state that an accepted change names
-pub source-below : (op : Op) (t : Table) (room : ℕ) → changeTrial (changeOf op) t room ≡ accepted → sourceOf op < t .size
-unfolding changeTrial addTrial cutTrial outside
-source-below (Add from to) t room e = leb-false (t .size) from (or-false (leb (t .size) from) (leb (t .size) to) (unheld 6 _ e) .0)
-source-below (Cut from to) t room e = leb-false (t .size) from (or-false (leb (t .size) from) (leb (t .size) to) (unheld 6 _ e) .0)
+pub named-below : (op : Op) (t : Table) (room : ℕ) → changeTrial (changeOf op) t room ≡ accepted → namedBy op < t .size
+unfolding changeTrial conditions outside beyond
+named-below (Add from to) t room e = leb-false (t .size) from (or-false (leb (t .size) from) (leb (t .size) to) (unheld 6 _ e) .0)
+named-below (Cut from to) t room e = leb-false (t .size) from (or-false (leb (t .size) from) (leb (t .size) to) (unheld 6 _ e) .0)
+named-below (Mark state) t room e = leb-false (t .size) state (unheld 6 _ e)
+named-below (Unmark state) t room e = leb-false (t .size) state (unheld 6 _ e)
 
 -- ---- the place of an entry of a list
 
@@ -70,21 +77,6 @@ module _ (t : Table) (before : Rows) (f : Filed (t .size) (t .edges) before) whe
   present-here : (v y : ℕ) → there (before .targets) (before .starts) v y ≡ present (t .edges) (v, y)
   present-here v y = there-present (before .targets) (before .starts) (t .edges) v y (f .rows-are v)
 
-  -- the refusals read off the rows are the table's
-  pub trial-same : (op : Op) (room : ℕ) → trialIn op (t .size) (before .targets) (before .starts) room ≡ changeTrial (changeOf op) t room
-  unfolding conditionsIn roomCondition trialIn changeTrial addTrial cutTrial full
-  trial-same (Add from to) room = λ i. firstHeld (
-      (6, outside (t .size) (from, to))
-      ∷ (8, present-here from to i)
-      ∷ (9, leb 2048 (f .count-is i))
-      ∷ (11, shortRoom (t .size) room)
-      ∷ [])
-  trial-same (Cut from to) room = λ i. firstHeld (
-      (6, outside (t .size) (from, to))
-      ∷ (10, not (present-here from to i))
-      ∷ (11, shortRoom (t .size) room)
-      ∷ [])
-
   module _ (rows : Rows) where
     -- either way another state's row is as it was
     other-rows : (e : Edge) (es : List Edge) → ((u : ℕ) → (u ≡ e .0 → ⊥) → rowAt (rows .targets) (rows .starts) u ≡ rowAt (before .targets) (before .starts) u)
@@ -94,16 +86,13 @@ module _ (t : Table) (before : Rows) (f : Filed (t .size) (t .edges) before) whe
         (λ z. let y : e .0 ≡ v = eqb-true (e .0) v z in rw (← y) here)
         (λ z. o v (λ y. eqb-false (e .0) v z (sym y)) ∙ f .rows-are v ∙ sym (same v z)) (either (eqb (e .0) v))
 
-    -- an accepted change leaves rows that hold the changed table's edges
-    pub refiled : Valid t → (op : Op) (room : ℕ) → changeTrial (changeOf op) t room ≡ accepted → rows ≡ filedIn op (t .size) before
-        → Filed (apply (changeOf op) t .size) (apply (changeOf op) t .edges) rows
-    unfolding changeTrial addTrial cutTrial apply full
-    refiled valid (Add from to) room e new =
-        filed-insert (t .size) (t .edges) (from, to) before rows f (source-below (Add from to) t room e) (omega (arith, leb-false 2048 (length (t .edges)) (unheld 9 _ e), f .count-is)) new
-    refiled valid (Cut from to) room e new =
-        let is : present (t .edges) (from, to) ≡ true = not-false (present (t .edges) (from, to)) (unheld 10 _ e) in
+    -- a cut edge's row holds the others
+    filed-remove : Valid t → (from to : ℕ) → from < t .size → present (t .edges) (from, to) ≡ true
+        → rows ≡ removed (t .size) from (placeOf to (rowAt (before .targets) (before .starts) from)) before
+        → Filed (t .size) (without (from, to) (t .edges)) rows
+    filed-remove valid from to below is new =
         let place : placeOf to (rowAt (before .targets) (before .starts) from) < degreeAt (before .starts) from = ltb-true _ _ (present-here from to ∙ is) in
-        let i = removes-edge (t .size) from _ before rows new (f .compressed) (source-below (Cut from to) t room e) place in
+        let i = removes-edge (t .size) from _ before rows new (f .compressed) below place in
         let size : length (rowAt (before .targets) (before .starts) from) ≡ degreeAt (before .starts) from = row-length (before .targets) (before .starts) from in
         let once : Once (rowAt (before .targets) (before .starts) from) = subst (λ (l : List ℕ). Once l) (sym (f .rows-are from)) (row-once (t .edges) from (valid .once)) in
         record {
@@ -112,3 +101,39 @@ module _ (t : Table) (before : Rows) (f : Filed (t .size) (t .edges) before) whe
               (i .rows .here ∙ remove-place to (rowAt (before .targets) (before .starts) from) once (omega arith) ∙ ap (but to) (f .rows-are from) ∙ sym (row-cut (t .edges) (from, to))) (λ u z. row-cut-other (t .edges) (from, to) u z);
           count-is = omega (arith, i .count, f .count-is, without-length (t .edges) (from, to) (valid .once) is);
         }
+
+-- ---- arrays that hold a table
+
+module _ (t : Table) (before : Arrays) (f : Stored t before) where
+  -- the conditions read off the arrays are the table's
+  conditions-same : (op : Op) → conditionsIn op (t .size) before ≡ conditions (changeOf op) t
+  unfolding addConditions cutConditions markConditions unmarkConditions conditions full
+  conditions-same (Add from to) = λ i.
+      (6, outside (t .size) (from, to)) ∷ (8, present-here t (before .rows) (f .filed) from to i) ∷ (9, leb 2048 (f .filed .count-is i)) ∷ []
+  conditions-same (Cut from to) = λ i. (6, outside (t .size) (from, to)) ∷ (10, not (present-here t (before .rows) (f .filed) from to i)) ∷ []
+  conditions-same (Mark state) = λ i. (6, beyond (t .size) state) ∷ (13, accepts (f .words-are i) state) ∷ []
+  conditions-same (Unmark state) = λ i. (6, beyond (t .size) state) ∷ (14, not (accepts (f .words-are i) state)) ∷ []
+
+  -- and so is the trial
+  pub trial-same : (op : Op) (room : ℕ) → trialIn op (t .size) before room ≡ changeTrial (changeOf op) t room
+  unfolding trialIn changeTrial
+  trial-same op room = λ i. firstHeld (conditions-same op i ++ roomCondition (t .size) room)
+
+  -- other words, and the rows as they were
+  switched : (a : Arrays) (words : List ℕ) → a .rows ≡ before .rows → a .words ≡ words → Stored (withWords t words) a
+  switched a words same new = record { filed = subst⁻¹ (Filed (t .size) (t .edges)) same (f .filed); words-are = new }
+
+  -- an accepted change leaves arrays that hold the changed table
+  pub restored : (a : Arrays) → Valid t → (op : Op) (room : ℕ) → changeTrial (changeOf op) t room ≡ accepted → a ≡ filedIn op (t .size) before → Stored (apply (changeOf op) t) a
+  unfolding changeTrial conditions apply full
+  restored a valid (Add from to) room e new = record {
+    filed = filed-insert (t .size) (t .edges) (from, to) (before .rows) (a .rows) (f .filed) (named-below (Add from to) t room e)
+        (omega (arith, leb-false 2048 (length (t .edges)) (unheld 9 _ e), f .filed .count-is)) (rows-of new);
+    words-are = (λ i. new i .words) ∙ f .words-are;
+  }
+  restored a valid (Cut from to) room e new = record {
+    filed = filed-remove t (before .rows) (f .filed) (a .rows) valid from to (named-below (Cut from to) t room e) (not-false (present (t .edges) (from, to)) (unheld 10 _ e)) (rows-of new);
+    words-are = (λ i. new i .words) ∙ f .words-are;
+  }
+  restored a valid (Mark state) room e new = switched a (withMark (t .words) state) (rows-of new) ((λ i. new i .words) ∙ ap (λ (w : List ℕ). withMark w state) (f .words-are))
+  restored a valid (Unmark state) room e new = switched a (withoutMark (t .words) state) (rows-of new) ((λ i. new i .words) ∙ ap (λ (w : List ℕ). withoutMark w state) (f .words-are))

@@ -12,7 +12,7 @@ use borrow.Author.Tests.{lt-ltb, ltb-false, leb-false, ne-eqb}
 use Rattle.plain.specs.Lists.{any, elem}
 use Rattle.plain.specs.Search.{Edge}
 use Rattle.plain.specs.Table.{row}
-use Rattle.plain.specs.Refusals.{firstHeld, badSize, badCount, outside, pairs, present, repeated, Load}
+use Rattle.plain.specs.Refusals.{firstHeld, badSize, badCount, outside, roomCondition, pairs, present, repeated, Load}
 use Rattle.plain.proofs.Tests.{or-first, or-second, or-false, none-cons}
 use Rattle.plain.proofs.Edges.{Has, has-head, has-tail, has-cases, has-nil}
 use Rattle.plain.proofs.Rows.{row-nil, row-has, has-row, row-add, row-add-other}
@@ -24,7 +24,7 @@ use Rattle.rows.proofs.Empty.{empty-row, empty-count, empty-compressed}
 use Rattle.rows.proofs.Change.{inserts-edge}
 use Rattle.table.specs.declared.Trial.{Trial}
 use Rattle.table.specs.declared.Trial.the-variants.{Accepted, Refused}
-use Rattle.table.specs.Trials.{tried, earlyTrial, there, roomCondition}
+use Rattle.table.specs.Trials.{tried, earlyTrial, there}
 use Rattle.table.specs.Filing.{Filed, Empty, Limits, FiledAll, Tried}
 use Rattle.table.proofs.Pairs.{moveAt, pairs-more, pairs-end}
 use Rattle.table.proofs.Trying.{stop, skip, early-held, Early, early-free}
@@ -216,7 +216,6 @@ module _ (l : Load) (room : ℕ) (early : Trial) (e : early ≡ tried (earlyTria
       module _ (t : b ≡ false) where
         -- nothing stands twice: 11 decides
         pub tried-filed : (r : Trial) → r ≡ tried (firstHeld (roomCondition (l .size) room)) → Tried l room r targets starts
-        unfolding roomCondition
         tried-filed r h = record {
           trial-is = passed .rest r (skip r 8 _ _ (sym (f .repeats) ∙ t) h);
           filed = λ n. f .filed t;

@@ -1,4 +1,4 @@
--- The table's moves in its rows: what they hold, and what filing leaves. Assumes nothing.
+-- The table in its arrays: what they hold, and what filing leaves. Assumes nothing.
 use Prim.Native.Nat.{ℕ, _≤_}
 use mathlib.Core.Path.{_≡_}
 use mathlib.Core.Bool.{Bool, false}
@@ -6,16 +6,16 @@ use mathlib.Core.List.{List}
 use lib.ListN.{length, replicate}
 use Rattle.plain.specs.Lists.{any}
 use Rattle.plain.specs.Search.{Edge}
-use Rattle.plain.specs.Table.{row}
+use Rattle.plain.specs.Table.{Table, row, withMark, withoutMark}
 use Rattle.plain.specs.Refusals.{outside, pairs, repeated, Load, loadTrial}
-use Rattle.plain.specs.Machine.{Change, add, cut}
+use Rattle.plain.specs.Machine.{Change, add, cut, mark, unmark}
 use Rattle.rows.specs.Rows.{rowAt, edgeCount, placeOf, Compressed}
 use Rattle.rows.specs.Change.{Rows, rowsOf, inserted, removed}
 use Rattle.table.specs.declared.Op.{Op}
-use Rattle.table.specs.declared.Op.the-variants.{Add, Cut}
+use Rattle.table.specs.declared.Op.the-variants.{Add, Cut, Mark, Unmark}
 use Rattle.table.specs.declared.Trial.{Trial}
 use Rattle.table.specs.declared.Trial.the-variants.{Accepted, Refused}
-use Rattle.table.specs.Trials.{tried, trialIn}
+use Rattle.table.specs.Trials.{Arrays, tried, trialIn}
 
 -- the rows hold these edges: the row of each state has the targets of those that leave it, oldest first
 pub record Filed (size : ℕ) (edges : List Edge) (rows : Rows) : Type 0 where
@@ -23,28 +23,45 @@ pub record Filed (size : ℕ) (edges : List Edge) (rows : Rows) : Type 0 where
   pub rows-are : (v : ℕ) → rowAt (rows .targets) (rows .starts) v ≡ row edges v
   pub count-is : edgeCount (rows .starts) size ≡ length edges
 
+-- the arrays hold the table: its moves, and its paying marks
+pub record Stored (t : Table) (a : Arrays) : Type 0 where
+  pub filed : Filed (t .size) (t .edges) (a .rows)
+  pub words-are : a .words ≡ t .words
+
 -- ---- a change
 
 -- the change of the plain table
 abbrev pub changeOf : Op → Change
 changeOf (Add from to) = add (from, to)
 changeOf (Cut from to) = cut (from, to)
+changeOf (Mark state) = mark state
+changeOf (Unmark state) = unmark state
 
 -- the state that a change names
-abbrev pub sourceOf : Op → ℕ
-sourceOf (Add from to) = from
-sourceOf (Cut from to) = from
+abbrev pub namedBy : Op → ℕ
+namedBy (Add from to) = from
+namedBy (Cut from to) = from
+namedBy (Mark state) = state
+namedBy (Unmark state) = state
 
--- the rows after a change was filed; a cut takes out the edge at the place of its target
-abbrev pub filedIn : Op → ℕ → Rows → Rows
-filedIn (Add from to) size r = inserted size from to r
-filedIn (Cut from to) size r = removed size from (placeOf to (rowAt (r .targets) (r .starts) from)) r
+abbrev pub withRows : Arrays → Rows → Arrays
+withRows a r = record { rows = r; words = a .words }
 
--- a change that was tried: the rows are changed where it is accepted, else as they were
-pub record Attempted (op : Op) (size room : ℕ) (rows : Rows) (r : Trial) (rows′ : Rows) : Type 0 where
-  pub trial-is : r ≡ tried (trialIn op size (rows .targets) (rows .starts) room)
-  pub filed : r ≡ Accepted → rows′ ≡ filedIn op size rows
-  pub unfiled : (n : ℕ) → r ≡ Refused n → rows′ ≡ rows
+abbrev pub withWords : Arrays → List ℕ → Arrays
+withWords a words = record { rows = a .rows; words = words }
+
+-- the arrays after a change was filed; a cut takes out the edge at the place of its target
+abbrev pub filedIn : Op → ℕ → Arrays → Arrays
+filedIn (Add from to) size a = withRows a (inserted size from to (a .rows))
+filedIn (Cut from to) size a = withRows a (removed size from (placeOf to (rowAt (a .rows .targets) (a .rows .starts) from)) (a .rows))
+filedIn (Mark state) size a = withWords a (withMark (a .words) state)
+filedIn (Unmark state) size a = withWords a (withoutMark (a .words) state)
+
+-- a change that was tried: the arrays are changed where it is accepted, else as they were
+pub record Attempted (op : Op) (size room : ℕ) (a : Arrays) (r : Trial) (a′ : Arrays) : Type 0 where
+  pub trial-is : r ≡ tried (trialIn op size a room)
+  pub filed : r ≡ Accepted → a′ ≡ filedIn op size a
+  pub unfiled : (n : ℕ) → r ≡ Refused n → a′ ≡ a
 
 -- ---- a load
 

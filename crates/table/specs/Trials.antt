@@ -4,12 +4,23 @@ use mathlib.Core.Bool.{Bool, not}
 use mathlib.Core.List.{List, [], _∷_, _++_}
 use lib.Dec.{ltb, leb}
 use Rattle.plain.specs.Lists.{any}
-use Rattle.plain.specs.Refusals.{Trial as PlainTrial, accepted, refused, firstHeld, badSize, badStart, badMarks, badCount, outside, shortRoom, pairs}
+use Rattle.plain.specs.Table.{accepts}
+use Rattle.plain.specs.Refusals.{Trial as PlainTrial, accepted, refused, firstHeld, badSize, badStart, badMarks, badCount, outside, beyond, roomCondition, pairs}
 use Rattle.rows.specs.Rows.{rowAt, degreeAt, edgeCount, placeOf}
+use Rattle.rows.specs.Change.{Rows, rowsOf}
 use Rattle.table.specs.declared.Op.{Op}
-use Rattle.table.specs.declared.Op.the-variants.{Add, Cut}
+use Rattle.table.specs.declared.Op.the-variants.{Add, Cut, Mark, Unmark}
 use Rattle.table.specs.declared.Trial.{Trial}
 use Rattle.table.specs.declared.Trial.the-variants.{Accepted, Refused}
+
+-- the table's arrays: the moves as rows, and the words of the paying marks
+pub record Arrays : Type 0 where
+  pub rows : Rows
+  pub words : List ℕ
+
+-- the same of lent arrays
+abbrev pub arraysOf : List ℕ → List ℕ → List ℕ → Arrays
+arraysOf targets starts words = record { rows = rowsOf targets starts; words = words }
 
 -- what a trial comes to, as the code's enum
 abbrev pub tried : PlainTrial → Trial
@@ -30,16 +41,30 @@ earlyTrial size start words numbers = firstHeld (
 abbrev pub there : List ℕ → List ℕ → ℕ → ℕ → Bool
 there targets starts from to = ltb (placeOf to (rowAt targets starts from)) (degreeAt starts from)
 
--- the conditions of a change itself, read off the rows: 6, 8 and 9 of an add, 6 and 10 of a cut
-unfoldable pub conditionsIn : Op → ℕ → List ℕ → List ℕ → List (ℕ × Bool)
-conditionsIn (Add from to) size targets starts =
-    (6, outside size (from, to)) ∷ (8, there targets starts from to) ∷ (9, leb 2048 (edgeCount starts size)) ∷ []
-conditionsIn (Cut from to) size targets starts = (6, outside size (from, to)) ∷ (10, not (there targets starts from to)) ∷ []
+-- 6, 8 and 9 of an add, read off the rows
+unfoldable pub addConditions : ℕ → Rows → ℕ → ℕ → List (ℕ × Bool)
+addConditions size r from to =
+    (6, outside size (from, to)) ∷ (8, there (r .targets) (r .starts) from to) ∷ (9, leb 2048 (edgeCount (r .starts) size)) ∷ []
 
--- refusal 11
-unfoldable pub roomCondition : ℕ → ℕ → List (ℕ × Bool)
-roomCondition size room = (11, shortRoom size room) ∷ []
+-- 6 and 10 of a cut
+unfoldable pub cutConditions : ℕ → Rows → ℕ → ℕ → List (ℕ × Bool)
+cutConditions size r from to = (6, outside size (from, to)) ∷ (10, not (there (r .targets) (r .starts) from to)) ∷ []
+
+-- 6 and 13 of a mark, read off the words
+unfoldable pub markConditions : ℕ → List ℕ → ℕ → List (ℕ × Bool)
+markConditions size words state = (6, beyond size state) ∷ (13, accepts words state) ∷ []
+
+-- 6 and 14 of an unmark
+unfoldable pub unmarkConditions : ℕ → List ℕ → ℕ → List (ℕ × Bool)
+unmarkConditions size words state = (6, beyond size state) ∷ (14, not (accepts words state)) ∷ []
+
+-- the conditions of a change itself
+abbrev pub conditionsIn : Op → ℕ → Arrays → List (ℕ × Bool)
+conditionsIn (Add from to) size a = addConditions size (a .rows) from to
+conditionsIn (Cut from to) size a = cutConditions size (a .rows) from to
+conditionsIn (Mark state) size a = markConditions size (a .words) state
+conditionsIn (Unmark state) size a = unmarkConditions size (a .words) state
 
 -- the trial of a change: 11 behind its own conditions
-unfoldable pub trialIn : Op → ℕ → List ℕ → List ℕ → ℕ → PlainTrial
-trialIn op size targets starts room = firstHeld (conditionsIn op size targets starts ++ roomCondition size room)
+unfoldable pub trialIn : Op → ℕ → Arrays → ℕ → PlainTrial
+trialIn op size a room = firstHeld (conditionsIn op size a ++ roomCondition size room)

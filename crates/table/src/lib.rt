@@ -1,23 +1,24 @@
-// The game's table in its arrays: calls are tried on it, and accepted ones are filed in its rows. No search.
+// The game's table in its arrays: calls are tried on it, and accepted ones are filed in its rows and its marks. No search.
 use rows::wide;
 ghost use mathlib.Core.Path.{_≡_};
 ghost use Rattle.plain.specs.Lists.{any};
-ghost use Rattle.plain.specs.Refusals.{firstHeld, badMarks, outside, pairs};
+ghost use Rattle.plain.specs.Refusals.{firstHeld, badMarks, outside, roomCondition, pairs};
 ghost use Rattle.rows.specs.Rows.{Tabled};
 ghost use Rattle.rows.specs.Change.{rowsOf};
-ghost use Rattle.table.specs.declared.Op.the-variants.{Add, Cut};
-ghost use Rattle.table.specs.Trials.{tried, earlyTrial, there, conditionsIn, roomCondition, trialIn};
-ghost use Rattle.table.specs.Filing.{sourceOf, filedIn, Attempted, Empty, Limits, FiledAll, Tried};
+ghost use Rattle.table.specs.Trials.{arraysOf, tried, earlyTrial, there, addConditions, cutConditions, markConditions, unmarkConditions, conditionsIn, trialIn};
+ghost use Rattle.table.specs.Filing.{namedBy, filedIn, Attempted, Empty, Limits, FiledAll, Tried};
 
 // A refusal: its number in document 01's list.
 pub struct Refusal {
     pub number: u16,
 }
 
-// A change of the table's moves.
+// A change of the table: of its moves, or of its paying marks.
 pub enum Op {
     Add { from: u16, to: u16 },
     Cut { from: u16, to: u16 },
+    Mark { state: u16 },
+    Unmark { state: u16 },
 }
 
 // What trying a call comes to: the number of the first condition that holds.
@@ -164,7 +165,7 @@ fn is_outside(size: u16, from: u16, to: u16) -> bool
 // Refusals 6, 8 and 9 of an add.
 fn add_trial(size: u16, targets: &[u16; 2048], starts: &[u16; 513], from: u16, to: u16) -> Trial
     requires { ⌜ Tabled (now targets) (now starts) ⌝ }
-    ensures { λ r. ⌜ r ≡ tried (firstHeld (conditionsIn (Add from to) size (now (targets .entry)) (now (starts .entry)))) ⌝ }
+    ensures { λ r. ⌜ r ≡ tried (firstHeld (addConditions size (rowsOf (now (targets .entry)) (now (starts .entry))) from to)) ⌝ }
 {
     if is_outside(size, from, to) {
         return Trial::Refused(6);
@@ -181,7 +182,7 @@ fn add_trial(size: u16, targets: &[u16; 2048], starts: &[u16; 513], from: u16, t
 // Refusals 6 and 10 of a cut.
 fn cut_trial(size: u16, targets: &[u16; 2048], starts: &[u16; 513], from: u16, to: u16) -> Trial
     requires { ⌜ Tabled (now targets) (now starts) ⌝ }
-    ensures { λ r. ⌜ r ≡ tried (firstHeld (conditionsIn (Cut from to) size (now (targets .entry)) (now (starts .entry)))) ⌝ }
+    ensures { λ r. ⌜ r ≡ tried (firstHeld (cutConditions size (rowsOf (now (targets .entry)) (now (starts .entry))) from to)) ⌝ }
 {
     if is_outside(size, from, to) {
         return Trial::Refused(6);
@@ -192,33 +193,80 @@ fn cut_trial(size: u16, targets: &[u16; 2048], starts: &[u16; 513], from: u16, t
     Trial::Accepted
 }
 
+// Refusals 6 and 13 of a mark.
+fn mark_trial(size: u16, words: &[u64; 8], state: u16) -> Trial
+    ensures { λ r. ⌜ r ≡ tried (firstHeld (markConditions size (now (words .entry)) state)) ⌝ }
+{
+    if size <= state {
+        return Trial::Refused(6);
+    }
+    if marks::accepts_in(words, wide(state)) {
+        return Trial::Refused(13);
+    }
+    Trial::Accepted
+}
+
+// Refusals 6 and 14 of an unmark.
+fn unmark_trial(size: u16, words: &[u64; 8], state: u16) -> Trial
+    ensures { λ r. ⌜ r ≡ tried (firstHeld (unmarkConditions size (now (words .entry)) state)) ⌝ }
+{
+    if size <= state {
+        return Trial::Refused(6);
+    }
+    if !marks::accepts_in(words, wide(state)) {
+        return Trial::Refused(14);
+    }
+    Trial::Accepted
+}
+
 // The refusals of a change itself.
-fn own_trial(op: Op, size: u16, targets: &[u16; 2048], starts: &[u16; 513]) -> Trial
+fn own_trial(
+    op: Op,
+    size: u16,
+    targets: &[u16; 2048],
+    starts: &[u16; 513],
+    words: &[u64; 8],
+) -> Trial
     requires { ⌜ Tabled (now targets) (now starts) ⌝ }
-    ensures { λ r. ⌜ r ≡ tried (firstHeld (conditionsIn op size (now (targets .entry)) (now (starts .entry)))) ⌝ }
+    ensures { λ r. ⌜ r ≡ tried (firstHeld (conditionsIn op size (arraysOf (now (targets .entry)) (now (starts .entry)) (now (words .entry))))) ⌝ }
 {
     match op {
         Op::Add { from, to } => add_trial(size, targets, starts, from, to),
         Op::Cut { from, to } => cut_trial(size, targets, starts, from, to),
+        Op::Mark { state } => mark_trial(size, words, state),
+        Op::Unmark { state } => unmark_trial(size, words, state),
     }
 }
 
 // Tries a change: 11 comes behind its own refusals.
-fn change_trial(op: Op, size: u16, targets: &[u16; 2048], starts: &[u16; 513], room: usize) -> Trial
+fn change_trial(
+    op: Op,
+    size: u16,
+    targets: &[u16; 2048],
+    starts: &[u16; 513],
+    words: &[u64; 8],
+    room: usize,
+) -> Trial
     requires { ⌜ Tabled (now targets) (now starts) ⌝ }
-    ensures { λ r. ⌜ r ≡ tried (trialIn op size (now (targets .entry)) (now (starts .entry)) room) ⌝ }
+    ensures { λ r. ⌜ r ≡ tried (trialIn op size (arraysOf (now (targets .entry)) (now (starts .entry)) (now (words .entry))) room) ⌝ }
 {
-    let own = own_trial(op, size, targets, starts);
+    let own = own_trial(op, size, targets, starts, words);
     if let Trial::Refused(n) = own {
         return Trial::Refused(n);
     }
     room_trial(size, room)
 }
 
-// The change is made in the rows.
-fn file_one(op: Op, size: u16, targets: &mut [u16; 2048], starts: &mut [u16; 513])
+// The change is made in the arrays.
+fn file_one(
+    op: Op,
+    size: u16,
+    targets: &mut [u16; 2048],
+    starts: &mut [u16; 513],
+    words: &mut [u64; 8],
+)
     requires { ⌜ Tabled (now targets) (now starts) ⌝ }
-    ensures { λ r. ⌜ rowsOf (now (targets .exit)) (now (starts .exit)) ≡ filedIn op size (rowsOf (now (targets .entry)) (now (starts .entry))) ⌝ }
+    ensures { λ r. ⌜ arraysOf (now (targets .exit)) (now (starts .exit)) (now (words .exit)) ≡ filedIn op size (arraysOf (now (targets .entry)) (now (starts .entry)) (now (words .entry))) ⌝ }
 {
     match op {
         Op::Add { from, to } => {
@@ -228,34 +276,39 @@ fn file_one(op: Op, size: u16, targets: &mut [u16; 2048], starts: &mut [u16; 513
             let k = rows::place(targets, starts, from, to);
             rows::remove(targets, starts, size, from, k);
         }
+        Op::Mark { state } => marks::set_mark(words, wide(state)),
+        Op::Unmark { state } => marks::clear_mark(words, wide(state)),
     }
 }
 
-// Tries a change, and makes it in the rows where it is accepted.
+// Tries a change, and makes it in the arrays where it is accepted.
 pub fn attempt(
     op: Op,
     size: u16,
     targets: &mut [u16; 2048],
     starts: &mut [u16; 513],
+    words: &mut [u64; 8],
     room: usize,
 ) -> Trial
     requires { ⌜ Tabled (now targets) (now starts) ⌝ }
-    ensures { λ r. ⌜ Attempted op size room (rowsOf (now (targets .entry)) (now (starts .entry))) r (rowsOf (now (targets .exit)) (now (starts .exit))) ⌝ }
+    ensures { λ r. ⌜ Attempted op size room (arraysOf (now (targets .entry)) (now (starts .entry)) (now (words .entry))) r (arraysOf (now (targets .exit)) (now (starts .exit)) (now (words .exit))) ⌝ }
 {
-    let trial = change_trial(op, size, targets, starts, room);
+    let trial = change_trial(op, size, targets, starts, words, room);
     if let Trial::Refused(n) = trial {
         return Trial::Refused(n);
     }
-    file_one(op, size, targets, starts);
+    file_one(op, size, targets, starts, words);
     Trial::Accepted
 }
 
-// The state that a change names: the one that its move leaves.
+// The state that a change names: the one that its move leaves, or the one marked or unmarked.
 pub fn named_by(op: Op) -> u16
-    ensures { λ r. ⌜ r ≡ sourceOf op ⌝ }
+    ensures { λ r. ⌜ r ≡ namedBy op ⌝ }
 {
     match op {
         Op::Add { from, to } => from,
         Op::Cut { from, to } => from,
+        Op::Mark { state } => state,
+        Op::Unmark { state } => state,
     }
 }

@@ -9,10 +9,10 @@ use borrow.Author.Needs.{needs}
 use borrow.Author.Tests.{le-leb, lt-leb}
 use Rattle.plain.specs.Refusals.{firstHeld}
 use Rattle.rows.specs.Rows.{edgeCount}
-use Rattle.table.specs.declared.Op.the-variants.{Add}
+use Rattle.rows.specs.Change.{rowsOf}
 use Rattle.table.specs.declared.Trial.{Trial}
 use Rattle.table.specs.declared.Trial.the-variants.{Accepted, Refused}
-use Rattle.table.specs.Trials.{tried, conditionsIn}
+use Rattle.table.specs.Trials.{tried, addConditions}
 use Rattle.table.proofs.Trying.{stop, skip, none-held}
 use Rattle.table.proofs.add_trial.Statement.{statement}
 use Rattle.table.proofs.add_trial.Tie as tie
@@ -21,14 +21,14 @@ is-outside-requires : tie.Need-is-outside-requires
 is-outside-requires c κs = search needs
 
 returns : tie.Need-returns
-unfolding conditionsIn
+unfolding addConditions
 returns c = stop 6 _ _ (sym (c .before .is-outside .ensures) ∙ c .if1 .taken)
 
 is-there-requires : tie.Need-is-there-requires
 is-there-requires c κs = search needs
 
 returns-2 : tie.Need-returns-2
-unfolding conditionsIn
+unfolding addConditions
 returns-2 c =
     let o = c .before .before in
     skip (Refused 8) 6 _ _ (sym (o .before .is-outside .ensures) ∙ o .if1 .left) (stop 8 _ _ (sym (c .before .is-there .ensures) ∙ c .if2 .taken))
@@ -38,8 +38,8 @@ edge-count-requires c κs = search needs
 
 -- the last condition decides
 last : (c : tie.Else2) (k : Trial) → let a = c .before .before .before .before .args in
-    k ≡ tried (firstHeld ((9, leb 2048 (edgeCount (now (a .starts)) (a .size))) ∷ [])) → k ≡ tried (firstHeld (conditionsIn (Add (a .from) (a .to)) (a .size) (now (a .targets)) (now (a .starts))))
-unfolding conditionsIn
+    k ≡ tried (firstHeld ((9, leb 2048 (edgeCount (now (a .starts)) (a .size))) ∷ [])) → k ≡ tried (firstHeld (addConditions (a .size) (rowsOf (now (a .targets)) (now (a .starts))) (a .from) (a .to)))
+unfolding addConditions
 last c k h =
     let o = c .before .before in
     skip k 6 _ _ (sym (o .before .is-outside .ensures) ∙ o .if1 .left) (skip k 8 _ _ (sym (c .before .is-there .ensures) ∙ c .if2 .left) h)

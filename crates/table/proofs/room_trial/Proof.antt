@@ -3,7 +3,6 @@ use native.Mathlib.Omega.{arith}
 use Prim.Native.Nat.{_≤_, _<_}
 use borrow.Author.Needs.{needs}
 use Rattle.table.specs.declared.Trial.the-variants.{Accepted}
-use Rattle.table.specs.Trials.{roomCondition}
 use Rattle.table.proofs.Trying.{stop, skip, none-held, room-short, room-enough}
 use Rattle.table.proofs.room_trial.Statement.{statement}
 use Rattle.table.proofs.room_trial.Tie as tie
@@ -12,14 +11,12 @@ wide-requires : tie.Need-wide-requires
 wide-requires c κs = search needs
 
 returns : tie.Need-returns
-unfolding roomCondition
 returns c =
     let a = c .before .before .args in
     let less : a .room < a .size = omega (arith, c .before .wide .ensures, c .if1 .taken) in
     stop 11 _ _ (room-short (a .size) (a .room) less)
 
 returns-2 : tie.Need-returns-2
-unfolding roomCondition
 returns-2 c =
     let a = c .before .before .args in
     let enough : a .size ≤ a .room = omega (arith, c .before .wide .ensures, c .if1 .left) in
