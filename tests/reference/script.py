@@ -406,7 +406,7 @@ def mark_edges(s):
     s.mark(0, room=3, want=11)
     s.mark(0, want="round")
 
-    # none of 512 states pays; each of some is marked alone, beside a paying one never met, and again alone
+    # none of 512 states pays; some are marked, each alone, and then the start state and one never met
     s.load(512, 0, [], flat((0, t) for t in PROBES) + flat((t, 0) for t in PROBES), want="none")
     for t in PROBES:
         s.unmark(t, room=511, want=14)
