@@ -121,11 +121,26 @@ static void load(const struct record *record)
     }
 }
 
+/* A state's pay comes or goes. */
+static void turn(unsigned state, unsigned char on)
+{
+    if (state >= size) {
+        put_refusal(6);
+    } else if (pays[state] == on) {
+        put_refusal(on ? 13 : 14);
+    } else {
+        pays[state] = on;
+        answer_now();
+    }
+}
+
 static void change(const struct record *record)
 {
     unsigned a = record->number[0], b = record->number[1];
-    int adds = is(record, "add", 2);
-    if (!adds && !is(record, "cut", 2)) {
+    int adds = is(record, "add", 2), marks = is(record, "mark", 1);
+    if (marks || is(record, "unmark", 1)) {
+        turn(a, (unsigned char)marks);
+    } else if (!adds && !is(record, "cut", 2)) {
         put_refusal(1);
     } else if (a >= size || b >= size) {
         put_refusal(6);

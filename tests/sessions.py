@@ -16,19 +16,20 @@ import sys
 
 import common
 from common import ROOT, STORED, as_lines, difference, fail, game_a
-from reference import GAMES, MOST_MOVES, MOST_STATES, SELF_GAMES, answer_text, bench_answer
+from reference import GAMES, MARK_GAMES, MOST_MOVES, MOST_STATES, SELF_GAMES, answer_text, bench_answer
 
 
 # ------------------------------------------------------------ one text
 
 class Text:
-    """Collects lines, and holds the moves present so that the next line can be about them."""
+    """Collects lines, and holds the moves present and the marks so that the next line can be about them."""
 
     def __init__(self, size, start, pays=(), moves=()):
-        self.size = size
+        self.size, self.start = size, start
         self.rows = ["game %d %d" % (size, start)] + ["pay %d" % s for s in pays]
         self.rows += ["move %d %d" % m for m in moves] + ["go"]
         self.moves = dict.fromkeys(moves)
+        self.pays = dict.fromkeys(pays)
         self.last_cut = None
 
     def add(self, move):
@@ -45,6 +46,19 @@ class Text:
     def switch(self, state):
         """The state's move to itself comes or goes."""
         (self.cut if (state, state) in self.moves else self.add)((state, state))
+
+    def mark(self, state):
+        self.rows.append("mark %d" % state)
+        if state < self.size:
+            self.pays.setdefault(state)
+
+    def unmark(self, state):
+        self.rows.append("unmark %d" % state)
+        self.pays.pop(state, None)
+
+    def turn(self, state):
+        """The state's pay comes or goes."""
+        (self.unmark if state in self.pays else self.mark)(state)
 
     def data(self):
         return b"".join(r + b"\n" if isinstance(r, bytes) else as_lines([r]) for r in self.rows)
@@ -64,20 +78,36 @@ def some_moves(rng, size, count):
 
 
 def refused_change(rng, text):
-    """A change that names a state outside, a present move to be added or an absent one to be cut."""
+    """A change that names a state outside, a present move to be added or an absent one to be cut, a paying state to be
+    marked or another to be unmarked."""
     state = rng.randrange(text.size)
     outside = rng.choice((text.size, text.size + 1, 512, 65535))
-    kind = rng.randrange(4)
+    kind = rng.randrange(7)
     if kind == 0:
         rng.choice((text.add, text.cut))(rng.choice(((state, outside), (outside, state), (outside, outside))))
     elif kind == 1:
         (text.add if (state, state) in text.moves else text.cut)((state, state))
     elif kind == 2 and text.moves:
         text.add(rng.choice(list(text.moves)))
+    elif kind == 3:
+        rng.choice((text.mark, text.unmark))(outside)
+    elif kind == 4 and text.pays:
+        text.mark(rng.choice(list(text.pays)))
+    elif kind == 5:
+        (text.mark if state in text.pays else text.unmark)(state)
     else:
         move = some_move(rng, text.size)
         if move not in text.moves:
             text.cut(move)
+
+
+def turned(rng, text):
+    """A state's pay comes or goes: mostly that of one that pays, seldom that of the start state, where nothing is kept."""
+    dice = rng.random()
+    if dice < 0.5 and text.pays:
+        text.turn(rng.choice(list(text.pays)))
+    else:
+        text.turn(text.start if dice > 0.92 else rng.randrange(text.size))
 
 
 def changes(rng, text, count, wanted, closing):
@@ -85,11 +115,13 @@ def changes(rng, text, count, wanted, closing):
     closed = []
     for _ in range(count):
         dice = rng.random()
-        if dice < 0.10:
+        if rng.random() < 0.25:
+            turned(rng, text)
+        elif dice < 0.12:
             refused_change(rng, text)
-        elif dice < 0.13:
+        elif dice < 0.15:
             text.rows.append(rng.choice(HOSTILE))
-        elif dice < 0.18:
+        elif dice < 0.19:
             text.switch(rng.randrange(text.size))
         elif dice < 0.28 and text.last_cut:
             text.add(text.last_cut)            # cut and added again: newest now
@@ -108,11 +140,11 @@ def changes(rng, text, count, wanted, closing):
 # ------------------------------------------------------- lines to refuse
 
 def hostile_lines():
-    right = [b"game\t2\t0", b"pay\t1", b"move\t0\t1", b"go", b"add\t0\t1", b"cut\t0\t1"]
+    right = [b"game\t2\t0", b"pay\t1", b"move\t0\t1", b"go", b"add\t0\t1", b"cut\t0\t1", b"mark\t0", b"unmark\t1"]
     numbers = [b"", b"0", b"00", b"01", b"1", b"9", b"511", b"512", b"513", b"9999", b"65535", b"65536", b"99999",
                b"100000", b"000001", b"4294967296", b"18446744073709551617", b" 1", b"1 ", b"+1", b"-1", b"0x1",
                b"1\r", b"1\0", b"\x001", b"1.0", b"\xd9\xa1", b"\xff", b":", b"/"]
-    lines = [b"", b" ", b"\t", b"\t\t", b"\t\t\t", b"\r", b"\0", b"\xff\xfe", b"x", b"game", b"kinds\t1", b"mark\t0",
+    lines = [b"", b" ", b"\t", b"\t\t", b"\t\t\t", b"\r", b"\0", b"\xff\xfe", b"x", b"game", b"kinds\t1",
              b"begin", b"end", b"why", b"g", b"ad", b"addd\t0\t1", b"add\t0\t1add\t0\t1", b"-", b"#", b"\xef\xbb\xbfgo"]
     for line in right:
         fields = line.split(b"\t")
@@ -136,7 +168,7 @@ def staged():
     """Each hostile line at each place of a small session, with lines behind it that show what became of it."""
     for line in HOSTILE + [b"x" * 70000, b"add\t0\t1\n" * 9000]:
         for at, before in enumerate(STAGES):
-            yield before + line + b"\n" + (b"" if at == 4 else b"go\n") + b"add\t0\t1\ncut\t0\t1"
+            yield before + line + b"\n" + (b"" if at == 4 else b"go\n") + b"add\t0\t1\nunmark\t1\ncut\t0\t1"
 
 
 # ------------------------------------------------------- random sessions
@@ -183,7 +215,7 @@ def full(rng):
 
 def chain(rng, count=60):
     """A walk through all 512 states, some with a move to themselves; its last state leads back, to near or far, or to
-    itself, or not at all."""
+    itself, or not at all. The state that pays stops to do so, and others do for a while."""
     order = rng.sample(range(512), 512)
     moves = list(zip(order, order[1:]))
     pays = order[rng.choice((0, 1, 255, 510, 511))]
@@ -196,7 +228,10 @@ def chain(rng, count=60):
         dice = rng.random()
         back = [m for m in text.moves if m[0] == order[511]]
         broken = [m for m in moves if m not in text.moves]
-        if broken and dice < 0.6:
+        if rng.random() < 0.25:
+            others = [s for s in text.pays if s != pays]
+            text.turn(rng.choice([pays, rng.choice(order)] + 2 * others))
+        elif broken and dice < 0.6:
             text.add(broken[0])
         elif back and dice < 0.3:
             text.cut(rng.choice(back))
@@ -241,7 +276,7 @@ def refused(rng):
         elif moves:
             moves.insert(at, rng.choice(moves))
     text = Text(size, start, pays)
-    text.rows[-1:] = ["move %d %d" % m for m in moves] + ["go", "add 0 1", "add 1 0", "add 0 0"]
+    text.rows[-1:] = ["move %d %d" % m for m in moves] + ["go", "add 0 1", "mark 0", "add 1 0", "add 0 0"]
     return text.data()
 
 
@@ -265,6 +300,8 @@ def many(rng):
         text.cut(rng.choice(moves))
         state = rng.randrange(size)
         rng.choice((text.add, text.cut))((state, state))
+        rng.choice((text.mark, text.unmark))(state)
+        turned(rng, text)
     return text.data()
 
 
@@ -281,7 +318,7 @@ def known(game):
     """A game of the reference with its changes."""
     _, size, pays, moves, _, calls = game
     text = Text(size, 0, pays, moves)
-    text.rows += ["%s %d %d" % call[:3] for call in calls]
+    text.rows += [" ".join(map(str, call[:-1])) for call in calls]
     return text.data()
 
 
@@ -300,10 +337,19 @@ def self_moves(pays, others, rows):
     return text.data()
 
 
+def marks(pays, rows):
+    """512 states, and through the start state rounds that pass a state at a border of two words; then these rows."""
+    moves = [move for s in (63, 64, 511) for move in ((0, s), (s, 0))]
+    text = Text(MOST_STATES, 0, pays, moves)
+    text.rows += rows
+    return text.data()
+
+
 def longest_walk():
     ring = [(i, (i + 1) % MOST_STATES) for i in range(MOST_STATES)]
     text = Text(MOST_STATES, 0, [511], ring)
-    text.rows += ["add 511 510", "cut 511 0", "cut 511 510", "add 511 256", "cut 255 256", "add 255 256", "cut 0 1"]
+    text.rows += ["add 511 510", "cut 511 0", "cut 511 510", "add 511 256", "cut 255 256", "add 255 256", "unmark 511",
+                  "mark 300", "mark 255", "cut 511 256", "add 511 0", "unmark 300", "cut 0 1"]
     return text.data()
 
 
@@ -311,7 +357,7 @@ def stored():
     """Name and text of each stored session."""
     for game in GAMES:
         yield "game-" + game[0].lower(), known(game)
-    for game in SELF_GAMES:
+    for game in SELF_GAMES + MARK_GAMES:
         yield game[0], known(game)
     yield "states-512", as_lines(["game 512 0", "pay 511", "move 0 511", "go", "add 511 0", "add 512 0", "cut 511 0"])
     yield "states-513", as_lines(["game 513 0", "pay 511", "move 0 511", "go", "add 511 0"])
@@ -324,12 +370,21 @@ def stored():
     yield "self-move-2048", full_table(
         ["add 0 1", "add 63 63", "add 63 62", "add 62 62", "cut 63 62", "cut 62 62", "cut 63 63", "add 62 62", "add 63 63",
          "cut 0 1", "add 63 63", "add 0 1", "cut 62 62", "add 0 1", "add 0 1", "cut 5 6", "add 5 6", "add 64 64",
-         "cut 63 63", "add 0 0", "add 63 63"], [(63, 63)])
+         "unmark 63", "unmark 0", "mark 64", "mark 1", "add 63 62", "cut 63 63", "add 0 0", "mark 63", "add 63 63"], [(63, 63)])
     yield "self-move-2049", full_table([], [(63, 63)]).replace(b"go\n", b"move\t62\t62\ngo\nadd\t0\t1\n")
     yield "self-moves-512", self_moves(
         [255, 511], [],
         ["add 0 511", "cut 511 511", "add 511 511", "add 511 511", "cut 0 0", "cut 0 0", "add 512 512", "cut 255 255",
          "add 511 255", "add 255 255", "cut 511 511", "add 255 0", "add 0 0"])
+    yield "same-move-2049", as_lines(["game 1 0"] + ["move 0 0"] * (MOST_MOVES + 1) + ["go", "mark 0"])
+    yield "marks-none-of-512", marks(
+        [], ["unmark 511", "mark 511", "mark 511", "mark 64", "mark 63", "unmark 64", "unmark 63", "mark 0", "unmark 511",
+             "unmark 0", "unmark 0", "mark 512", "unmark 512", "mark 575", "mark 65535", "unmark 65535", "mark 65536",
+             "unmark 65536", "mark 510", "add 510 0", "add 0 510", "cut 511 0", "unmark 510", "mark 62", "mark 65"])
+    yield "marks-all-of-512", marks(
+        range(MOST_STATES), ["mark 0", "mark 63", "mark 64", "mark 511", "mark 512", "unmark 512", "unmark 65535", "unmark 63",
+                             "unmark 65", "unmark 0", "unmark 64", "unmark 511", "unmark 511", "mark 64", "mark 0", "mark 511",
+                             "unmark 64"])
     yield "longest-walk", longest_walk()
     yield "hostile-lines", STAGES[4] + b"".join(line + b"\n" for line in HOSTILE) + b"cut\t0\t1"
     yield "refused-4", as_lines(["game 2 1", "pay 2", "move 0 0", "move 0 0", "move 9 9", "go", "add 0 1"])
@@ -337,16 +392,17 @@ def stored():
     yield "refused-8", as_lines(["game 2 1", "move 0 1", "move 1 0", "move 0 1", "go", "add 0 1"])
     yield "self-move-twice", as_lines(["game 2 1", "move 0 0", "move 1 0", "move 0 0", "go", "add 0 1"])
     yield "ends-before-go", as_lines(["game 513 600", "pay 511", "move 0 0", "move 0 0"])
-    yield "random-small", session(96, "small")
-    yield "random-mid", session(165, "mid")
-    yield "random-mid-changes", session(207, "mid")
-    yield "random-full", session(7, "full")
-    yield "random-chain", chain(random.Random(3), 16)
+    yield "random-small", session(752, "small")
+    yield "random-mid", session(668, "mid")
+    yield "random-mid-changes", session(247, "mid")
+    yield "random-full", session(29, "full")
+    yield "random-chain", chain(random.Random(54), 16)
 
 
 SEPARATOR = b"\x1e"                            # parts the texts that crates/texts is run on
-# It holds 65,536 bytes of input. What moves-2048 and moves-2049 ask is asked in self-move-2048 and self-move-2049 too.
-TOO_LONG = {"random-full", "random-chain", "moves-2048", "moves-2049", "self-moves-512"}
+# It holds 65,536 bytes of input. What moves-2048 asks is asked in self-move-2048 too. same-move-2049 is a shorter text for
+# what moves-2049 and self-move-2049 ask, and marks-none-of-512 for the states about which marks-all-of-512 asks.
+TOO_LONG = {"random-full", "random-chain", "moves-2048", "moves-2049", "self-move-2049", "self-moves-512", "marks-all-of-512"}
 
 
 def bundle():

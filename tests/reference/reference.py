@@ -3,7 +3,8 @@
 
 Written from the papers alone. After every accepted call the whole search is
 run afresh on the table; nothing is remembered from one run to the next. A move
-from a state to itself is taken like any other; there is no refusal 7.
+from a state to itself is taken like any other; there is no refusal 7. A state's
+pay is turned on and off by `mark` and `unmark`.
 
     python3 reference.py --selftest      run the tests of this file
     python3 reference.py < text          answer a whole input text
@@ -12,6 +13,7 @@ from a state to itself is taken like any other; there is no refusal 7.
 import itertools
 import random
 import sys
+from collections import Counter
 
 MOST_STATES = 512
 MOST_MOVES = 2048
@@ -127,34 +129,40 @@ class Table:
         return self._answer(None)
 
     def add(self, a, b, room):
-        self._need_session()
-        number = self._change_refusal(a, b)
-        if not number and (a, b) in self.moves:
-            number = 8
-        if not number and len(self.moves) >= MOST_MOVES:
-            number = 9
-        if not number and room < self.size:
-            number = 11
+        number = self._refusal((a, b), room, lambda: 8 if (a, b) in self.moves else
+                               9 if len(self.moves) >= MOST_MOVES else 0)
         if number:
             return ("no", number)
         self.moves.append((a, b))
         return self._answer(a)
 
     def cut(self, a, b, room):
-        self._need_session()
-        number = self._change_refusal(a, b)
-        if not number and (a, b) not in self.moves:
-            number = 10
-        if not number and room < self.size:
-            number = 11
+        number = self._refusal((a, b), room, lambda: 0 if (a, b) in self.moves else 10)
         if number:
             return ("no", number)
         self.moves.remove((a, b))
         return self._answer(a)
 
-    def _need_session(self):
+    def mark(self, state, room):
+        return self._switch(state, room, True, 13)
+
+    def unmark(self, state, room):
+        return self._switch(state, room, False, 14)
+
+    def _switch(self, state, room, pays, already):
+        number = self._refusal((state,), room, lambda: already if self.pays[state] == pays else 0)
+        if number:
+            return ("no", number)
+        self.pays[state] = pays
+        return self._answer(state)
+
+    def _refusal(self, states, room, own):
+        """Of a change: 6 for the states that it names, then its own numbers, then 11."""
         if not self.loaded:
-            raise RuntimeError("add or cut without a session")
+            raise RuntimeError("a change without a session")
+        if any(s >= self.size for s in states):
+            return 6
+        return own() or (11 if room < self.size else 0)
 
     def _load_refusal(self, size, start, words, numbers, room):
         if size == 0 or size > MOST_STATES:
@@ -174,14 +182,11 @@ class Table:
             return 11
         return 0
 
-    def _change_refusal(self, a, b):
-        return 6 if a >= self.size or b >= self.size else 0
-
-    def _answer(self, left):
-        """left: the state that the changed move leaves; None after a load."""
+    def _answer(self, named):
+        """named: the state that the changed move leaves, or whose mark changed; None after a load."""
         self.run = run = plain_search(self.size, self.start, self.pays, self.moves)
         count = len(run.looks)
-        kept = 0 if left is None else run.met_after.get(left, count)
+        kept = 0 if named is None else run.met_after.get(named, count)
         spent = count - kept
         if not run.found:
             return ("none", spent, kept)
@@ -207,7 +212,8 @@ def words_of(states):
 # --------------------------------------------------------- lines on the lead
 
 LONGEST_INPUT = 4294967295
-FIELDS = {b"game": 3, b"pay": 2, b"move": 3, b"go": 1, b"add": 3, b"cut": 3}
+FIELDS = {b"game": 3, b"pay": 2, b"move": 3, b"go": 1, b"add": 3, b"cut": 3, b"mark": 2, b"unmark": 2}
+CHANGES = {b"add", b"cut", b"mark", b"unmark"}
 
 
 def records(data):
@@ -274,17 +280,15 @@ def answer_lines(data):
                 return
             numbers += args
         elif word == b"go":
-            allowed = {b"add", b"cut"}
+            allowed = CHANGES
             answer = table.load(size, start, words_of(pay), numbers, MOST_STATES)
             if answer[0] == "no":
                 yield answer_line(answer)
                 return
             yield answer_line(("game", size, len(numbers) // 2, len(pay)))
             yield answer_line(answer)
-        elif word == b"add":
-            yield answer_line(table.add(*args, MOST_STATES))
         else:
-            yield answer_line(table.cut(*args, MOST_STATES))
+            yield answer_line(getattr(table, word.decode())(*args, MOST_STATES))
 
 
 def answer_text(data):
@@ -402,6 +406,150 @@ SELF_GAMES = [
     ]),
 ]
 
+# The same for states whose pay is turned on and off, worked by hand. Such a call names one state.
+MARK_GAMES = [
+    # the state that makes Game A's round; then states of the stem and of the round, and one never met
+    ("mark-a", 4, [2], [(0, 1), (1, 2)], ("none", 2, 0), [
+        ("add", 2, 1, ("round", 2, 2, [0], [1, 2])),
+        ("unmark", 2, ("none", 1, 2)),
+        ("unmark", 2, ("no", 14)),
+        ("mark", 2, ("round", 2, 2, [0], [1, 2])),
+        ("mark", 2, ("no", 13)),
+        ("mark", 0, ("round", 4, 0, [0], [1, 2])),
+        ("unmark", 0, ("round", 4, 0, [0], [1, 2])),
+        ("mark", 1, ("round", 3, 1, [0], [1, 2])),
+        ("unmark", 2, ("round", 3, 2, [0], [1, 2])),
+        ("mark", 4, ("no", 6)),
+        ("unmark", 65535, ("no", 6)),
+        ("mark", 3, ("round", 0, 5, [0], [1, 2])),
+        ("unmark", 3, ("round", 0, 5, [0], [1, 2])),
+    ]),
+    # a state never met, and then a move to it
+    ("mark-unmet", 3, [], [(0, 1), (2, 0)], ("none", 1, 0), [
+        ("mark", 2, ("none", 0, 1)),
+        ("add", 1, 2, ("round", 3, 1, [], [0, 1, 2])),
+        ("unmark", 2, ("none", 1, 2)),
+        ("cut", 1, 2, ("none", 0, 1)),
+        ("unmark", 1, ("no", 14)),
+        ("mark", 1, ("none", 0, 1)),            # met, but by the last look
+        ("mark", 0, ("none", 2, 0)),
+        ("unmark", 1, ("none", 1, 1)),
+    ]),
+    # the start state, alone and beside another
+    ("mark-start", 2, [1], C_MOVES, ("round", 3, 0, [], [0, 1]), [
+        ("mark", 0, ("round", 3, 0, [], [0, 1])),
+        ("unmark", 1, ("round", 3, 1, [], [0, 1])),
+        ("unmark", 0, ("none", 2, 0)),
+        ("unmark", 0, ("no", 14)),
+        ("mark", 0, ("round", 4, 0, [], [0, 1])),
+        ("mark", 0, ("no", 13)),
+        ("mark", 1, ("round", 2, 1, [], [0, 1])),
+        ("mark", 2, ("no", 6)),
+        ("unmark", 2, ("no", 6)),
+    ]),
+    # a state that had left the open path before the stop makes another round the first to be found
+    ("mark-other", 3, [2], [(0, 1), (0, 2), (1, 0), (2, 0)], ("round", 5, 0, [], [0, 2]), [
+        ("mark", 1, ("round", 2, 1, [], [0, 1])),
+        ("unmark", 2, ("round", 0, 3, [], [0, 1])),
+        ("unmark", 1, ("none", 3, 1)),
+        ("mark", 2, ("round", 2, 3, [], [0, 2])),
+        ("mark", 0, ("round", 5, 0, [], [0, 2])),
+        ("unmark", 2, ("round", 3, 3, [], [0, 1])),
+    ]),
+    # states that had left it, and whose own inner search finds nothing
+    ("mark-done", 4, [3], [(0, 1), (1, 2), (0, 3), (3, 2), (3, 0)], ("round", 7, 0, [], [0, 3]), [
+        ("mark", 1, ("round", 7, 1, [], [0, 3])),
+        ("mark", 2, ("round", 6, 2, [], [0, 3])),
+        ("unmark", 1, ("round", 6, 1, [], [0, 3])),
+        ("unmark", 3, ("none", 2, 3)),
+        ("mark", 0, ("round", 10, 0, [], [0, 3])),
+        ("unmark", 2, ("round", 8, 2, [], [0, 3])),
+    ]),
+    # the inner marks of one paying state spare looks to the next, and go with its mark
+    ("mark-inner", 5, [1], [(0, 1), (1, 2), (2, 3), (0, 4), (4, 2), (4, 0)], ("none", 8, 0), [
+        ("mark", 4, ("round", 4, 6, [], [0, 4])),
+        ("unmark", 1, ("round", 8, 1, [], [0, 4])),
+        ("mark", 3, ("round", 6, 3, [], [0, 4])),
+        ("mark", 2, ("round", 7, 2, [], [0, 4])),
+        ("unmark", 4, ("none", 2, 5)),
+        ("unmark", 2, ("none", 4, 2)),
+    ]),
+    # stem and round; a mark between an add and a cut changes the round found
+    ("mark-stem", 4, [3], [(0, 1), (1, 2), (2, 3), (3, 2)], ("round", 5, 0, [0, 1], [2, 3]), [
+        ("mark", 1, ("round", 4, 1, [0, 1], [2, 3])),
+        ("mark", 2, ("round", 3, 2, [0, 1], [2, 3])),
+        ("mark", 0, ("round", 5, 0, [0, 1], [2, 3])),
+        ("unmark", 3, ("round", 3, 3, [0, 1], [2, 3])),
+        ("unmark", 2, ("none", 6, 2)),
+        ("unmark", 1, ("none", 7, 1)),
+        ("add", 3, 0, ("round", 7, 3, [], [0, 1, 2, 3])),
+        ("mark", 2, ("round", 5, 2, [0, 1], [2, 3])),
+        ("cut", 3, 2, ("round", 3, 3, [], [0, 1, 2, 3])),
+        ("unmark", 0, ("round", 6, 0, [], [0, 1, 2, 3])),
+        ("unmark", 2, ("none", 2, 2)),
+    ]),
+    # states with a move to themselves
+    ("mark-self", 3, [], [(0, 1), (1, 1), (1, 2), (2, 2)], ("none", 4, 0), [
+        ("mark", 1, ("round", 4, 1, [0], [1])),
+        ("mark", 2, ("round", 2, 3, [0, 1], [2])),
+        ("unmark", 1, ("round", 4, 1, [0, 1], [2])),
+        ("cut", 2, 2, ("none", 0, 3)),
+        ("unmark", 2, ("none", 0, 3)),
+        ("mark", 2, ("none", 0, 3)),
+        ("mark", 0, ("none", 6, 0)),
+        ("add", 0, 0, ("round", 8, 0, [], [0])),
+        ("mark", 3, ("no", 6)),
+    ]),
+    # a game's only state; without its move nothing is spent and nothing kept
+    ("mark-alone", 1, [], [(0, 0)], ("none", 1, 0), [
+        ("mark", 0, ("round", 2, 0, [], [0])),
+        ("mark", 0, ("no", 13)),
+        ("cut", 0, 0, ("none", 0, 0)),
+        ("unmark", 0, ("none", 0, 0)),
+        ("unmark", 0, ("no", 14)),
+        ("mark", 0, ("none", 0, 0)),
+        ("mark", 1, ("no", 6)),
+        ("unmark", 1, ("no", 6)),
+        ("add", 0, 0, ("round", 2, 0, [], [0])),
+        ("unmark", 0, ("none", 1, 0)),
+    ]),
+    # the last states of one word and the first of the next; two paying states of one word
+    ("mark-words", 66, [62, 63], [(0, 63), (63, 64), (64, 63), (0, 62), (62, 0)], ("round", 5, 0, [0], [63, 64]), [
+        ("mark", 64, ("round", 2, 2, [0], [63, 64])),
+        ("unmark", 63, ("round", 3, 1, [0], [63, 64])),
+        ("unmark", 64, ("round", 4, 2, [], [0, 62])),
+        ("unmark", 63, ("no", 14)),
+        ("mark", 62, ("no", 13)),
+        ("unmark", 62, ("none", 1, 4)),
+        ("mark", 63, ("round", 4, 1, [0], [63, 64])),
+        ("mark", 62, ("round", 0, 5, [0], [63, 64])),
+        ("mark", 0, ("round", 5, 0, [0], [63, 64])),
+        ("mark", 65, ("round", 0, 5, [0], [63, 64])),
+        ("mark", 66, ("no", 6)),
+        ("unmark", 127, ("no", 6)),
+        ("unmark", 63, ("round", 5, 1, [], [0, 62])),
+        ("unmark", 62, ("round", 6, 4, [], [0, 62])),
+        ("unmark", 0, ("none", 5, 0)),
+        ("unmark", 65, ("none", 0, 5)),
+    ]),
+    # marks among moves that come and go
+    ("mark-moves", 4, [], [(0, 1), (1, 2)], ("none", 2, 0), [
+        ("add", 2, 3, ("none", 1, 2)),
+        ("mark", 2, ("none", 2, 2)),
+        ("add", 3, 1, ("round", 3, 3, [0], [1, 2, 3])),
+        ("mark", 3, ("round", 2, 3, [0], [1, 2, 3])),
+        ("cut", 2, 3, ("none", 0, 2)),
+        ("unmark", 3, ("none", 0, 2)),
+        ("add", 2, 3, ("round", 4, 2, [0], [1, 2, 3])),
+        ("cut", 0, 1, ("none", 0, 0)),
+        ("unmark", 2, ("none", 0, 0)),
+        ("mark", 1, ("none", 0, 0)),
+        ("add", 0, 1, ("round", 7, 0, [0], [1, 2, 3])),
+    ]),
+]
+
+WORKED = GAMES + SELF_GAMES + MARK_GAMES
+
 
 def flat(moves):
     return [n for move in moves for n in move]
@@ -486,30 +634,67 @@ def check_run(table):
         assert any(table.pays[s] for s in run.round)
 
 
+def check_change(table, before, named, answer):
+    """An accepted change. before: the looks of the run that it found; named: the state that it names."""
+    check_run(table)
+    looks, met, _ = told_search(table.size, table.start, table.pays, table.moves)
+    kept = met.get(named, len(looks))
+    assert answer[1:3] == (len(looks) - kept, kept)
+    assert before[:kept] == looks[:kept]        # up to that state both runs are one and the same
+    pay = [s for s in range(table.size) if table.pays[s]]
+    fresh = Table().load(table.size, table.start, words_of(pay), flat(table.moves), table.size)
+    assert fresh == (answer[0], len(looks), 0, *answer[3:])
+
+
+def switch(table, word, state, room):
+    """A mark or an unmark, its number and the table that it leaves held against the list of refusals."""
+    paying = {s for s in range(table.size) if table.pays[s]}
+    moves, run = list(table.moves), table.run
+    faults = [(6, state >= table.size), (13, word == "mark" and state in paying),
+              (14, word == "unmark" and state not in paying), (11, room < table.size)]
+    number = next((n for n, holds in faults if holds), 0)
+    answer = getattr(table, word)(state, room)
+    if number:
+        assert answer == ("no", number) and table.run is run
+    else:
+        paying ^= {state}
+        check_change(table, run.looks, state, answer)
+    assert table.pays == [s in paying for s in range(table.size)] and table.moves == moves
+    return answer
+
+
 def test_games():
-    for name, size, pay, moves, first, changes in GAMES + SELF_GAMES:
+    for name, size, pay, moves, first, changes in WORKED:
         table = Table()
         assert table.load(size, 0, words_of(pay), flat(moves), size) == first, name
         check_run(table)
         text = ["game\t%d\t0" % size] + ["pay\t%d" % s for s in pay]
         text += ["move\t%d\t%d" % m for m in moves] + ["go"]
         lines = b"game\t%d\t%d\t%d\n" % (size, len(moves), len(pay)) + answer_line(first)
-        for word, a, b, answer in changes:
-            assert getattr(table, word)(a, b, size) == answer, (name, word, a, b)
+        for word, *named, answer in changes:
+            assert getattr(table, word)(*named, size) == answer, (name, word, named)
             check_run(table)
-            text.append("%s\t%d\t%d" % (word, a, b))
+            text.append("\t".join([word, *map(str, named)]))
             lines += answer_line(answer)
         assert answer_text("\n".join(text).encode()) == lines, name
         assert answer_text("\n".join(text).encode() + b"\n") == lines, name
+
+
+def as_text(rows):
+    return rows.replace(" ", "\t").replace("|", "\n").encode()
+
+
+def says(given, wanted):
+    got = answer_text(as_text(given))
+    assert got == as_text(wanted), (given, got)
 
 
 def test_game_a_as_printed():
     given = "game 4 0|pay 2|move 0 1|move 1 2|go|add 2 1|add 2 3|cut 1 2|cut 1 2|add 2 0|"
     wanted = ("game 4 2 1|none 2 0|round 2 2 1 2 0 1 2|round 3 2 1 2 0 1 2|"
               "none 0 1|no 10|none 0 1|")
-    given, wanted = (t.replace(" ", "\t").replace("|", "\n").encode()
-                     for t in (given, wanted))
-    assert answer_text(given) == wanted
+    says(given, wanted)
+    given, wanted = as_text(given), as_text(wanted)
     assert bench_answer(given, 65536) == (wanted, 2 * len(wanted))
     assert bench_answer(given, len(wanted)) == (wanted, 2 * len(wanted))
     assert bench_answer(given, len(wanted) - 1) == (wanted[:-9], 2 * len(wanted[:-9]) + 1)
@@ -519,10 +704,6 @@ def test_game_a_as_printed():
 
 
 def test_lines():
-    def says(given, wanted):
-        given, wanted = (t.replace(" ", "\t").replace("|", "\n").encode()
-                         for t in (given, wanted))
-        assert answer_text(given) == wanted, (given, answer_text(given))
     says("", "")
     says("|", "no 1|")
     says("game 513 0", "")
@@ -574,6 +755,26 @@ def test_lines():
     says(load.replace("game 64 0", "game 64 64") + "go", "no 3|")
 
 
+def test_mark_lines():
+    head, heard = "game 3 0|pay 1|move 0 1|move 1 0|go|", "game 3 2 1|round 3 0 0 2 0 1|"
+    says(head + "unmark 1|mark 1|mark 2|unmark 2|mark 0|unmark 0",
+         heard + "none 1 1|round 2 1 0 2 0 1|" + "round 0 3 0 2 0 1|" * 2 + "round 3 0 0 2 0 1|" * 2)
+    says(head + "mark 1|unmark 0|unmark 2|mark 3|unmark 3|unmark 1|unmark 1|mark 1",
+         heard + "no 13|no 14|no 14|no 6|no 6|none 1 1|no 14|round 2 1 0 2 0 1|")
+    for number, refusal in (("511", 6), ("512", 6), ("9999", 6), ("65535", 6), ("65536", 1), ("99999", 1),
+                            ("100000", 1), ("000000", 1), ("00", 1), ("01", 1), ("", 1), ("-1", 1), ("+1", 1),
+                            ("1\r", 1), ("1\0", 1), ("1 ", 1), (" 1", 1), ("1 1", 1), ("0 1 2", 1), ("x", 1)):
+        for word in ("mark", "unmark"):
+            says(head + "%s %s|unmark 1" % (word, number), heard + "no %d|none 1 1|" % refusal)
+    for bad in ("mark", "unmark", "Mark 0", "MARK 0", "marks 0", "mar 0", "unMark 1", "un mark 1", "unmarked 1",
+                "mark\v0", "\0mark 0", " mark 0", "pay 0", "mark" + " " * 40 + "0"):
+        says(head + bad + "|unmark 1", heard + "no 1|none 1 1|")
+    for word, at in itertools.product(("mark 0", "unmark 1", "mark 9", "unmark 9"), range(5)):
+        rows = head.split("|")[:at] + [word, "go", "cut 0 1"]
+        says("|".join(rows), "no 1|")           # misplaced before `go`
+    says("game 1 0|pay 0|go|unmark 0|mark 0|mark 0", "game 1 0 1|none 0 0|none 0 0|none 0 0|no 13|")
+
+
 def test_refusals():
     t, none = Table(), [0] * 8
     mark = words_of([2])
@@ -604,6 +805,15 @@ def test_refusals():
     assert t.cut(4, 5, 512)[0] == "none" and t.moves == full[2:] + full[:1]
     assert t.add(511, 511, 512) == ("none", 1, 0)
     assert t.moves == full[2:] + full[:1] + [(511, 511)]
+    for state in (512, 513, 65535):
+        assert t.mark(state, 0) == t.unmark(state, 0) == t.mark(state, 512) == ("no", 6)
+    for state in (0, 63, 64, 511):
+        assert t.unmark(state, 0) == t.unmark(state, 512) == ("no", 14)
+        assert t.mark(state, 0) == t.mark(state, 511) == ("no", 11) and not t.pays[state]
+        assert t.mark(state, 512)[0] == ("round" if state == 511 else "none") and t.pays[state]
+        assert t.mark(state, 0) == t.mark(state, 512) == ("no", 13)
+        assert t.unmark(state, 0) == t.unmark(state, 511) == ("no", 11) and t.pays[state]
+    assert t.unmark(511, 600) == ("none", 1, 0) and [s for s in range(512) if t.pays[s]] == [0, 63, 64]
 
 
 def test_every_call():
@@ -623,48 +833,88 @@ def test_every_call():
             for call in (t.cut, t.cut, t.add, t.add):
                 heard.add(call(a, b, room)[:2])
                 check_run(t)
-    assert {number for word, number in heard if word == "no"} == {2, 3, 4, 5, 6, 8, 10, 11}
+        for state, room, word in itertools.product(range(4), range(4), ("mark", "mark", "unmark", "unmark")):
+            heard.add(switch(t, word, state, room)[:2])
+    assert {number for word, number in heard if word == "no"} == {2, 3, 4, 5, 6, 8, 10, 11, 13, 14}
+
+
+def random_load(rng, table, most):
+    """A random game of up to so many states."""
+    size = rng.randint(1, most)
+    every = [(a, b) for a in range(size) for b in range(size)]
+    rng.shuffle(every)
+    moves = every[:rng.randint(0, min(len(every), 2 * size))]
+    pay = [s for s in range(size) if rng.random() < 0.35]
+    return table.load(size, rng.randrange(size), words_of(pay), flat(moves), size)
+
+
+def random_switch(rng, table):
+    """A mark or an unmark that is accepted, or one time in eight any."""
+    state = rng.randrange(table.size)
+    if rng.random() < 0.125:
+        return switch(table, rng.choice(("mark", "unmark")), rng.randint(0, table.size), rng.randint(0, table.size))
+    return switch(table, "unmark" if table.pays[state] else "mark", state, table.size)
+
+
+def random_move(rng, table):
+    """A move that comes or goes."""
+    every = [(a, b) for a in range(table.size) for b in range(table.size)]
+    a, b = rng.choice(table.moves if table.moves and rng.random() < 0.3 else every)
+    before = table.run.looks
+    answer = (table.cut if (a, b) in table.moves else table.add)(a, b, table.size)
+    check_change(table, before, a, answer)
+    return answer
 
 
 def test_random():
     rng = random.Random(7)
-    seen = {"none": 0, "round": 0, "length 1": 0, "another": 0, "about a self-move": 0}
+    seen = Counter()
 
-    def check(t, answer):
-        check_run(t)
-        seen[answer[0]] += 1
+    def heard(t, what, answer):
+        seen[what, answer[0]] += 1
+        if answer[0] == "no":
+            return
+        seen[what, "kept" if answer[2] else "kept 0", "spent" if answer[1] else "spent 0"] += 1
         if pays_again(t):
             assert answer[0] == "round", (t.size, t.start, t.pays, t.moves)
             seen["length 1" if len(answer[4]) == 1 else "another"] += 1
 
     for _ in range(2000):
-        size = rng.randint(1, 8)
-        every = [(a, b) for a in range(size) for b in range(size)]
-        rng.shuffle(every)
-        moves = every[:rng.randint(0, min(len(every), 2 * size))]
-        pay = [s for s in range(size) if rng.random() < 0.35]
         t = Table()
-        check(t, t.load(size, rng.randrange(size), words_of(pay), flat(moves), size))
-        for _ in range(10):
-            a, b = rng.choice(t.moves if t.moves and rng.random() < 0.5 else every)
-            before = t.run.looks
-            answer = (t.cut if (a, b) in t.moves else t.add)(a, b, size)
-            check(t, answer)
-            seen["about a self-move"] += a == b
-            # up to the changed state both runs are one and the same
-            assert before[:answer[2]] == t.run.looks[:answer[2]]
-            assert answer[1] + answer[2] == len(t.run.looks)
-    assert min(seen["none"], seen["round"], seen["about a self-move"]) > 4000, seen
-    assert min(seen["length 1"], seen["another"]) > 700, seen
+        heard(t, "load", random_load(rng, t, 8))
+        check_run(t)
+        for _ in range(12):
+            what, call = rng.choice((("switch", random_switch), ("move", random_move)))
+            heard(t, what, call(rng, t))
+    for what in ("switch", "move"):
+        assert min(seen[what, "none"], seen[what, "round"]) > 3000, seen
+        for kept, spent in itertools.product(("kept", "kept 0"), ("spent", "spent 0")):
+            assert seen[what, kept, spent] > 500, seen
+    assert min(seen["length 1"], seen["another"], seen["switch", "no"]) > 700, seen
+
+
+def test_there_and_back():
+    """A mark and an unmark of one state leave the table and its run as they were."""
+    rng = random.Random(8)
+    for _ in range(500):
+        t = Table()
+        random_load(rng, t, 6)
+        before = t.run.looks
+        for state in range(t.size):
+            words = ("unmark", "mark") if t.pays[state] else ("mark", "unmark")
+            first, second = (switch(t, word, state, t.size) for word in words)
+            assert t.run.looks == before and first[2] <= len(before) and second[2] <= sum(first[1:3])
 
 
 def selftest():
     test_games()
     test_game_a_as_printed()
     test_lines()
+    test_mark_lines()
     test_refusals()
     test_every_call()
     test_random()
+    test_there_and_back()
     print("ok")
 
 

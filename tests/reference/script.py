@@ -10,7 +10,6 @@
 KIND is games, edges, small, full, or all (the four as one script, one end).
 """
 
-import itertools
 import random
 import struct
 import sys
@@ -20,7 +19,12 @@ import reference
 from reference import Table, flat, pairs, words_of
 
 LENT = 600
-LIMITS = {"games": 5100, "edges": 28800, "small": 16600, "full": 13500}   # bytes
+OPS = {2: "add", 3: "cut", 4: "mark", 5: "unmark"}
+CODES = {word: op for op, word in OPS.items()}
+ALREADY = {"add": 8, "cut": 10, "mark": 13, "unmark": 14}      # the number where it is so already
+# About each border of two words, and some other states.
+PROBES = [1, 15, 16, 31, 32, 62, 63, 64, 65, 127, 128, 191, 192, 255, 256, 319, 320, 383, 384, 447, 448, 510, 511]
+LIMITS = {"games": 8900, "edges": 31600, "small": 11000, "full": 12500}   # bytes
 assert sum(LIMITS.values()) <= 64000
 
 
@@ -46,9 +50,10 @@ def replay(script):
             room = next(numbers)
             call = lambda: table.load(size, start, words, moves, room)
         else:
-            assert op in (2, 3)
-            a, b, room = take(3)
-            call = lambda: (table.add if op == 2 else table.cut)(a, b, room)
+            *named, room = take(3)
+            if OPS[op] in ("mark", "unmark"):   # these name one state
+                assert named.pop() == 0
+            call = lambda: getattr(table, OPS[op])(*named, room)
         assert room <= LENT
         answer = call()
         if answer[0] == "no":
@@ -74,15 +79,13 @@ class Script:
     def __init__(self):
         self.numbers = []
         self.table = Table()
-        self.answers = []
-        self.own = []                           # of each answer, whether its call named a self-move
+        self.calls = []                         # word, whether a self-move is named, answer
 
-    def _said(self, answer, moves, want):
+    def _said(self, word, moves, answer, want):
         if want is not None:
             got = answer[1] if answer[0] == "no" else answer[0]
             assert got == want, (got, want)
-        self.answers.append(answer)
-        self.own.append(any(a == b for a, b in moves))
+        self.calls.append((word, any(a == b for a, b in moves), answer))
         return answer
 
     def load(self, size, start, pay, numbers, room=None, want=None):
@@ -93,19 +96,41 @@ class Script:
         self.numbers += [w >> (16 * i) & 0xFFFF for w in words for i in range(4)]
         self.numbers += [len(numbers), *numbers, room]
         answer = self.table.load(size, start, words, numbers, room)
-        return self._said(answer, pairs(numbers), want)
+        return self._said("load", pairs(numbers), answer, want)
 
-    def change(self, word, a, b, room=None, want=None):
+    def change(self, word, *named, room=None, want=None):
+        """named: the two states of a move, or the state of a mark, behind which stands a 0."""
         assert self.table.loaded
         room = self.table.size if room is None else room
-        self.numbers += [2 if word == "add" else 3, a, b, room]
-        return self._said(getattr(self.table, word)(a, b, room), [(a, b)], want)
+        self.numbers += [CODES[word], *named, *[0] * (2 - len(named)), room]
+        answer = getattr(self.table, word)(*named, room)
+        return self._said(word, [named] if len(named) == 2 else [], answer, want)
 
     def add(self, a, b, room=None, want=None):
-        return self.change("add", a, b, room, want)
+        return self.change("add", a, b, room=room, want=want)
 
     def cut(self, a, b, room=None, want=None):
-        return self.change("cut", a, b, room, want)
+        return self.change("cut", a, b, room=room, want=want)
+
+    def mark(self, state, room=None, want=None):
+        return self.change("mark", state, room=room, want=want)
+
+    def unmark(self, state, room=None, want=None):
+        return self.change("unmark", state, room=room, want=want)
+
+    def move_words(self, move):
+        """What is accepted first and then."""
+        return ("cut", "add") if move in self.table.moves else ("add", "cut")
+
+    def mark_words(self, state):
+        return ("unmark", "mark") if self.table.pays[state] else ("mark", "unmark")
+
+    def there_and_back(self, words, named, short):
+        """Each of two opposite changes: refused with the short list, accepted, refused as it is so already."""
+        for word in words:
+            self.change(word, *named, room=short, want=11)
+            self.change(word, *named)
+            self.change(word, *named, room=short, want=ALREADY[word])
 
     def size_in_bytes(self):
         return 2 * len(self.numbers)
@@ -116,22 +141,22 @@ class Script:
 
 
 def make_games(s, rng):
-    for name, size, pay, moves, first, changes in reference.GAMES + reference.SELF_GAMES:
-        for room in (size - 1, size):          # refused with 11, then accepted
-            answer = s.load(size, 0, pay, flat(moves), room)
-            assert answer == (("no", 11) if room < size else first), name
-        for word, a, b, wanted in changes:
-            assert s.change(word, a, b) == wanted, name
+    for name, size, pay, moves, first, changes in reference.WORKED:
+        if len(name) == 1:                      # of games A to I
+            s.load(size, 0, pay, flat(moves), size - 1, want=11)
+        assert s.load(size, 0, pay, flat(moves)) == first, name
+        for word, *named, wanted in changes:
+            assert s.change(word, *named) == wanted, name
         s.add(size, 0, want=6)
         s.cut(0, size, want=6)
+        s.mark(size, want=6)
+        s.unmark(size, room=size - 1, want=6)
         if moves:
             s.add(*s.table.moves[-1], want=8)
             s.cut(*s.table.moves[0], room=size - 1, want=11)
             s.cut(*s.table.moves[0], room=LENT)
-        for word in ("cut", "add") if (0, 0) in s.table.moves else ("add", "cut"):
-            s.change(word, 0, 0, room=size - 1, want=11)
-            s.change(word, 0, 0)
-            s.change(word, 0, 0, want=8 if word == "add" else 10)
+        s.there_and_back(s.move_words((0, 0)), (0, 0), size - 1)
+        s.there_and_back(s.mark_words(size - 1), (size - 1,), size - 1)
 
 
 def distinct_moves(rng, size, count, banned=(), share=0.1):
@@ -182,9 +207,7 @@ def make_edges(s, rng):
     pay = [t for t in range(1, 512) if rng.random() < 0.5]
     pay = sorted(set(pay) ^ {63, 127})
     s.load(512, 0, pay, [], want="none")
-    probes = [1, 15, 16, 31, 32, 62, 63, 64, 65, 127, 128, 191, 192, 255, 256, 319, 320,
-              383, 384, 447, 448, 510, 511]
-    for t in probes:
+    for t in PROBES:
         s.add(t, 0)
         s.add(0, t, want="round" if t in pay else "none")
         s.cut(0, t, want="none")
@@ -282,6 +305,14 @@ def make_edges(s, rng):
     answer = s.cut(511, 256, want="round")
     assert len(answer[3]) == 511 and len(answer[4]) == 1
     s.cut(511, 511, want="none")
+    s.add(511, 0, want="round")
+    s.unmark(511, room=511, want=11)
+    assert s.unmark(511) == ("none", 1, 511)
+    for t in (0, 256):                          # the inner search leads on to the start state
+        answer = s.mark(t, room=LENT)
+        assert answer[0] == "round" and answer[2] == t and len(answer[4]) == 512
+        s.mark(t, room=511, want=13)
+        s.unmark(t, want="none")
 
     # 512 states, each with a move to itself, and no others
     own = [(t, t) for t in range(512)]
@@ -300,6 +331,12 @@ def make_edges(s, rng):
     s.cut(510, 510, want="round")
     s.cut(511, 511, want="none")
     s.cut(256, 256, want="none")                # of a state never met
+    s.mark(255, want="none")
+    s.add(511, 255, want="round")
+    s.unmark(255, want="none")
+    s.mark(510, want="none")                    # its own move has gone
+    s.mark(511, room=511, want=13)
+    s.unmark(511, want="none")
 
     # the full table: nearly every state has a move to itself; the 2,048th and the 2,049th are such
     size = 512
@@ -338,6 +375,70 @@ def make_edges(s, rng):
         s.add(*new[i])
         s.add(*new[i], want=8)
         s.add(*moves[0], want=9)
+    for t in (63, 64, 511, pay[0]):
+        s.there_and_back(s.mark_words(t), (t,), 511)
+    s.mark(512, room=0, want=6)
+    s.add(*moves[0], want=9)
+    mark_edges(s)
+
+
+def mark_edges(s):
+    # the lent list, and what is tried before it
+    for pay, verdict in (([0], "round"), ([], "none")):
+        s.load(1, 0, pay, [0, 0], want=verdict)
+        s.there_and_back(s.mark_words(0), (0,), 0)
+        for state in (1, 63, 64, 65535):
+            s.mark(state, room=0, want=6)
+            s.unmark(state, want=6)
+    s.load(4, 1, [2], [1, 2, 2, 1, 2, 3], want="round")
+    for room in (4, 5, LENT):
+        s.unmark(4, room=0, want=6)
+        s.mark(2, room=room, want=13)
+        s.mark(2, room=0, want=13)
+        s.unmark(2, room=3, want=11)
+        s.unmark(2, room=0, want=11)
+        s.unmark(2, room=room, want="none")
+        s.unmark(2, room=room, want=14)
+        s.unmark(2, room=3, want=14)
+        s.mark(2, room=3, want=11)
+        s.mark(2, room=room, want="round")
+    s.unmark(0, want=14)                        # never met
+    s.mark(0, room=3, want=11)
+    s.mark(0, want="round")
+
+    # none of 512 states pays; some are marked, each alone, and then the start state and one never met
+    s.load(512, 0, [], flat((0, t) for t in PROBES) + flat((t, 0) for t in PROBES), want="none")
+    for t in PROBES:
+        s.unmark(t, room=511, want=14)
+        s.mark(t, room=511, want=11)
+        answer = s.mark(t, want="round")
+        assert answer[4] == [0, t]
+        s.mark(t, want=13)
+        s.unmark(t, want="none")
+    s.there_and_back(s.mark_words(0), (0,), 511)
+    s.there_and_back(s.mark_words(2), (2,), 511)
+
+    # all of them pay; a round as long as one of its states does
+    ring = [0, 63, 64, 511]
+    s.load(512, 0, range(512), flat(zip(ring, ring[1:] + ring[:1])), want="round")
+    for t in PROBES:
+        s.mark(t, room=0, want=13)
+    for t in (512, 513, 576, 65535):
+        s.mark(t, room=511, want=6)
+        s.unmark(t, want=6)
+    for t in (510, 62, 65, 1):                  # beside those of the ring
+        s.unmark(t, want="round")
+    for t in (511, 0, 64):
+        s.unmark(t, want="round")
+        s.unmark(t, want=14)
+    s.unmark(63, want="none")
+    for t in (127, 128, 448):
+        s.unmark(t, want="none")
+    for t in (62, 65, 510, 1):
+        s.mark(t, want="none")
+    for t in (0, 64, 63, 511):
+        s.mark(t, want="round")
+        s.mark(t, want=13)
 
 
 def make_small(s, rng, limit):
@@ -353,6 +454,15 @@ def small_room(rng, size):
     if dice < 0.06:
         return rng.randrange(size)
     return size if dice < 0.6 else rng.randint(size, LENT)
+
+
+def some_switch(s, rng, state, room):
+    """A mark or an unmark of this state; one in eight is refused with 13, 14 or 6."""
+    first, second = s.mark_words(state)
+    dice = rng.random()
+    if dice < 0.04:
+        state = s.table.size + rng.choice((0, 0, 1, 57, 60000))
+    return s.change(second if dice < 0.12 else first, state, room=room)
 
 
 def small_session(s, rng):
@@ -392,15 +502,19 @@ def small_session(s, rng):
 
     for _ in range(rng.randint(16, 36) if size > 1 else 6):
         room = small_room(rng, size)
+        if rng.random() < 0.4:
+            states = list(table.run.met_after) if rng.random() < 0.6 else range(size)
+            some_switch(s, rng, rng.choice(states), room)
+            continue
         dice = rng.random()
         absent = [m for m in every if m not in table.moves]
         if dice < 0.04:
             a, b = rng.randrange(size), size + rng.choice((0, 0, 1, 57, 60000))
             if rng.random() < 0.5:
                 a, b = b, a
-            s.change(rng.choice(("add", "cut")), a, b, room)
+            s.change(rng.choice(("add", "cut")), a, b, room=room)
             a = rng.randint(0, size)
-            s.change(rng.choice(("add", "cut")), a, a, room)
+            s.change(rng.choice(("add", "cut")), a, a, room=room)
         elif dice < 0.08 and table.moves:
             s.add(*rng.choice(table.moves), room)
         elif dice < 0.12 and absent:
@@ -418,14 +532,14 @@ def small_session(s, rng):
 def make_full(s, rng, limit):
     """Moves lead mostly onwards in a hidden order, or to the same state where that
     does not pay; the moves that lead back, or from a paying state to itself, and
-    close a round come and go with the changes."""
+    close a round come and go with the changes, and so do the marks."""
     size = 512
     order = list(range(size))
     rng.shuffle(order)
     start = order[0]
     place = {t: i for i, t in enumerate(order)}
     pay = [order[0]] + [order[i] for i in rng.sample(range(1, size), 30)]
-    back_part = []
+    closed = []                                 # changes that may have closed a round: their opposites
 
     def onward(i):
         far = 12 if rng.random() < 0.9 else 200
@@ -477,8 +591,19 @@ def make_full(s, rng, limit):
         else:
             state = rng.randrange(size)
         mine = [m for m in table.moves if m[0] == state]
+        walk = table.run.stem + table.run.round
         dice = rng.random()
-        if dice < 0.03:
+        if closed and rng.random() < (0.3 if walk else 0.05):      # open a closed round again
+            on_walk = [c for c in closed if set(c[1]) <= set(walk)]
+            undo = rng.choice(on_walk or closed)
+            closed.remove(undo)
+            s.change(undo[0], *undo[1], room=room)
+        elif rng.random() < 0.3:
+            if rng.random() < 0.2:
+                state = rng.choice([t for t in walk if table.pays[t]] or pay)
+            if some_switch(s, rng, state, room)[0] == "round" and table.pays[state]:
+                closed.append(("unmark", (state,)))
+        elif dice < 0.03:
             s.add(*rng.choice(table.moves), room, want=8)
         elif dice < 0.05:
             s.cut(*distinct_moves(rng, size, 1, table.moves, share=0.4)[0], room, want=10)
@@ -489,23 +614,15 @@ def make_full(s, rng, limit):
             if move in table.moves:
                 s.cut(*move, room)
                 last_cut = move
-            elif s.add(*move, room)[0] != "no" and state in paying:
-                back_part.append(move)
-        elif back_part and dice < 0.28:         # open a closed round again
-            walk = table.run.stem + table.run.round
-            on_walk = [m for m in back_part if m[0] in walk and m[1] in walk]
-            move = rng.choice(on_walk or back_part)
-            back_part.remove(move)
-            if move in table.moves:
-                s.cut(*move, room)
-        elif dice < 0.34:                       # a move that may close a round
+            elif s.add(*move, room)[0] != "no" and table.pays[state]:
+                closed.append(("cut", move))
+        elif dice < 0.18:                       # a move that may close a round
             move = back(place[rng.choice(pay)] if rng.random() < 0.4 else place[state])
-            if move not in table.moves:
-                if s.add(*move, room)[0] != "no":
-                    back_part.append(move)
-        elif dice < 0.42 and last_cut and last_cut not in table.moves:
+            if move not in table.moves and s.add(*move, room)[0] != "no":
+                closed.append(("cut", move))
+        elif dice < 0.30 and last_cut and last_cut not in table.moves:
             s.add(*last_cut, room)
-        elif mine and dice < (0.95 if len(table.moves) >= 2047 else 0.68):
+        elif mine and dice < (0.95 if len(table.moves) >= 2047 else 0.62):
             last_cut = rng.choice(mine)
             s.cut(*last_cut, room)
             if rng.random() < 0.4:
@@ -531,8 +648,7 @@ def make(seed, kind):
             MAKERS[name](part, rng)
         assert part.size_in_bytes() + 2 <= LIMITS[name], (name, part.size_in_bytes())
         whole.numbers += part.numbers
-        whole.answers += part.answers
-        whole.own += part.own
+        whole.calls += part.calls
     whole.numbers.append(0)
     return whole
 
@@ -541,20 +657,30 @@ def counted(answers):
     return dict(sorted(Counter("no %2d" % a[1] if a[0] == "no" else a[0] for a in answers).items()))
 
 
+def counts(what, answers):
+    print("    %s: %d" % (what, len(answers)), counted(answers))
+
+
+def looks(what, answers):
+    done = [a for a in answers if a[0] != "no"]
+    print("    %s accepted: kept 0 in %d, spent 0 in %d, both above 0 in %d" % (
+        what, sum(a[2] == 0 for a in done), sum(a[1] == 0 for a in done),
+        sum(a[1] > 0 and a[2] > 0 for a in done)))
+    print("    rounds of length 1: %d, 2: %d, longer: %d" % tuple(
+        sum(a[0] == "round" and min(len(a[4]), 3) == n for a in done) for n in (1, 2, 3)))
+
+
 def stats(seed):
     for kind in list(MAKERS) + ["all"]:
         s = make(seed, kind)
-        print(kind, "script", len(s.data()), "bytes; output", len(replay(s.data())), "bytes;",
-              len(s.answers), "calls")
-        print("   ", counted(s.answers))
-        print("    calls that name a self-move: %d" % sum(s.own),
-              counted(itertools.compress(s.answers, s.own)))
-        done = [a for a in s.answers if a[0] != "no"]
-        print("    accepted: kept 0 in %d, spent 0 in %d, both above 0 in %d" % (
-            sum(a[2] == 0 for a in done), sum(a[1] == 0 for a in done),
-            sum(a[1] > 0 and a[2] > 0 for a in done)))
-        print("    rounds of length 1: %d, 2: %d, longer: %d" % tuple(
-            sum(a[0] == "round" and min(len(a[4]), 3) == n for a in done) for n in (1, 2, 3)))
+        print(kind, "script", len(s.data()), "bytes; output", len(replay(s.data())), "bytes")
+        every = [answer for _, _, answer in s.calls]
+        marks = [answer for word, _, answer in s.calls if word in ("mark", "unmark")]
+        counts("calls", every)
+        counts("those that name a self-move", [answer for _, own, answer in s.calls if own])
+        counts("marks and unmarks", marks)
+        looks("calls", every)
+        looks("marks and unmarks", marks)
 
 
 def main(args):
