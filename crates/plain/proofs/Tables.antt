@@ -117,6 +117,21 @@ valid-cut t e v = record {
   once = repeated-filter (λ f. not (sameEdge e f)) (t .edges) (v .once);
 }
 
+-- a change leaves the size and the start state
+pub changed-size : (c : Change) (t : Table) → apply c t .size ≡ t .size
+unfolding apply
+changed-size (add e) t = refl
+changed-size (cut e) t = refl
+changed-size (mark s) t = refl
+changed-size (unmark s) t = refl
+
+pub changed-start : (c : Change) (t : Table) → apply c t .start ≡ t .start
+unfolding apply
+changed-start (add e) t = refl
+changed-start (cut e) t = refl
+changed-start (mark s) t = refl
+changed-start (unmark s) t = refl
+
 -- the mark of one state is switched, set or cleared: the words mark no state outside where that one is none
 valid-switch : (t : Table) (s : ℕ) (words : List ℕ) → Valid t → beyond (t .size) s ≡ false → ((x : ℕ) → x ≢ s → accepts words x ≡ accepts (t .words) x) → Valid (withWords t words)
 unfolding badMarks beyond

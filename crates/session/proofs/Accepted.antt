@@ -7,73 +7,56 @@ use Prim.Native.Nat.{ℕ, _+_, _-_, _≤_}
 use native.Mathlib.Nat.{add-zero}
 use native.Mathlib.Omega.{arith}
 use lib.ListN.{length, getD}
-use borrow.Author.Tests.{ltb-false}
+use borrow.Author.Tests.{ltb-false, le-leb}
 use Rattle.plain.specs.Lists.{elem, In}
 use Rattle.plain.specs.Search.{Graph, Config, discoveredOf, meets, run, Verdict as PlainVerdict, unfinished, verdict, count}
-use Rattle.rows.specs.Change.{Rows, rowsOf}
 use Rattle.plain.specs.Table.{Table, searched, final, firstMeeting}
-use Rattle.plain.specs.Refusals.{Trial, accepted, refused, addTrial, cutTrial, shortRoom}
-use Rattle.plain.specs.Machine.{Change, named, apply, kept, Answer as PlainAnswer, refusal, numbered, answer, changeTrial, trialOf, answerTo, tableAfter, changeAnswer, after, written, answerLine}
+use Rattle.plain.specs.Refusals.{Trial, accepted, refused, beyond, shortRoom}
+use Rattle.plain.specs.Machine.{Change, named, apply, conditions, kept, Answer as PlainAnswer, refusal, numbered, answer, changeTrial, trialOf, answerTo, tableAfter, changeAnswer, after, written, answerLine}
 use Rattle.plain.specs.Notes.{Note, Notes, Faithful}
 use Rattle.plain.specs.Claims.{changed}
 use Rattle.plain.proofs.Tests.{either, in-one}
 use Rattle.plain.proofs.Restore.{noted-run}
 use Rattle.plain.proofs.Prefix.{meets-one, unmet-one}
-use Rattle.plain.proofs.Trials.{unheld}
+use Rattle.plain.proofs.Trials.{unheld, passed-behind}
 use Rattle.plain.proofs.Rows.{agree}
-use Rattle.plain.proofs.Tables.{Valid, valid, valid-change}
+use Rattle.plain.proofs.Tables.{Valid, valid, valid-change, changed-size, changed-start}
 use Rattle.plain.proofs.Demands.{run-final, verdict-right, change-unmet, change-met}
 use Rattle.look.specs.Numbers.{noNumber, plus}
 use Rattle.look.proofs.Counting.{plus-more}
-use Rattle.search.specs.Core.{gameOf, Result}
+use Rattle.search.specs.Core.{Result}
 use Rattle.search.specs.Archive.{notesOf, Archived}
 use Rattle.search.proofs.Scans.{ran-from}
 use Rattle.search.proofs.Ended.{rewound-spent}
 use Rattle.search.proofs.Resumed.{Small, resume-fits, limits}
 use Rattle.table.specs.declared.Op.{Op}
-use Rattle.table.specs.declared.Op.the-variants.{Add, Cut}
+use Rattle.table.specs.declared.Op.the-variants.{Add, Cut, Mark, Unmark}
 use Rattle.session.specs.declared.Session.{Session}
 use Rattle.session.specs.declared.Settled.{Settled}
 use Rattle.session.specs.declared.Resumption.{Resumption}
 use Rattle.session.specs.declared.Verdict.{Verdict}
-use Rattle.table.specs.Trials.{conditionsIn, trialIn}
-use Rattle.table.specs.Filing.{sourceOf, filedIn, Filed}
-use Rattle.session.specs.Model.{Records, recordsOf, recordsIn, resumptionAt, backAt, Sought, verdictOf, sessionOf, refusing, answerIs, shownWalk, Settles, ChangedIn}
-use Rattle.table.specs.Filing.{changeOf}
+use Rattle.table.specs.Trials.{Arrays, addConditions, cutConditions, markConditions, unmarkConditions, trialIn}
+use Rattle.table.specs.Filing.{changeOf, namedBy, filedIn, Stored}
+use Rattle.session.specs.Model.{Records, recordsOf, recordsIn, arraysHeld, gameIn, resumptionAt, backAt, Sought, verdictOf, sessionOf, refusing, answerIs, shownWalk, Settles, ChangedIn}
 use Rattle.session.specs.Promises.{shown, Tells, heightOf, Holds, Changes}
 use Rattle.table.proofs.Pairs.{outside-from}
 use Rattle.table.proofs.Trying.{tried-refused, stop}
 use Rattle.session.proofs.Held.{size-few, small, trial-here}
-use Rattle.table.proofs.Changing.{source-below, refiled}
+use Rattle.table.proofs.Changing.{named-below, restored}
 use Rattle.session.proofs.Told.{tells-answer, tells-written, tells-fits, never-refused}
 use Rattle.session.proofs.Sought.{matches, Reached, reached, taken-nowhere, taken-at}
 
-named-one : (op : Op) → named (changeOf op) ≡ sourceOf op ∷ []
+named-one : (op : Op) → named (changeOf op) ≡ namedBy op ∷ []
 unfolding named
 named-one (Add from to) = refl
 named-one (Cut from to) = refl
-
--- a change leaves the size, the start state and the words
-changed-size : (op : Op) (t : Table) → apply (changeOf op) t .size ≡ t .size
-unfolding apply
-changed-size (Add from to) t = refl
-changed-size (Cut from to) t = refl
-
-changed-start : (op : Op) (t : Table) → apply (changeOf op) t .start ≡ t .start
-unfolding apply
-changed-start (Add from to) t = refl
-changed-start (Cut from to) t = refl
-
-changed-words : (op : Op) (t : Table) → apply (changeOf op) t .words ≡ t .words
-unfolding apply
-changed-words (Add from to) t = refl
-changed-words (Cut from to) t = refl
+named-one (Mark state) = refl
+named-one (Unmark state) = refl
 
 -- an accepted change's list has room for the walk
-room-enough : (op : Op) (t : Table) (room : ℕ) → changeTrial (changeOf op) t room ≡ accepted → t .size ≤ room
-unfolding changeTrial addTrial cutTrial shortRoom
-room-enough (Add from to) t room e = ltb-false room (t .size) (unheld 11 _ e)
-room-enough (Cut from to) t room e = ltb-false room (t .size) (unheld 11 _ e)
+room-enough : (c : Change) (t : Table) (room : ℕ) → changeTrial c t room ≡ accepted → t .size ≤ room
+unfolding changeTrial shortRoom
+room-enough c t room e = ltb-false room (t .size) (unheld 11 _ (passed-behind (conditions c t) _ e))
 
 -- what the new records are worth for the changed table
 record Worth (c : Change) (t : Table) (v : Verdict) (a : Records) : Type 0 where
@@ -105,11 +88,11 @@ oldOf s = record { stem = s .stem; length = s .length; height = s .height; spent
 abbrev recordsHeld : Session → Records
 recordsHeld s = recordsOf (s .number) (s .parent) (s .index) (s .probes) (s .stamp) (s .walk)
 
-module _ (op : Op) (s : Session) (rows : Rows) (a : Records) (v : Verdict) (new : rows ≡ filedIn op (s .size) (rowsOf (s .targets) (s .starts)))
-    (sought : Sought (gameOf (rows .targets) (rows .starts) (s .words)) (s .size) (s .start) (resumptionAt (s .number) (sourceOf op)) (oldOf s) (recordsHeld s) v a)
+module _ (op : Op) (s : Session) (b : Arrays) (a : Records) (v : Verdict) (new : b ≡ filedIn op (s .size) (arraysHeld s))
+    (sought : Sought (gameIn b) (s .size) (s .start) (resumptionAt (s .number) (namedBy op)) (oldOf s) (recordsHeld s) v a)
     (t : Table) (h : Holds s t) (room : ℕ) (yes-it-is : changeTrial (changeOf op) t room ≡ accepted) where
   abbrev from : ℕ
-  from = sourceOf op
+  from = namedBy op
 
   abbrev c : Change
   c = changeOf op
@@ -126,14 +109,14 @@ module _ (op : Op) (s : Session) (rows : Rows) (a : Records) (v : Verdict) (new 
   r : Notes
   r = notesOf (run (searched t) (h .steps)) (s .number) (s .parent) (s .index) (s .probes) (s .stamp)
 
-  rows-new : Filed (t′ .size) (t′ .edges) rows
-  rows-new = refiled t (rowsOf (s .targets) (s .starts)) (h .filed) rows (valid t (h .arises)) op room yes-it-is (new ∙ ap (λ (n : ℕ). filedIn op n (rowsOf (s .targets) (s .starts))) (h .size-is))
+  stored-new : Stored t′ b
+  stored-new = restored t (arraysHeld s) (h .stored) b ok op room yes-it-is (new ∙ ap (λ (n : ℕ). filedIn op n (arraysHeld s)) (h .size-is))
 
   -- the named state was never met: nothing is to be done
   worth-unmet : getD (s .number) from 0 ≡ noNumber → elem from (discoveredOf (run (searched t) (h .steps))) ≡ false → Worth c t v a
   unfolding r kept
   worth-unmet e f =
-      let q = subst (λ (x : Resumption). Sought (gameOf (rows .targets) (rows .starts) (s .words)) (s .size) (s .start) x (oldOf s) (recordsHeld s) v a) (taken-nowhere (s .number) from e) sought in
+      let q = subst (λ (x : Resumption). Sought (gameIn b) (s .size) (s .start) x (oldOf s) (recordsHeld s) v a) (taken-nowhere (s .number) from e) sought in
       let m : meets (named c) (run (searched t) (h .steps)) ≡ false = subst (λ (l : List ℕ). meets l (run (searched t) (h .steps)) ≡ false) (sym (named-one op)) (unmet-one (searched t) from (run (searched t) (h .steps)) f) in
       let u = change-unmet c t ok ok′ (h .steps) (h .ended) r m (h .archived .holds) in
       let z : s .total + 0 ≡ count (final t′) = omega (arith, h .total-is, ap count (u .same-final)) in
@@ -152,16 +135,16 @@ module _ (op : Op) (s : Session) (rows : Rows) (a : Records) (v : Verdict) (new 
   worth-met : (getD (s .number) from 0 ≡ noNumber → ⊥) → In from (discoveredOf (run (searched t) (h .steps))) → Worth c t v a
   unfolding r kept
   worth-met e i =
-      let q = subst (λ (x : Resumption). Sought (gameOf (rows .targets) (rows .starts) (s .words)) (s .size) (s .start) x (oldOf s) (recordsHeld s) v a) (taken-at (s .number) from e) sought in
+      let q = subst (λ (x : Resumption). Sought (gameIn b) (s .size) (s .start) x (oldOf s) (recordsHeld s) v a) (taken-at (s .number) from e) sought in
       let m : meets (named c) (run (searched t) (h .steps)) ≡ true = subst (λ (l : List ℕ). meets l (run (searched t) (h .steps)) ≡ true) (sym (named-one op)) (meets-one (searched t) from (run (searched t) (h .steps)) i) in
       let u = change-met c t ok ok′ (h .steps) (h .ended) r m (h .archived .holds) in
       let w = u .meeting in
       let here : w .meeting .state ≡ from = in-one (w .meeting .state) from (subst (λ (l : List ℕ). In (w .meeting .state) l) (named-one op) (w .meeting .is-named)) in
-      let same : t′ .size ≡ t .size = changed-size op t in
+      let same : t′ .size ≡ t .size = changed-size c t in
       let n : s .size ≡ t .size = h .size-is in
       let fit = resume-fits (t .size) (named c) (searched t) (searched t′) (agree c t) (small t ok) (subst (Small (searched t′)) same (small t′ ok′)) (h .steps) (s .number) (s .parent) (s .index) (s .probes) (s .stamp) (s .walk) (h .archived) w in
-      let ran = ran-from (gameOf (rows .targets) (rows .starts) (s .words)) (same-start n (h .start-is ∙ sym (changed-start op t)) (sym here)) (q .1) in
-      let g = reached t′ ok′ (gameOf (rows .targets) (rows .starts) (s .words)) (matches t′ rows (s .words) rows-new (h .words-are ∙ sym (changed-words op t)))
+      let ran = ran-from (gameIn b) (same-start n (h .start-is ∙ sym (changed-start c t)) (sym here)) (q .1) in
+      let g = reached t′ ok′ (gameIn b) (matches t′ b stored-new)
       (w .at) (backAt (t .size) (t′ .start) (w .meeting .state) (recordsHeld s)) (q .0)
       (rewound-spent (t .size) (t′ .start) (w .meeting .state) 0 (s .number) (s .parent) (s .index) (s .probes) (s .stamp) (s .walk)) fit ran in
       subst⁻¹ (λ (x : Verdict). Worth c t x a) (q .2) (subst⁻¹ (λ (x : Records). Worth c t (verdictOf (q .0 .walker) (q .0 .spent)) x) (q .3) (settled-by (q .0) (w .at) g (ap count (u .kept-here))))
@@ -185,7 +168,7 @@ module _ (op : Op) (s : Session) (rows : Rows) (a : Records) (v : Verdict) (new 
   worth : Worth c t v a
   worth = ⊎-elim
       (λ i. worth-met (λ e. met-number i e) i)
-      (λ f. worth-unmet (h .archived .undiscovered from (omega (arith, source-below op t room yes-it-is, size-few (t .size) (ok .size-ok))) f) f)
+      (λ f. worth-unmet (h .archived .undiscovered from (omega (arith, named-below op t room yes-it-is, size-few (t .size) (ok .size-ok))) f) f)
       (either (elem from (discoveredOf (run (searched t) (h .steps)))))
     where
       met-number : In from (discoveredOf (run (searched t) (h .steps))) → getD (s .number) from 0 ≡ noNumber → ⊥
@@ -200,20 +183,17 @@ module _ (op : Op) (s : Session) (rows : Rows) (a : Records) (v : Verdict) (new 
 
   -- the session that is returned
   abbrev next : Session
-  next = sessionOf (s .size) (s .start) (s .words) rows a v (plus (v .kept) (v .spent))
+  next = sessionOf (s .size) (s .start) b a v (plus (v .kept) (v .spent))
 
   next-holds : Holds next t′
   unfolding trialOf
   next-holds =
-      let f = rows-new in
       let w = worth in
-      let n : s .size ≡ t′ .size = h .size-is ∙ sym (changed-size op t) in
       record {
         arises = changed t (record { change = c; room = room }) (h .arises) yes-it-is;
-        size-is = n;
-        start-is = h .start-is ∙ sym (changed-start op t);
-        words-are = h .words-are ∙ sym (changed-words op t);
-        filed = f;
+        size-is = h .size-is ∙ sym (changed-size c t);
+        start-is = h .start-is ∙ sym (changed-start c t);
+        stored = stored-new;
         steps = w .steps;
         ended = w .ended;
         archived = w .archive;
@@ -230,8 +210,8 @@ module _ (op : Op) (s : Session) (rows : Rows) (a : Records) (v : Verdict) (new 
   next-written lent lent′ e wrote =
       let w = worth in
       let f = tells-fits v (verdict (final t′)) (a .walk) (t′ .size) (w .tells) (verdict-right t′ ok′ .short) in
-      let size : t′ .size ≡ t .size = changed-size op t in
-      wrote (f .0) (omega (arith, f .1, size-few (t′ .size) (ok′ .size-ok))) (omega (arith, f .1, size, room-enough op t room yes-it-is))
+      let size : t′ .size ≡ t .size = changed-size c t in
+      wrote (f .0) (omega (arith, f .1, size-few (t′ .size) (ok′ .size-ok))) (omega (arith, f .1, size, room-enough c t room yes-it-is))
       ∙ tells-written v (verdict (final t′)) (a .walk) lent (count (final t′) - kept c t) (kept c t) (w .tells)
 
   next-answer : (lent lent′ : List ℕ) → lent′ ≡ written plain lent → answerLine plain ≡ shown (answerIs v) lent′ ∷ []
@@ -260,13 +240,15 @@ unfolding tableAfter trialOf
 table-refused c room t n e = ap (λ (x : Trial). after x (apply c t) t) e
 
 -- without a state, each change names one outside
-empty-six : (op : Op) (s : Session) (room : ℕ) → s .size ≡ 0 → trialIn op (s .size) (s .targets) (s .starts) room ≡ refused 6
-unfolding conditionsIn trialIn
+empty-six : (op : Op) (s : Session) (room : ℕ) → s .size ≡ 0 → trialIn op (s .size) (arraysHeld s) room ≡ refused 6
+unfolding trialIn addConditions cutConditions markConditions unmarkConditions beyond
 empty-six (Add from to) s room z = tried-refused _ 6 (stop 6 _ _ (outside-from from to (s .size) (omega (arith, z))))
 empty-six (Cut from to) s room z = tried-refused _ 6 (stop 6 _ _ (outside-from from to (s .size) (omega (arith, z))))
+empty-six (Mark state) s room z = tried-refused _ 6 (stop 6 _ _ (le-leb (s .size) state (omega (arith, z))))
+empty-six (Unmark state) s room z = tried-refused _ 6 (stop 6 _ _ (le-leb (s .size) state (omega (arith, z))))
 
 -- the session that a change makes of one, where nothing has changed
-same-session : (s : Session) → s .total ≤ 65535 → sessionOf (s .size) (s .start) (s .words) (rowsOf (s .targets) (s .starts)) (recordsHeld s) (oldOf s) (plus (s .total) 0) ≡ s
+same-session : (s : Session) → s .total ≤ 65535 → sessionOf (s .size) (s .start) (arraysHeld s) (recordsHeld s) (oldOf s) (plus (s .total) 0) ≡ s
 same-session s h = λ i. record {
   size = s .size;
   start = s .start;
@@ -286,7 +268,7 @@ same-session s h = λ i. record {
 }
 
 module _ (op : Op) (s : Session) (lent : List ℕ) where
-  change-refused : (n : ℕ) → trialIn op (s .size) (s .targets) (s .starts) (length lent) ≡ refused n → Changes op s lent (record { answer = refusing n; session = s }) lent
+  change-refused : (n : ℕ) → trialIn op (s .size) (arraysHeld s) (length lent) ≡ refused n → Changes op s lent (record { answer = refusing n; session = s }) lent
   unfolding shown written answerLine
   change-refused n e = record {
     answers = λ t h. ap answerLine (answer-refused (changeOf op) (length lent) t n (is t h));
@@ -302,16 +284,16 @@ module _ (op : Op) (s : Session) (lent : List ℕ) where
       refused-same : {x y : ℕ} → refused x ≡ refused y → x ≡ y
       refused-same z = cc
 
-  change-accepted : (lent′ : List ℕ) (rows : Rows) (a : Records) (r : Settled) → trialIn op (s .size) (s .targets) (s .starts) (length lent) ≡ accepted
-      → rows ≡ filedIn op (s .size) (rowsOf (s .targets) (s .starts))
-      → Settles (gameOf (rows .targets) (rows .starts) (s .words)) (s .size) (s .start) (resumptionAt (s .number) (sourceOf op)) (oldOf s) (recordsHeld s) lent r a lent′
-      → Changes op s lent (record { answer = r .answer; session = sessionOf (s .size) (s .start) (s .words) rows a (r .verdict) (plus (r .verdict .kept) (r .verdict .spent)) }) lent′
-  change-accepted lent′ rows a r e new w = rw (w .answer-is) (record {
+  change-accepted : (lent′ : List ℕ) (b : Arrays) (a : Records) (r : Settled) → trialIn op (s .size) (arraysHeld s) (length lent) ≡ accepted
+      → b ≡ filedIn op (s .size) (arraysHeld s)
+      → Settles (gameIn b) (s .size) (s .start) (resumptionAt (s .number) (namedBy op)) (oldOf s) (recordsHeld s) lent r a lent′
+      → Changes op s lent (record { answer = r .answer; session = sessionOf (s .size) (s .start) b a (r .verdict) (plus (r .verdict .kept) (r .verdict .spent)) }) lent′
+  change-accepted lent′ b a r e new w = rw (w .answer-is) (record {
     answers = λ t h. ap answerLine (answer-accepted (changeOf op) (length lent) t (is t h))
-        ∙ next-answer op s rows a (r .verdict) new (w .sought) t h (length lent) (is t h) lent lent′ (list t h);
+        ∙ next-answer op s b a (r .verdict) new (w .sought) t h (length lent) (is t h) lent lent′ (list t h);
     writes = λ t h. list t h ∙ sym (ap (λ (x : PlainAnswer). written x lent) (answer-accepted (changeOf op) (length lent) t (is t h)));
-    holds = λ t h. subst⁻¹ (λ (x : Table). Holds (next op s rows a (r .verdict) new (w .sought) t h (length lent) (is t h)) x) (table-accepted (changeOf op) (length lent) t (is t h))
-        (next-holds op s rows a (r .verdict) new (w .sought) t h (length lent) (is t h));
+    holds = λ t h. subst⁻¹ (λ (x : Table). Holds (next op s b a (r .verdict) new (w .sought) t h (length lent) (is t h)) x) (table-accepted (changeOf op) (length lent) t (is t h))
+        (next-holds op s b a (r .verdict) new (w .sought) t h (length lent) (is t h));
     refused = λ m z. absurd (never-refused (r .verdict) m z);
     no-game = λ o. absurd (refused-not (sym (empty-six op s (length lent) o) ∙ e));
   })
@@ -319,25 +301,25 @@ module _ (op : Op) (s : Session) (lent : List ℕ) where
       is : (t : Table) → Holds s t → changeTrial (changeOf op) t (length lent) ≡ accepted
       is t h = sym (trial-here s t h op (length lent)) ∙ e
 
-      list : (t : Table) (h : Holds s t) → lent′ ≡ written (plain op s rows a (r .verdict) new (w .sought) t h (length lent) (is t h)) lent
-      list t h = next-written op s rows a (r .verdict) new (w .sought) t h (length lent) (is t h) lent lent′ (omega arith) (w .wrote)
+      list : (t : Table) (h : Holds s t) → lent′ ≡ written (plain op s b a (r .verdict) new (w .sought) t h (length lent) (is t h)) lent
+      list t h = next-written op s b a (r .verdict) new (w .sought) t h (length lent) (is t h) lent lent′ (omega arith) (w .wrote)
 
       refused-not : refused 6 ≡ accepted → ⊥
       refused-not z = let q : _≡_ {A = ℕ} 0 1 = cc in omega arith
 
   -- the contract of a change, from what the change leaves in the arrays
-  pub change-right : (lent′ : List ℕ) (rows : Rows) (a : Records) (r : Settled) (total : ℕ) → s .total ≤ 65535 → total ≡ plus (r .verdict .kept) (r .verdict .spent)
-      → ChangedIn op (s .words) (s .size) (s .start) (oldOf s) (rowsOf (s .targets) (s .starts)) (recordsHeld s) lent r rows a lent′
-      → Changes op s lent (record { answer = r .answer; session = sessionOf (s .size) (s .start) (s .words) rows a (r .verdict) total }) lent′
-  change-right lent′ rows a r total small e w = by-trial (trialIn op (s .size) (s .targets) (s .starts) (length lent)) refl
+  pub change-right : (lent′ : List ℕ) (b : Arrays) (a : Records) (r : Settled) (total : ℕ) → s .total ≤ 65535 → total ≡ plus (r .verdict .kept) (r .verdict .spent)
+      → ChangedIn op (s .size) (s .start) (oldOf s) (arraysHeld s) (recordsHeld s) lent r b a lent′
+      → Changes op s lent (record { answer = r .answer; session = sessionOf (s .size) (s .start) b a (r .verdict) total }) lent′
+  change-right lent′ b a r total small e w = by-trial (trialIn op (s .size) (arraysHeld s) (length lent)) refl
     where
-      Made : Settled → Rows → Records → ℕ → List ℕ → Type 0
-      Made x y z n list = Changes op s lent (record { answer = x .answer; session = sessionOf (s .size) (s .start) (s .words) y z (x .verdict) n }) list
+      Made : Settled → Arrays → Records → ℕ → List ℕ → Type 0
+      Made x y z n list = Changes op s lent (record { answer = x .answer; session = sessionOf (s .size) (s .start) y z (x .verdict) n }) list
 
-      by-trial : (x : Trial) → trialIn op (s .size) (s .targets) (s .starts) (length lent) ≡ x → Made r rows a total lent′
-      by-trial accepted f = let q = w .on-acceptance f in subst⁻¹ (λ (n : ℕ). Made r rows a n lent′) e (change-accepted lent′ rows a r f (q .0) (q .1))
+      by-trial : (x : Trial) → trialIn op (s .size) (arraysHeld s) (length lent) ≡ x → Made r b a total lent′
+      by-trial accepted f = let q = w .on-acceptance f in subst⁻¹ (λ (n : ℕ). Made r b a n lent′) e (change-accepted lent′ b a r f (q .0) (q .1))
       by-trial (refused n) f =
           let q = w .on-refusal n f in
           let sum : total ≡ plus (s .total) 0 = e ∙ (λ i. plus (q .0 i .verdict .kept) (q .0 i .verdict .spent)) in
-          subst⁻¹ (λ (x : ℕ × Settled × Rows × Records × List ℕ). Made (x .1) (x .2) (x .3) (x .0) (x .4)) (λ i. (sum i, q .0 i, q .1 i, q .2 i, q .3 i))
+          subst⁻¹ (λ (x : ℕ × Settled × Arrays × Records × List ℕ). Made (x .1) (x .2) (x .3) (x .0) (x .4)) (λ i. (sum i, q .0 i, q .1 i, q .2 i, q .3 i))
           (subst⁻¹ (λ (x : Session). Changes op s lent (record { answer = refusing n; session = x }) lent) (same-session s small) (change-refused n f))

@@ -12,13 +12,13 @@ use Rattle.plain.proofs.Tests.{or-false}
 use Rattle.plain.proofs.Rows.{row-short}
 use Rattle.plain.proofs.Tables.{Valid}
 use Rattle.plain.proofs.Demands.{upto, in-upto, once-upto, length-upto, total-le, start-in, target-in}
-use Rattle.rows.specs.Change.{rowsOf}
 use Rattle.search.proofs.Resumed.{Small}
 use Rattle.table.specs.declared.Op.{Op}
 use Rattle.table.specs.Trials.{trialIn}
 use Rattle.table.specs.Filing.{changeOf}
 use Rattle.table.proofs.Changing.{trial-same}
 use Rattle.session.specs.declared.Session.{Session}
+use Rattle.session.specs.Model.{arraysHeld}
 use Rattle.session.specs.Promises.{Holds}
 
 -- ---- limits
@@ -47,5 +47,5 @@ small t v = record {
 
 -- ---- the refusals read off the session are the table's
 
-pub trial-here : (s : Session) (t : Table) → Holds s t → (op : Op) (room : ℕ) → trialIn op (s .size) (s .targets) (s .starts) room ≡ changeTrial (changeOf op) t room
-trial-here s t h op room = ap (λ (n : ℕ). trialIn op n (s .targets) (s .starts) room) (h .size-is) ∙ trial-same t (rowsOf (s .targets) (s .starts)) (h .filed) op room
+pub trial-here : (s : Session) (t : Table) → Holds s t → (op : Op) (room : ℕ) → trialIn op (s .size) (arraysHeld s) room ≡ changeTrial (changeOf op) t room
+trial-here s t h op room = ap (λ (n : ℕ). trialIn op n (arraysHeld s) room) (h .size-is) ∙ trial-same t (arraysHeld s) (h .stored) op room

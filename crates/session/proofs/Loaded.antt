@@ -15,7 +15,7 @@ use Rattle.plain.proofs.Tables.{Valid, valid}
 use Rattle.plain.proofs.Demands.{verdict-right}
 use Rattle.rows.specs.Change.{Rows}
 use Rattle.look.specs.Numbers.{noNumber, plus}
-use Rattle.search.specs.Core.{Game, gameOf, Result, Lengths, Fresh}
+use Rattle.search.specs.Core.{Game, Result, Lengths, Fresh}
 use Rattle.search.proofs.Ended.{rewound-spent}
 use Rattle.search.proofs.Resumed.{begin-fits}
 use Rattle.session.specs.declared.Answer.{Answer}
@@ -25,9 +25,9 @@ use Rattle.session.specs.declared.Verdict.{Verdict}
 use Rattle.session.specs.declared.Settled.{Settled}
 use Rattle.session.specs.declared.Resumption.{Resumption}
 use Rattle.session.specs.declared.Resumption.the-variants.{At}
-use Rattle.table.specs.Trials.{tried}
-use Rattle.table.specs.Filing.{Filed}
-use Rattle.session.specs.Model.{Records, recordsOf, recordsIn, backAt, verdictOf, noVerdict, sessionOf, noGame, refusing, answerIs, Settles}
+use Rattle.table.specs.Trials.{Arrays, tried}
+use Rattle.table.specs.Filing.{Filed, Stored}
+use Rattle.session.specs.Model.{Records, recordsOf, gameIn, recordsIn, backAt, verdictOf, noVerdict, sessionOf, noGame, refusing, answerIs, Settles}
 use Rattle.session.specs.Promises.{shown, Tells, Holds, Loads}
 use Rattle.session.proofs.Held.{size-few, small}
 use Rattle.table.proofs.Trying.{tried-refused}
@@ -83,7 +83,7 @@ settles-fresh {g = g} {size = size} {start = start} {from = from} {walk = walk} 
 
 module _ (l : Load) (lent lent′ : List ℕ) (rows : Rows) (a : Records) (r : Settled) (blank-walk : List ℕ)
     (yes-it-is : loadTrial l (length lent) ≡ accepted) (filed : Filed (l .size) (pairs (l .numbers)) rows) (blank-size : length blank-walk ≡ 512)
-    (settles : Settles (gameOf (rows .targets) (rows .starts) (l .words)) (l .size) (l .start) (At (l .start)) noVerdict (freshFrom (l .start) blank-walk) lent r a lent′) where
+    (settles : Settles (gameIn (record { rows = rows; words = l .words })) (l .size) (l .start) (At (l .start)) noVerdict (freshFrom (l .start) blank-walk) lent r a lent′) where
   abbrev t : Table
   t = tableOf l
 
@@ -96,9 +96,12 @@ module _ (l : Load) (lent lent′ : List ℕ) (rows : Rows) (a : Records) (r : S
   ok : Valid t
   ok = valid t arises
 
-  filed-here : Filed (t .size) (t .edges) rows
+  abbrev b : Arrays
+  b = record { rows = rows; words = l .words }
+
+  stored : Stored t b
   unfolding tableOf
-  filed-here = filed
+  stored = record { filed = filed; words-are = refl }
 
   -- what the search has come to
   begun : (c : Result) × Reached t 0 c × (v ≡ verdictOf (c .walker) (c .spent)) × (a ≡ recordsIn c)
@@ -106,7 +109,7 @@ module _ (l : Load) (lent lent′ : List ℕ) (rows : Rows) (a : Records) (r : S
   begun =
       let q = settles .sought in
       let fresh = freshFrom (l .start) blank-walk in
-      let g = reached t ok (gameOf (rows .targets) (rows .starts) (l .words)) (matches t rows (l .words) filed-here refl) 0 (backAt (l .size) (l .start) (l .start) fresh) (q .0)
+      let g = reached t ok (gameIn b) (matches t b stored) 0 (backAt (l .size) (l .start) (l .start) fresh) (q .0)
       (rewound-spent (l .size) (l .start) (l .start) 0 (fresh .number) (fresh .parent) (fresh .index) (fresh .probes) (fresh .stamp) (fresh .walk))
       (begin-fits (l .size) (searched t) (small t ok) blank-walk blank-size) (q .1) in
       (q .0, g, q .2, q .3)
@@ -116,7 +119,7 @@ module _ (l : Load) (lent lent′ : List ℕ) (rows : Rows) (a : Records) (r : S
 
   -- what the records of a core are, the records are
   made-as : (c : Result) → Reached t 0 c → v ≡ verdictOf (c .walker) (c .spent) → a ≡ recordsIn c
-      → Holds (sessionOf (l .size) (l .start) (l .words) rows a v (plus (v .kept) (v .spent))) t × (answerLine plain ≡ shown (answerIs v) lent′ ∷ []) × (lent′ ≡ written plain lent)
+      → Holds (sessionOf (l .size) (l .start) b a v (plus (v .kept) (v .spent))) t × (answerLine plain ≡ shown (answerIs v) lent′ ∷ []) × (lent′ ≡ written plain lent)
   unfolding tableOf steps
   made-as c g e f =
       let none-kept : v .kept ≡ 0 = ap (λ (x : Verdict). x .kept) e ∙ g .kept-is in
@@ -130,8 +133,7 @@ module _ (l : Load) (lent lent′ : List ℕ) (rows : Rows) (a : Records) (r : S
           arises = arises;
           size-is = refl;
           start-is = refl;
-          words-are = refl;
-          filed = filed-here;
+          stored = stored;
           steps = g .steps;
           ended = g .ended;
           archived = rw f (g .archive);
@@ -143,10 +145,10 @@ module _ (l : Load) (lent lent′ : List ℕ) (rows : Rows) (a : Records) (r : S
         wrote-it,
       )
 
-  pub load-accepted : (total : ℕ) → total ≡ plus (v .kept) (v .spent) → Loads l lent (record { answer = r .answer; session = sessionOf (l .size) (l .start) (l .words) rows a v total }) lent′
+  pub load-accepted : (total : ℕ) → total ≡ plus (v .kept) (v .spent) → Loads l lent (record { answer = r .answer; session = sessionOf (l .size) (l .start) b a v total }) lent′
   load-accepted total e =
-      let b = begun in
-      let w = made-as (b .0) (b .1) (b .2) (b .3) in
+      let g = begun in
+      let w = made-as (g .0) (g .1) (g .2) (g .3) in
       rw (settles .answer-is, e) (record {
         answers = ap answerLine (answer-accepted l lent yes-it-is) ∙ w .1;
         writes = w .2 ∙ sym (ap (λ (x : PlainAnswer). written x lent) (answer-accepted l lent yes-it-is));

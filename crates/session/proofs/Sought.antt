@@ -12,14 +12,13 @@ use Rattle.plain.specs.Table.{Table, searched, final, accepts}
 use Rattle.plain.specs.Notes.{notes}
 use Rattle.plain.proofs.Tables.{Valid}
 use Rattle.plain.proofs.Demands.{ended-within, run-final, verdict-right}
-use Rattle.rows.specs.Change.{Rows}
 use Rattle.rows.proofs.Entries.{no-row}
 use Rattle.rows.proofs.Change.{starts-within}
 use Rattle.look.specs.Numbers.{noNumber, plus}
 use Rattle.look.proofs.Counting.{plus-more}
 use Rattle.look.proofs.Scans.{row-fits}
 use Rattle.search.specs.declared.Walker.{Walker}
-use Rattle.search.specs.Core.{Game, gameOf, Core, Result, result, runFor, Ran, Lengths}
+use Rattle.search.specs.Core.{Game, Core, Result, result, runFor, Ran, Lengths}
 use Rattle.search.specs.Archive.{Archived}
 use Rattle.search.proofs.Represents.{Matches, Stands}
 use Rattle.search.proofs.Ways.{run-sized, rewound-sized}
@@ -29,19 +28,24 @@ use Rattle.search.proofs.Ended.{run-kept}
 use Rattle.session.specs.declared.Verdict.{Verdict}
 use Rattle.session.specs.declared.Resumption.{Resumption}
 use Rattle.session.specs.declared.Resumption.the-variants.{Nowhere, At}
-use Rattle.session.specs.Model.{Records, recordsIn, isFound, verdictOf, bound, resumptionAt, backAt, Sought}
+use Rattle.session.specs.Model.{Records, gameIn, recordsIn, isFound, verdictOf, bound, resumptionAt, backAt, Sought}
 use Rattle.session.specs.Promises.{Tells, heightOf}
 use Rattle.session.proofs.Held.{small, budget-bound}
-use Rattle.table.specs.Filing.{Filed}
+use Rattle.table.specs.Trials.{Arrays}
+use Rattle.table.specs.Filing.{Stored}
 
 -- the rows and words are those of the table's graph
-pub matches : (t : Table) (rows : Rows) (words : List ℕ) → Filed (t .size) (t .edges) rows → words ≡ t .words → Matches (searched t) (gameOf (rows .targets) (rows .starts) words)
-matches t rows words r e = record {
-  rows = λ v. sym (row-fits (rows .targets) (rows .starts) v
-      (λ h. starts-within (t .size) (rows .targets) (rows .starts) (r .compressed) (suc v))
-      (λ h. no-row (rows .targets) (rows .starts) (t .size) (r .compressed) v (omega (arith, r .compressed .states))) ∙ r .rows-are v);
-  acceptance = λ v. ap (λ (w : List ℕ). accepts w v) (sym e);
-}
+pub matches : (t : Table) (b : Arrays) → Stored t b → Matches (searched t) (gameIn b)
+matches t b s =
+    let targets = b .rows .targets in
+    let starts = b .rows .starts in
+    let r = s .filed in
+    record {
+      rows = λ v. sym (row-fits targets starts v
+          (λ h. starts-within (t .size) targets starts (r .compressed) (suc v))
+          (λ h. no-row targets starts (t .size) (r .compressed) v (omega (arith, r .compressed .states))) ∙ r .rows-are v);
+      acceptance = λ v. ap (λ (w : List ℕ). accepts w v) (sym (s .words-are));
+    }
 
 -- ---- what a search that is over has come to
 

@@ -6,10 +6,9 @@ use mathlib.Core.List.{List, _++_}
 use lib.Dec.{eqb}
 use lib.ListN.{length, getD, take, drop, replicate}
 use Rattle.plain.specs.Refusals.{accepted, refused}
-use Rattle.rows.specs.Change.{Rows}
 use Rattle.table.specs.declared.Op.{Op}
-use Rattle.table.specs.Trials.{trialIn}
-use Rattle.table.specs.Filing.{sourceOf, filedIn}
+use Rattle.table.specs.Trials.{Arrays, arraysOf, trialIn}
+use Rattle.table.specs.Filing.{namedBy, filedIn}
 use Rattle.look.specs.Numbers.{noNumber}
 use Rattle.search.specs.declared.Phase.{Phase}
 use Rattle.search.specs.declared.Phase.the-variants.{Outer, Nested, Exhausted, Found}
@@ -36,13 +35,13 @@ abbrev pub recordsOf : List ℕ → List ℕ → List ℕ → List ℕ → List 
 recordsOf number parent index probes stamp walk = record { number = number; parent = parent; index = index; probes = probes; stamp = stamp; walk = walk }
 
 -- the session that is made of the table, the records of a search, and what it has come to
-abbrev pub sessionOf : ℕ → ℕ → List ℕ → Rows → Records → Verdict → ℕ → Session
-sessionOf size start words rows a v total = record {
+abbrev pub sessionOf : ℕ → ℕ → Arrays → Records → Verdict → ℕ → Session
+sessionOf size start b a v total = record {
   size = size;
   start = start;
-  words = words;
-  targets = rows .targets;
-  starts = rows .starts;
+  words = b .words;
+  targets = b .rows .targets;
+  starts = b .rows .starts;
   number = a .number;
   parent = a .parent;
   index = a .index;
@@ -54,6 +53,14 @@ sessionOf size start words rows a v total = record {
   height = v .height;
   total = total;
 }
+
+-- the arrays of the table that a session holds
+abbrev pub arraysHeld : Session → Arrays
+arraysHeld s = arraysOf (s .targets) (s .starts) (s .words)
+
+-- the game that is searched
+abbrev pub gameIn : Arrays → Game
+gameIn b = gameOf (b .rows .targets) (b .rows .starts) (b .words)
 
 -- the session that has no game: all is 0
 abbrev pub noGame : Session
@@ -130,9 +137,9 @@ pub record Settles (g : Game) (size start : ℕ) (from : Resumption) (old : Verd
   pub answer-is : r .answer ≡ answerIs (r .verdict)
   pub wrote : r .verdict .stem ≤ r .verdict .length → r .verdict .length ≤ 512 → r .verdict .length ≤ length lent → lent′ ≡ shownWalk (r .verdict .length) (a′ .walk) lent
 
--- What a change leaves: a refusal, and all is as it was; or the rows changed, and what searching and answering leaves.
-pub record ChangedIn (op : Op) (words : List ℕ) (size start : ℕ) (old : Verdict) (rows : Rows) (a : Records) (lent : List ℕ) (r : Settled) (rows′ : Rows) (a′ : Records) (lent′ : List ℕ) : Type 0 where
-  pub on-refusal : (n : ℕ) → trialIn op size (rows .targets) (rows .starts) (length lent) ≡ refused n
-      → (r ≡ record { answer = refusing n; verdict = old }) × (rows′ ≡ rows) × (a′ ≡ a) × (lent′ ≡ lent)
-  pub on-acceptance : trialIn op size (rows .targets) (rows .starts) (length lent) ≡ accepted
-      → (rows′ ≡ filedIn op size rows) × Settles (gameOf (rows′ .targets) (rows′ .starts) words) size start (resumptionAt (a .number) (sourceOf op)) old a lent r a′ lent′
+-- What a change leaves: a refusal, and all is as it was; or the table's arrays changed, and what searching and answering leaves.
+pub record ChangedIn (op : Op) (size start : ℕ) (old : Verdict) (b : Arrays) (a : Records) (lent : List ℕ) (r : Settled) (b′ : Arrays) (a′ : Records) (lent′ : List ℕ) : Type 0 where
+  pub on-refusal : (n : ℕ) → trialIn op size b (length lent) ≡ refused n
+      → (r ≡ record { answer = refusing n; verdict = old }) × (b′ ≡ b) × (a′ ≡ a) × (lent′ ≡ lent)
+  pub on-acceptance : trialIn op size b (length lent) ≡ accepted
+      → (b′ ≡ filedIn op size b) × Settles (gameIn b′) size start (resumptionAt (a .number) (namedBy op)) old a lent r a′ lent′

@@ -9,7 +9,6 @@ use Rattle.plain.specs.Table.{Table, searched, final}
 use Rattle.plain.specs.Refusals.{Load, accepted, refused, loadTrial}
 use Rattle.plain.specs.Machine.{numbered, loadAnswer, tableOf, Call, answerTo, tableAfter, answers, written, Line, roundLine, noneLine, noLine, answerLine, answerLines}
 use Rattle.plain.specs.Claims.{Arises, LineTrue, LineCounted, LoopTold}
-use Rattle.rows.specs.Change.{rowsOf}
 use Rattle.search.specs.Archive.{Begins, Archived}
 use Rattle.session.specs.declared.Answer.{Answer}
 use Rattle.session.specs.declared.Answer.the-variants.{Refused, Clear, Round}
@@ -17,8 +16,8 @@ use Rattle.table.specs.declared.Refusal.{Refusal}
 use Rattle.table.specs.declared.Op.{Op}
 use Rattle.session.specs.declared.Session.{Session}
 use Rattle.session.specs.declared.Outcome.{Outcome}
-use Rattle.table.specs.Filing.{changeOf, Filed}
-use Rattle.session.specs.Model.{noGame}
+use Rattle.table.specs.Filing.{changeOf, Stored}
+use Rattle.session.specs.Model.{arraysHeld, noGame}
 
 -- The document's number and values for each case of the answer: `no` and the refusal's number; `none`, spent, kept; `round`, spent, kept, the lengths of
 -- stem and round, and the walk, which stands at the head of the lent list as the call leaves it.
@@ -50,13 +49,12 @@ heightOf (nested s p q d k l) = suc (length p)
 heightOf (exhausted d k l) = 0
 heightOf (found h p q d k l) = length p
 
--- The session holds the plain table t: its rows are the table's, and its records are those of the plain search on it, at its end.
+-- The session holds the plain table t: its rows and its words are the table's, and its records are those of the plain search on it, at its end.
 pub record Holds (s : Session) (t : Table) : Type 0 where
   pub arises : Arises t
   pub size-is : s .size ≡ t .size
   pub start-is : s .start ≡ t .start
-  pub words-are : s .words ≡ t .words
-  pub filed : Filed (t .size) (t .edges) (rowsOf (s .targets) (s .starts))
+  pub stored : Stored t (arraysHeld s)
   pub steps : ℕ
   pub ended : verdict (run (searched t) steps) ≢ unfinished
   pub archived : Archived (searched t) steps (s .number) (s .parent) (s .index) (s .probes) (s .stamp) (s .walk)

@@ -7,10 +7,10 @@ ghost use mathlib.Core.Path.{_≡_};
 ghost use mathlib.Core.List.{_++_};
 ghost use Prim.Native.Nat.{_+_, _≤_};
 ghost use lib.ListN.{length, take, drop};
-ghost use Rattle.rows.specs.Change.{rowsOf};
 ghost use Rattle.rows.specs.Rows.{Tabled};
 ghost use Rattle.look.specs.Numbers.{plus};
 ghost use Rattle.search.specs.Core.{gameOf, Lengths};
+ghost use Rattle.table.specs.Trials.{arraysOf};
 ghost use Rattle.session.specs.Model.{resumptionAt, isFound, verdictOf, noVerdict, recordsOf, Sought, answerIs, refusing, noGame, shownWalk, Settles, ChangedIn};
 ghost use Rattle.session.specs.Promises.{Loads, Changes};
 
@@ -395,12 +395,12 @@ pub fn load(size: u16, start: u16, words: [u64; 8], numbers: &[u16], lent: &mut 
     }
 }
 
-// A change on the arrays of a session: tried and made in the rows, then searched and answered.
+// A change on the arrays of a session: tried and made in the table's, then searched and answered.
 fn change_in(
     op: Op,
     targets: &mut [u16; 2048],
     starts: &mut [u16; 513],
-    words: &[u64; 8],
+    words: &mut [u64; 8],
     number: &mut [u16; 512],
     parent: &mut [u16; 512],
     index: &mut [u16; 512],
@@ -413,9 +413,9 @@ fn change_in(
     lent: &mut [u16],
 ) -> Settled
     requires { ⌜ Tabled (now targets) (now starts) × Lengths (now number) (now parent) (now index) (now probes) (now stamp) (now walk) ⌝ }
-    ensures { λ r. ⌜ ChangedIn op (now (words .entry)) size start old (rowsOf (now (targets .entry)) (now (starts .entry))) (recordsOf (now (number .entry)) (now (parent .entry)) (now (index .entry)) (now (probes .entry)) (now (stamp .entry)) (now (walk .entry))) (now (lent .entry)) r (rowsOf (now (targets .exit)) (now (starts .exit))) (recordsOf (now (number .exit)) (now (parent .exit)) (now (index .exit)) (now (probes .exit)) (now (stamp .exit)) (now (walk .exit))) (now (lent .exit)) ⌝ }
+    ensures { λ r. ⌜ ChangedIn op size start old (arraysOf (now (targets .entry)) (now (starts .entry)) (now (words .entry))) (recordsOf (now (number .entry)) (now (parent .entry)) (now (index .entry)) (now (probes .entry)) (now (stamp .entry)) (now (walk .entry))) (now (lent .entry)) r (arraysOf (now (targets .exit)) (now (starts .exit)) (now (words .exit))) (recordsOf (now (number .exit)) (now (parent .exit)) (now (index .exit)) (now (probes .exit)) (now (stamp .exit)) (now (walk .exit))) (now (lent .exit)) ⌝ }
 {
-    let trial = table::attempt(op, size, targets, starts, lent.len());
+    let trial = table::attempt(op, size, targets, starts, words, lent.len());
     if let Trial::Refused(n) = trial {
         return Settled {
             answer: refused(n),
@@ -441,11 +441,12 @@ fn change_in(
     )
 }
 
-// A change of the game. The list lent for the walk comes last. It has one exit, so that the session is copied out and in once.
+// A change of the game: a move added or cut, a state marked or unmarked. The list lent for the walk comes last. It has one exit, so that the session is
+// copied out and in once.
 pub fn change(s: Session, op: Op, lent: &mut [u16]) -> Outcome
     ensures { λ r. ⌜ Changes op s (now (lent .entry)) r (now (lent .exit)) ⌝ }
 {
-    let words = s.words;
+    let mut words = s.words;
     let mut targets = s.targets;
     let mut starts = s.starts;
     let mut number = s.number;
@@ -465,7 +466,7 @@ pub fn change(s: Session, op: Op, lent: &mut [u16]) -> Outcome
         op,
         &mut targets,
         &mut starts,
-        &words,
+        &mut words,
         &mut number,
         &mut parent,
         &mut index,
@@ -499,18 +500,4 @@ pub fn change(s: Session, op: Op, lent: &mut [u16]) -> Outcome
             total: total_of(v),
         },
     }
-}
-
-// Adds a move.
-pub fn add(s: Session, from: u16, to: u16, lent: &mut [u16]) -> Outcome
-    ensures { λ r. ⌜ Changes (Op.Add from to) s (now (lent .entry)) r (now (lent .exit)) ⌝ }
-{
-    change(s, Op::Add { from, to }, lent)
-}
-
-// Cuts a move.
-pub fn cut(s: Session, from: u16, to: u16, lent: &mut [u16]) -> Outcome
-    ensures { λ r. ⌜ Changes (Op.Cut from to) s (now (lent .entry)) r (now (lent .exit)) ⌝ }
-{
-    change(s, Op::Cut { from, to }, lent)
 }

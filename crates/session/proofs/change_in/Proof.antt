@@ -1,4 +1,4 @@
--- `change_in` meets its contract: a refusal, or the rows changed and the search settled. Assumes nothing.
+-- `change_in` meets its contract: a refusal, or the table's arrays changed and the search settled. Assumes nothing.
 use mathlib.Core.Path.{sym, ap, _∙_}
 use denote.Ref.{now}
 use Rattle.session.specs.Model.{resumptionAt}
@@ -21,7 +21,7 @@ returns : tie.Need-returns
 returns c =
     let k = c .before .before in
     let e = k .before .before in
-    changed-refused _ _ _ _ _ _ _ _ (k .trial .given .0 .0) _ _ (sym (k .trial .given .1) ∙ e .attempt .ensures .trial-is) (c .refused .ensures) (e .attempt .ensures .unfiled _ (k .trial .given .1))
+    changed-refused _ _ _ _ _ _ _ (k .trial .given .0 .0) _ _ (sym (k .trial .given .1) ∙ e .attempt .ensures .trial-is) (c .refused .ensures) (e .attempt .ensures .unfiled _ (k .trial .given .1))
 
 enum-told : tie.Need-enum-told
 enum-told c = search needs
@@ -33,14 +33,14 @@ where-to-resume-requires : tie.Need-where-to-resume-requires
 where-to-resume-requires c κs = search needs
 
 -- the places before settling
-abbrev resumed : tie.After-settle-arg9 → tie.After-where-to-resume
-resumed c = c .before .before .before .before .before .before .before .before .before
+abbrev resumed : tie.After-settle-arg10 → tie.After-where-to-resume
+resumed c = c .before .before .before .before .before .before .before .before .before .before
 
-abbrev tried-at : tie.After-settle-arg9 → tie.After-enum-told
+abbrev tried-at : tie.After-settle-arg10 → tie.After-enum-told
 tried-at c = resumed c .before .before .before
 
-abbrev begun : tie.After-settle-arg9 → tie.Start
-begun c = tried-at c .before .before .before .before .before .before
+abbrev begun : tie.After-settle-arg10 → tie.Start
+begun c = tried-at c .before .before .before .before .before .before .before
 
 settle-requires : tie.Need-settle-requires
 settle-requires c κs = (filed-tabled (begun c .args .op) (begun c .args .size) _ _ (tried-at c .before .before .attempt .ensures .filed (tried-at c .enum-told .given .1)) (begun c .pre .0), begun c .pre .1)
@@ -54,7 +54,7 @@ returns-2 c =
     let g = w .before in
     let e = tried-at g in
     let r = resumed g in
-    changed-accepted _ _ _ _ _ _ _ _ (r .where-to-resume .result) _ _ _ _ (sym (e .enum-told .given .1) ∙ e .before .before .attempt .ensures .trial-is)
+    changed-accepted _ _ _ _ _ _ _ (r .where-to-resume .result) _ _ _ _ (sym (e .enum-told .given .1) ∙ e .before .before .attempt .ensures .trial-is)
     (e .before .before .attempt .ensures .filed (e .enum-told .given .1)) (r .where-to-resume .ensures ∙ ap (resumptionAt (now (begun g .args .number))) (r .before .named-by .ensures)) (w .settle .ensures)
 
 pub change-in-spec : {M : Type 1} → statement M
