@@ -1,20 +1,19 @@
 -- What a line asks for, one law for each way through the code. Assumes nothing.
 use Prim.Native.Nat.{_+_}
 use mathlib.Core.Path.{_≡_, sym, ap₂}
-use mathlib.Core.Bool.{true, false, _&&_}
+use mathlib.Core.Bool.{Bool, true, false, _&&_, cond}
 use borrow.Author.Tests.{eq-eqb, ne-eqb}
 use lib.Dec.{eqb}
 use lib.ListN.{replicate}
 use Rattle.plain.specs.Table.{withMark}
 use Rattle.line.specs.Words.{isWord}
 use Rattle.line.specs.declared.Word.the-variants.{Game, Pay, Move, Go}
-use Rattle.line.specs.declared.Word.the-variants as Word
 use Rattle.line.specs.declared.Record.{Record}
-use Rattle.table.specs.declared.Op.the-variants.{Add, Cut}
 use Rattle.lead.specs.declared.Stage.{Stage}
-use Rattle.lead.specs.declared.Stage.the-variants.{Gathering, Playing, Over}
+use Rattle.lead.specs.declared.Stage.the-variants.{Gathering, Over}
 use Rattle.lead.specs.declared.Lead.{Lead}
-use Rattle.lead.specs.Asked.{noTask, refusing, loading, changing, isFull, askedFirst, askedMove, askedBefore, askedAfter, askedAt, asked, gathersMove, takesMove}
+use Rattle.lead.specs.declared.Request.{Request}
+use Rattle.lead.specs.Asked.{noTask, refusing, loading, isFull, askedFirst, askedMove, askedBefore, askedAt, asked, gathersMove, takesMove}
 
 -- ---- a `move`
 
@@ -76,17 +75,14 @@ module _ (l : Lead) (r : Record) where
   unfolding Unpaid askedBefore
   before-other d e f = rw (d, e, f)
 
-  pub after-add : isWord (r .word) Word.Add ≡ true → changing (Add (r .first) (r .second)) l ≡ askedAfter l r
-  unfolding askedAfter
-  after-add e = rw e
+-- ---- after `go`
 
-  pub after-cut : isWord (r .word) Word.Add ≡ false → isWord (r .word) Word.Cut ≡ true → changing (Cut (r .first) (r .second)) l ≡ askedAfter l r
-  unfolding askedAfter
-  after-cut d e = rw (d, e)
+-- a line in the order of the words: this one, or one behind it
+pub request-is : (b : Bool) (x y : Request) → b ≡ true → x ≡ cond b x y
+request-is b x y e = rw e
 
-  pub after-other : isWord (r .word) Word.Add ≡ false → isWord (r .word) Word.Cut ≡ false → refusing Playing l 1 ≡ askedAfter l r
-  unfolding askedAfter
-  after-other d e = rw (d, e)
+pub request-behind : (b : Bool) (x y z : Request) → b ≡ false → z ≡ y → z ≡ cond b x y
+request-behind b x y z e h = rw e h
 
 -- ---- by the stage
 

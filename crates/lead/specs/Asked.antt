@@ -12,11 +12,13 @@ use Rattle.line.specs.declared.Word.the-variants as Word
 use Rattle.line.specs.declared.Record.{Record}
 use Rattle.answer.specs.Bytes.{overwritten}
 use Rattle.table.specs.declared.Op.{Op}
-use Rattle.table.specs.declared.Op.the-variants.{Add, Cut}
+use Rattle.table.specs.declared.Op.the-variants.{Add, Cut, Mark, Unmark}
 use Rattle.lead.specs.declared.Stage.{Stage}
 use Rattle.lead.specs.declared.Stage.the-variants.{Waiting, Gathering, Playing, Over}
 use Rattle.lead.specs.declared.Lead.{Lead}
 use Rattle.lead.specs.declared.Ask.the-variants.{Load as AskLoad, Change}
+use Rattle.lead.specs.declared.Request.{Request}
+use Rattle.lead.specs.declared.Request.the-variants as R
 use Rattle.lead.specs.declared.Task.the-variants.{Nothing, Refuse, Ask as Asks}
 use Rattle.lead.specs.declared.Plan.{Plan}
 
@@ -74,12 +76,21 @@ askedBefore l r =
     (cond (isWord (r .word) Go) (loading l)
     (refusing Over l 1)))
 
--- ".. then `add` and `cut`"
+-- ".. then `add` and `cut`"; ticket 2: "Lines `mark` and `unmark` name a state"
+unfoldable pub requestOf : Record → Request
+requestOf r =
+    cond (isWord (r .word) Word.Add) (R.Change (Add (r .first) (r .second)))
+    (cond (isWord (r .word) Word.Cut) (R.Change (Cut (r .first) (r .second)))
+    (cond (isWord (r .word) Word.Mark) (R.Change (Mark (r .first)))
+    (cond (isWord (r .word) Word.Unmark) (R.Change (Unmark (r .first)))
+    R.Unknown)))
+
+abbrev pub planFor : Request → Lead → Plan
+planFor (R.Change op) l = changing op l
+planFor R.Unknown l = refusing Playing l 1
+
 unfoldable pub askedAfter : Lead → Record → Plan
-askedAfter l r =
-    cond (isWord (r .word) Word.Add) (changing (Add (r .first) (r .second)) l)
-    (cond (isWord (r .word) Word.Cut) (changing (Cut (r .first) (r .second)) l)
-    (refusing Playing l 1))
+askedAfter l r = planFor (requestOf r) l
 
 abbrev pub askedAt : Stage → Lead → Record → Plan
 askedAt Waiting l r = askedFirst l r

@@ -7,7 +7,7 @@ use table::Op;
 use table::Refusal;
 ghost use mathlib.Core.Path.{_≡_};
 ghost use Rattle.line.specs.Records.{recordOf};
-ghost use Rattle.lead.specs.Asked.{firstLead, staged as Asked·staged, noTask, refusing as Asked·refusing, changing as Asked·changing, isFull, askedFirst, askedMove, askedBefore, askedAfter, asked, takesMove, filedMove, isOver};
+ghost use Rattle.lead.specs.Asked.{firstLead, staged as Asked·staged, noTask, refusing as Asked·refusing, changing as Asked·changing, isFull, askedFirst, askedMove, askedBefore, requestOf, askedAfter, asked, takesMove, filedMove, isOver};
 
 // How far the lead has come: no line yet, before `go`, after it, or past a refusal that ends the run.
 pub enum Stage {
@@ -24,6 +24,12 @@ pub struct Lead {
     pub start: u16,
     pub words: [u64; 8],
     pub count: u16,
+}
+
+// What a line after `go` requests: a change, or nothing that is known there.
+enum Request {
+    Change(Op),
+    Unknown,
 }
 
 // What a line asks of the session.
@@ -173,20 +179,37 @@ fn changing(lead: Lead, op: Op) -> Plan
     }
 }
 
-// After `go`: `add` and `cut`.
-fn ask_after(lead: Lead, r: Record) -> Plan
-    ensures { λ p. ⌜ p ≡ askedAfter lead r ⌝ }
+// After `go`: `add` and `cut`, `mark` and `unmark`.
+fn request_of(r: Record) -> Request
+    ensures { λ q. ⌜ q ≡ requestOf r ⌝ }
 {
     let word = r.word;
     let from = r.first;
     let to = r.second;
     if is_word(word, Word::Add) {
-        return changing(lead, Op::Add { from, to });
+        return Request::Change(Op::Add { from, to });
     }
     if is_word(word, Word::Cut) {
-        return changing(lead, Op::Cut { from, to });
+        return Request::Change(Op::Cut { from, to });
     }
-    refusing(Stage::Playing, lead, 1)
+    if is_word(word, Word::Mark) {
+        return Request::Change(Op::Mark { state: from });
+    }
+    if is_word(word, Word::Unmark) {
+        return Request::Change(Op::Unmark { state: from });
+    }
+    Request::Unknown
+}
+
+// A line after `go`.
+fn ask_after(lead: Lead, r: Record) -> Plan
+    ensures { λ p. ⌜ p ≡ askedAfter lead r ⌝ }
+{
+    let request = request_of(r);
+    match request {
+        Request::Change(op) => changing(lead, op),
+        Request::Unknown => refusing(Stage::Playing, lead, 1),
+    }
 }
 
 // Is the line a `move` that is taken?

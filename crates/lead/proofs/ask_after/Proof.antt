@@ -1,47 +1,48 @@
--- `lead::ask_after`: a law for each way out.
-use mathlib.Core.Path.{sym, _∙_}
-use Rattle.lead.proofs.Asking.{after-add, after-cut, after-other}
+-- `lead::ask_after`: by what is requested.
+use mathlib.Core.Path.{sym, ap, _∙_}
 use borrow.Author.Needs.{needs}
+use Rattle.lead.specs.declared.Request.{Request}
+use Rattle.lead.specs.Asked.{planFor, askedAfter}
 use Rattle.lead.proofs.ask_after.Statement.{statement}
 use Rattle.lead.proofs.ask_after.Tie as tie
 
-is-word-requires : tie.Need-is-word-requires
-is-word-requires c κs = search needs
+request-of-requires : tie.Need-request-of-requires
+request-of-requires c κs = search needs
+
+enum-known-request : tie.Need-enum-known-request
+enum-known-request c = search needs
 
 changing-requires : tie.Need-changing-requires
 changing-requires c κs = search needs
 
-returns : tie.Need-returns
-returns c = c .changing .ensures ∙ after-add _ _ (sym (c .before .before .is-word .ensures) ∙ c .before .if1 .taken)
-
-is-word-requires-2 : tie.Need-is-word-requires-2
-is-word-requires-2 c κs = search needs
-
-changing-requires-2 : tie.Need-changing-requires-2
-changing-requires-2 c κs = search needs
-
-returns-2 : tie.Need-returns-2
-returns-2 c =
-    let e = c .before .before .before in
-    c .changing2 .ensures ∙ after-cut _ _ (sym (e .before .is-word .ensures) ∙ e .if1 .left) (sym (c .before .before .is-word2 .ensures) ∙ c .before .if2 .taken)
+enum-told : tie.Need-enum-told
+enum-told c = search needs
 
 refusing-requires : tie.Need-refusing-requires
 refusing-requires c κs = search needs
 
-returns-3 : tie.Need-returns-3
-returns-3 c =
-    let e = c .before .before .before in
-    c .refusing .ensures ∙ after-other _ _ (sym (e .before .is-word .ensures) ∙ e .if1 .left) (sym (c .before .before .is-word2 .ensures) ∙ c .before .if2 .left)
+returns : tie.Need-returns
+unfolding askedAfter
+returns c =
+    let q = c .before .before in
+    let b = q .before .before in
+    c .changing .ensures ∙ ap (λ (x : Request). planFor x (b .before .args .lead)) (sym (q .request .given .1) ∙ b .request-of .ensures)
+
+returns-2 : tie.Need-returns-2
+unfolding askedAfter
+returns-2 c =
+    let q = c .before in
+    let b = q .before .before in
+    c .refusing .ensures ∙ ap (λ (x : Request). planFor x (b .before .args .lead)) (sym (q .enum-told .given .1) ∙ b .request-of .ensures)
 
 pub ask-after-spec : {M : Type 1} → statement M
 ask-after-spec =
     tie.close
     (tie.spec
-    is-word-requires
+    request-of-requires
+    enum-known-request
     changing-requires
-    returns
-    is-word-requires-2
-    changing-requires-2
-    returns-2
+    enum-told
     refusing-requires
-    returns-3)
+    returns
+    returns-2)
