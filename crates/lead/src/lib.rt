@@ -27,7 +27,7 @@ pub struct Lead {
 }
 
 // What a line after `go` requests: a change, or nothing that is known there.
-enum Request {
+pub enum Request {
     Change(Op),
     Unknown,
 }

@@ -1,6 +1,6 @@
 -- One line: what the functions of a line do, taken together, is the plain definition's step. Assumes nothing.
 use Prim.Native.Nat.{ℕ, _+_, _*_, _/_, _<_}
-use mathlib.Core.Path.{_≡_, refl, sym, ap, subst⁻¹, _∙_}
+use mathlib.Core.Path.{_≡_, refl, sym, ap, subst, subst⁻¹, _∙_}
 use mathlib.Core.Bool.{Bool, true, false, _&&_, cond}
 use mathlib.Core.List.{List, [], _∷_, _++_}
 use native.Mathlib.Omega.{arith}
@@ -18,7 +18,6 @@ use Rattle.line.specs.declared.Word.the-variants.{Game, Pay, Move, Go}
 use Rattle.line.specs.declared.Word.the-variants as Word
 use Rattle.line.specs.declared.Record.{Record}
 use Rattle.table.specs.declared.Op.{Op}
-use Rattle.table.specs.declared.Op.the-variants.{Add, Cut}
 use Rattle.session.specs.declared.Answer.{Answer}
 use Rattle.session.specs.declared.Answer.the-variants.{Refused, Clear, Round}
 use Rattle.session.specs.declared.Session.{Session}
@@ -32,10 +31,12 @@ use Rattle.lead.specs.declared.Ask.the-variants.{Load as AskLoad}
 use Rattle.lead.specs.declared.Task.{Task}
 use Rattle.lead.specs.declared.Task.the-variants.{Nothing, Refuse, Ask as Asks}
 use Rattle.lead.specs.declared.Plan.{Plan}
-use Rattle.lead.specs.Asked.{numbersMost, staged, noTask, refusing, loading, changing, isFull, askedFirst, askedMove, askedBefore, askedAfter, askedAt, asked, takesMove, filedMove}
+use Rattle.lead.specs.declared.Request.{Request as LeadRequest}
+use Rattle.lead.specs.declared.Request.the-variants as R
+use Rattle.lead.specs.Asked.{numbersMost, staged, noTask, refusing, loading, changing, isFull, askedFirst, askedMove, askedBefore, requestOf as leadRequest, planFor, askedAfter, askedAt, asked, takesMove, filedMove}
 use Rattle.lead.proofs.Asking.{taken-at}
 use Rattle.lead.proofs.Filing.{moves-kept, move-put}
-use Rattle.watch.specs.Text.{Draft, Play, Held, waiting, gathering, playing, ended, Step, quiet, noStep, empty, room, flat, loadStep, loadOf, draftOf, withPay, withMove, changeStep, atFirst, beforeGo, afterGo, step}
+use Rattle.watch.specs.Text.{Draft, Play, Held, waiting, gathering, playing, ended, Step, quiet, noStep, empty, room, flat, loadStep, loadOf, draftOf, withPay, withMove, changeStep, Request, changing as changes, unknown, requestOf, playStep, atFirst, beforeGo, afterGo, step}
 use Rattle.watch.specs.Model.{gathered, Serves, isRefused, linesFor, leadFor}
 
 -- the lead and the list of numbers stand for what is gathered
@@ -109,6 +110,25 @@ unfolding flat
 flat-append [] e = refl
 flat-append (m ∷ ms) e = ap (λ (ns : List ℕ). m .0 ∷ m .1 ∷ ns) (flat-append ms e)
 
+-- ---- what a line after `go` requests
+
+-- in the plain table's terms
+abbrev requested : LeadRequest → Request
+requested (R.Change op) = changes (changeOf op)
+requested R.Unknown = unknown
+
+requested-cond : (b : Bool) (x y : LeadRequest) (z : Request) → requested y ≡ z → requested (cond b x y) ≡ cond b (requested x) z
+requested-cond true x y z h = refl
+requested-cond false x y z h = h
+
+same-request : (r : Record) → requested (leadRequest r) ≡ requestOf r
+unfolding leadRequest requestOf
+same-request r =
+    requested-cond (isWord (r .word) Word.Add) _ _ _
+    (requested-cond (isWord (r .word) Word.Cut) _ _ _
+    (requested-cond (isWord (r .word) Word.Mark) _ _ _
+    (requested-cond (isWord (r .word) Word.Unmark) _ _ _ refl)))
+
 -- ---- one line
 
 -- what comes of a plan is the step: what is held then, and the lines
@@ -168,10 +188,13 @@ module _ (ns walk : List ℕ) (s : Session) (c : Outcome) (walk′ : List ℕ) w
       (λ b. comes-quiet l _ (gathering (draftOf r)) (record { stage = refl; size = refl; start = refl; words = refl; count = refl; moves = refl }))
       (λ b. comes-refusing l Over l 1 ended refl)
 
+  comes-requested : (q : LeadRequest) (l : Lead) (p : Play) → Tracks l ns s (playing p) → length walk ≡ room → Comes l (planFor q l) (playStep (requested q) p)
+  comes-requested (R.Change op) l p h e = comes-change op l p (h .0) (h .1) e
+  comes-requested R.Unknown l p h e = comes-refusing l Playing l 1 (playing p) (refl, h .1)
+
   line-after-go : (l : Lead) (r : Record) (p : Play) → Tracks l ns s (playing p) → length walk ≡ room → Comes l (askedAfter l r) (afterGo p r)
   unfolding askedAfter afterGo
-  line-after-go l r p h e = comes-cond l (isWord (r .word) Word.Add) _ _ _ _ (λ b. comes-change (Add (r .first) (r .second)) l p (h .0) (h .1) e)
-      (λ b. comes-cond l (isWord (r .word) Word.Cut) _ _ _ _ (λ d. comes-change (Cut (r .first) (r .second)) l p (h .0) (h .1) e) (λ d. comes-refusing l Playing l 1 (playing p) (refl, h .1)))
+  line-after-go l r p h e = subst (λ (q : Request). Comes l (planFor (leadRequest r) l) (playStep q p)) (same-request r) (comes-requested (leadRequest r) l p h e)
 
   -- before `go`: ns₀ is the list as the line finds it
   module _ (ns₀ : List ℕ) (l : Lead) (r : Record) (d : Draft) (g : Gathers l ns₀ d) (f : ns ≡ filedMove l r ns₀) (n : length ns₀ ≡ numbersMost) where

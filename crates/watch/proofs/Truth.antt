@@ -16,9 +16,9 @@ use Rattle.plain.proofs.Loops.{loop-told}
 use Rattle.line.specs.Fields.{linesOf}
 use Rattle.line.specs.Records.{recordOf}
 use Rattle.line.specs.Words.{isWord}
-use Rattle.line.specs.declared.Word.the-variants.{Game, Pay, Move, Go, Add, Cut}
+use Rattle.line.specs.declared.Word.the-variants.{Game, Pay, Move, Go}
 use Rattle.line.specs.declared.Record.{Record}
-use Rattle.watch.specs.Text.{Draft, Play, playOf, Held, waiting, gathering, playing, ended, Step, stop, empty, room, loadStep, loadOf, changeStep, atFirst, beforeGo, afterGo, step, counted}
+use Rattle.watch.specs.Text.{Draft, Play, playOf, Held, waiting, gathering, playing, ended, Step, stop, empty, room, loadStep, loadOf, changeStep, Request, changing, unknown, requestOf, playStep, atFirst, beforeGo, afterGo, step, counted}
 use Rattle.watch.specs.Truth.{Verdictless, Says, SaysLoop, All, EachLine, True}
 
 -- the table that is held is one that a session can hold
@@ -68,6 +68,10 @@ change-right c p a =
     let call : Call = record { change = c; room = room } in
     (lines-true (tableAfter call (p .table)) (answerTo call (p .table)) (λ l f. call-told call (p .table) l a f .truth), arises-after call (p .table) (trialOf call (p .table)) refl a)
 
+play-right : (q : Request) (p : Play) → Arises (p .table) → Right (playStep q p)
+play-right (changing c) p a = change-right c p a
+play-right unknown p a = ((early 1 (omega arith), tt), a)
+
 -- ---- one line
 
 right : (p : Held) (r : Record) → Sound p → Right (step p r)
@@ -77,7 +81,7 @@ right (gathering d) r s =
     cond-right (isWord (r .word) Pay && empty (d .moves)) _ _ (tt, tt)
     (cond-right (isWord (r .word) Move) _ _ (cond-right (full (d .moves)) _ _ (stop-right 5 (early 5 (omega arith))) (tt, tt))
     (cond-right (isWord (r .word) Go) _ _ (load-right (loadTrial (loadOf d) room) d refl) (stop-right 1 (early 1 (omega arith)))))
-right (playing p) r s = cond-right (isWord (r .word) Add) _ _ (change-right _ p s) (cond-right (isWord (r .word) Cut) _ _ (change-right _ p s) ((early 1 (omega arith), tt), s))
+right (playing p) r s = play-right (requestOf r) p s
 right ended r s = (tt, tt)
 
 all-true : (p : Held) (rs : List Record) → Sound p → True p rs

@@ -9,11 +9,11 @@ use Rattle.plain.specs.Lists.{any}
 use Rattle.plain.specs.Search.{Edge}
 use Rattle.plain.specs.Table.{Table, withMark, acceptingCount}
 use Rattle.plain.specs.Refusals.{Trial, accepted, refused, Load, loadTrial, full}
-use Rattle.plain.specs.Machine.{Change, add, cut, numbered, tableOf, loadAnswer, answerTo, tableAfter, Line, gameLine, noLine, answerLine}
+use Rattle.plain.specs.Machine.{Change, add, cut, mark, unmark, numbered, tableOf, loadAnswer, answerTo, tableAfter, Line, gameLine, noLine, answerLine}
 use Rattle.line.specs.Fields.{newline, linesOf}
 use Rattle.line.specs.Words.{isWord}
 use Rattle.line.specs.Records.{recordOf}
-use Rattle.line.specs.declared.Word.the-variants.{Game, Pay, Move, Go, Add, Cut}
+use Rattle.line.specs.declared.Word.the-variants.{Game, Pay, Move, Go, Add, Cut, Mark, Unmark}
 use Rattle.line.specs.declared.Record.{Record}
 use Rattle.answer.specs.Bytes.{overwritten}
 use Rattle.answer.specs.Rendering.{render}
@@ -114,12 +114,27 @@ changeStep c p = record {
   next = playing (playOf (tableAfter (record { change = c; room = room }) (p .table)));
 }
 
--- ".. then `add` and `cut`"; "after `go` the next line is read"
+-- What a line after `go` requests: a change, or nothing that is known there. Tickets of document 02 add to it.
+pub data Request : Type 0 where
+  changing : Change → Request
+  unknown : Request
+
+-- ".. then `add` and `cut`", "(from, to)"; document 02, ticket 2: "Lines `mark` and `unmark` name a state"
+unfoldable pub requestOf : Record → Request
+requestOf r =
+    cond (isWord (r .word) Add) (changing (add (r .first, r .second)))
+    (cond (isWord (r .word) Cut) (changing (cut (r .first, r .second)))
+    (cond (isWord (r .word) Mark) (changing (mark (r .first)))
+    (cond (isWord (r .word) Unmark) (changing (unmark (r .first)))
+    unknown)))
+
+-- "after `go` the next line is read"
+abbrev pub playStep : Request → Play → Step
+playStep (changing c) p = changeStep c p
+playStep unknown p = noStep 1 (playing p)
+
 unfoldable pub afterGo : Play → Record → Step
-afterGo p r =
-    cond (isWord (r .word) Add) (changeStep (add (r .first, r .second)) p)
-    (cond (isWord (r .word) Cut) (changeStep (cut (r .first, r .second)) p)
-    (noStep 1 (playing p)))
+afterGo p r = playStep (requestOf r) p
 
 unfoldable pub step : Held → Record → Step
 step waiting r = atFirst r

@@ -56,4 +56,40 @@ games =
     ∷ [])
     -- a move to itself on the paying state, beside a longer round that is found first
     ∷ dialogue "game\t2\t0\npay\t1\nmove\t0\t1\nmove\t1\t0\nmove\t1\t1\ngo\n" ("game\t2\t3\t1\n" ∷ "round\t4\t0\t0\t2\t0\t1\n" ∷ [])
+    -- Ticket 2: game A with its round; the paying state is unmarked, and marked again; then the start state
+    ∷ dialogue "game\t4\t0\npay\t2\nmove\t0\t1\nmove\t1\t2\ngo\nadd\t2\t1\nunmark\t2\nunmark\t2\nmark\t2\nmark\t2\nmark\t0\nunmark\t0\n"
+    ("game\t4\t2\t1\n"
+    ∷ "none\t2\t0\n"
+    ∷ "round\t2\t2\t1\t2\t0\t1\t2\n"
+    ∷ "none\t1\t2\n"
+    ∷ "no\t14\n"
+    ∷ "round\t2\t2\t1\t2\t0\t1\t2\n"
+    ∷ "no\t13\n"
+    ∷ "round\t4\t0\t1\t2\t0\t1\t2\n"
+    ∷ "round\t4\t0\t1\t2\t0\t1\t2\n"
+    ∷ [])
+    -- a state never met, one on the stem, the payer, one on the round, the start state, states outside
+    ∷ dialogue "game\t5\t0\npay\t3\nmove\t0\t1\nmove\t1\t2\nmove\t2\t3\nmove\t3\t2\ngo\nmark\t4\nmark\t4\nmark\t1\nunmark\t3\nunmark\t3\nmark\t2\nmark\t0\nmark\t5\nunmark\t512\nunmark\t1\n"
+    ("game\t5\t4\t1\n"
+    ∷ "round\t5\t0\t2\t2\t0\t1\t2\t3\n"
+    ∷ "round\t0\t5\t2\t2\t0\t1\t2\t3\n"
+    ∷ "no\t13\n"
+    ∷ "round\t4\t1\t2\t2\t0\t1\t2\t3\n"
+    ∷ "none\t4\t3\n"
+    ∷ "no\t14\n"
+    ∷ "round\t4\t2\t2\t2\t0\t1\t2\t3\n"
+    ∷ "round\t6\t0\t2\t2\t0\t1\t2\t3\n"
+    ∷ "no\t6\n"
+    ∷ "no\t6\n"
+    ∷ "round\t5\t1\t2\t2\t0\t1\t2\t3\n"
+    ∷ [])
+    -- a mark by which another round is found first, and without it the old one
+    ∷ dialogue "game\t3\t0\npay\t2\nmove\t0\t1\nmove\t0\t2\nmove\t1\t0\nmove\t2\t0\ngo\nmark\t1\nunmark\t1\nunmark\t2\nmark\t1\n"
+    ("game\t3\t4\t1\n"
+    ∷ "round\t5\t0\t0\t2\t0\t2\n"
+    ∷ "round\t2\t1\t0\t2\t0\t1\n"
+    ∷ "round\t4\t1\t0\t2\t0\t2\n"
+    ∷ "none\t1\t3\n"
+    ∷ "round\t2\t1\t0\t2\t0\t1\n"
+    ∷ [])
     ∷ []
