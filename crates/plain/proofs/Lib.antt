@@ -18,3 +18,4 @@ pub mod Tables
 pub mod Demands
 pub mod Answers
 pub mod Loops
+pub mod Fresh

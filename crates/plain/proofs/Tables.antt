@@ -11,11 +11,11 @@ use borrow.Author.Tests.{ltb-false, leb-false, eqb-false}
 use Rattle.plain.specs.Lists.{any, anyBelow, filter}
 use Rattle.plain.specs.Search.{Edge}
 use Rattle.plain.specs.Table.{Table, accepts, withMark, withoutMark}
-use Rattle.plain.specs.Refusals.{accepted, pairs, sameEdge, present, badSize, badStart, badMarks, badCount, outside, repeated, beyond, full, Load, loadTrial}
+use Rattle.plain.specs.Refusals.{accepted, pairs, sameEdge, present, badSize, badStart, badMarks, badCount, outside, repeated, beyond, full, shortRoom, Load, loadTrial}
 use Rattle.plain.specs.Machine.{Change, add, cut, mark, unmark, tableOf, without, withWords, conditions, apply, changeTrial, trialOf}
 use Rattle.plain.specs.Claims.{Arises, loaded, changed}
 use Rattle.plain.proofs.Tests.{contra, either, not-true, same, or-false, or-neither, any-cases, none-cons, filter-yes, filter-no}
-use Rattle.plain.proofs.Trials.{unheld}
+use Rattle.plain.proofs.Trials.{unheld, passed-behind}
 use Rattle.plain.proofs.Edges.{same-edge, same-self}
 use Rattle.plain.proofs.Words.{accepts-marked-other, accepts-unmarked-other}
 
@@ -116,6 +116,11 @@ valid-cut t e v = record {
   inside = any-filter (outside (t .size)) (λ f. not (sameEdge e f)) (t .edges) (v .inside);
   once = repeated-filter (λ f. not (sameEdge e f)) (t .edges) (v .once);
 }
+
+-- an accepted change's list has room for the walk
+pub room-enough : (c : Change) (t : Table) (room : ℕ) → changeTrial c t room ≡ accepted → t .size ≤ room
+unfolding changeTrial shortRoom
+room-enough c t room e = ltb-false room (t .size) (unheld 11 _ (passed-behind (conditions c t) _ e))
 
 -- a change leaves the size and the start state
 pub changed-size : (c : Change) (t : Table) → apply c t .size ≡ t .size

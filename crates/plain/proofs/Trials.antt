@@ -26,7 +26,7 @@ held-first : (c : Condition) (cs : List Condition) → c .1 ≡ true → firstHe
 unfolding firstHeld
 held-first c cs e = rw (e, firstHeld)
 
-held-later : (c : Condition) (cs : List Condition) → c .1 ≡ false → firstHeld (c ∷ cs) ≡ firstHeld cs
+pub held-later : (c : Condition) (cs : List Condition) → c .1 ≡ false → firstHeld (c ∷ cs) ≡ firstHeld cs
 unfolding firstHeld
 held-later c cs e = rw (e, firstHeld)
 

@@ -9,8 +9,8 @@ use Rattle.plain.specs.Lists.{any, filter}
 use Rattle.plain.specs.Search.{Edge, Verdict, none, lasso, unfinished, verdict, count, taken}
 use Rattle.plain.specs.Cycles.{FreeRound, AcceptingLoop, Lasso}
 use Rattle.plain.specs.Table.{Table, graphOf, final, firstMeeting}
-use Rattle.plain.specs.Refusals.{accepted, Load, loadTrial, sameEdge}
-use Rattle.plain.specs.Machine.{Change, named, apply, tableOf, Call, trialOf, Line, gameLine, roundLine, noneLine, noLine}
+use Rattle.plain.specs.Refusals.{accepted, flat, Load, loadTrial, sameEdge}
+use Rattle.plain.specs.Machine.{Change, named, apply, answer, tableOf, loadAnswer, Call, trialOf, answerTo, tableAfter, Line, gameLine, roundLine, noneLine, noLine}
 
 -- the tables that a session can hold: those that a load accepts, and those to which accepted changes lead
 pub data Arises : Table → Type 0 where
@@ -63,6 +63,16 @@ pub record KeptRight (c : Change) (t : Table) (spent kept : ℕ) : Type 0 where
   pub run-before : take kept (taken (final t)) ≡ taken (firstMeeting (named c) (apply c t))
   -- "Kept + spent = that search's full count"
   pub adds-up : kept + spent ≡ count (final (apply c t))
+
+-- the load of a table as it stands: its marks and its moves are those of that moment
+unfoldable pub loadFrom : Table → Load
+loadFrom t = record { size = t .size; start = t .start; words = t .words; numbers = flat (t .edges) }
+
+-- Of an accepted change, and the table t that it finds: "Anyone comparing with a fresh load uses the marks of that moment" (document 02, ticket 2). A load of the
+-- table as the change leaves it answers with the same verdict and walk; its looks, all spent, are those kept and those spent.
+abbrev pub AsFresh : Call → Table → Type 0
+AsFresh c t = (v : Verdict) (spent kept : ℕ) → answerTo c t ≡ answer v spent kept
+    → loadAnswer (loadTrial (loadFrom (tableAfter c t)) (c .room)) (tableOf (loadFrom (tableAfter c t))) ≡ answer v (kept + spent) 0
 
 -- What an answer's line says of the table as the call leaves it is true. Of a `no` line: "refusal 7 no longer occurs" (document 02, ticket 1).
 abbrev pub LineTrue : Line → Table → Type 0

@@ -24,6 +24,11 @@ pairs [] = []
 pairs (a ∷ []) = []
 pairs (a ∷ b ∷ ns) = (a, b) ∷ pairs ns
 
+-- and the numbers of moves
+unfoldable pub flat : List Edge → List ℕ
+flat [] = []
+flat (e ∷ es) = e .0 ∷ e .1 ∷ flat es
+
 unfoldable pub sameEdge : Edge → Edge → Bool
 sameEdge e f = eqb (e .0) (f .0) && eqb (e .1) (f .1)
 

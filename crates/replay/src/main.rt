@@ -1,8 +1,9 @@
 // Replays a script of loads and changes on a session, and prints what each answers.
-// A script is a list of 16-bit numbers, the low byte first: 1 and a load, 2 and an add, 3 and a cut, 0 at the end.
+// A script is a list of 16-bit numbers, the low byte first: 1 and a load; 2 and an add, 3 and a cut, 4 and a mark, 5 and an unmark; 0 at the end.
 use session::Answer;
 use session::Outcome;
 use session::Session;
+use table::Op;
 ghost use Prim.Native.Nat.{_≤_, _<_};
 
 // Casts that say how large the result is, so that sums of it are seen to fit.
@@ -173,15 +174,23 @@ fn load_at(text: &[u8], at: usize, lent: &mut [u16]) -> Outcome {
     session::load(size, start, words, &list[..count], &mut lent[..room])
 }
 
-// The change at a place, with as much of the list lent as it says.
-fn change_at(text: &[u8], at: usize, what: u16, s: Session, lent: &mut [u16]) -> Outcome {
+// The change at a place.
+fn op_at(text: &[u8], at: usize, what: u16) -> Op {
     let from = number_at(text, at, 2);
     let to = number_at(text, at, 4);
-    let room = least(wide(number_at(text, at, 6)), lent.len());
-    if what == 3 {
-        return session::cut(s, from, to, &mut lent[..room]);
+    match what {
+        3 => Op::Cut { from, to },
+        4 => Op::Mark { state: from },
+        5 => Op::Unmark { state: from },
+        _ => Op::Add { from, to },
     }
-    session::add(s, from, to, &mut lent[..room])
+}
+
+// It is made, with as much of the list lent as it says.
+fn change_at(text: &[u8], at: usize, what: u16, s: Session, lent: &mut [u16]) -> Outcome {
+    let op = op_at(text, at, what);
+    let room = least(wide(number_at(text, at, 6)), lent.len());
+    session::change(s, op, &mut lent[..room])
 }
 
 // How many bytes the load or change at a place has.

@@ -7,20 +7,19 @@ use Prim.Native.Nat.{ℕ, _+_, _-_, _≤_}
 use native.Mathlib.Nat.{add-zero}
 use native.Mathlib.Omega.{arith}
 use lib.ListN.{length, getD}
-use borrow.Author.Tests.{ltb-false, le-leb}
+use borrow.Author.Tests.{le-leb}
 use Rattle.plain.specs.Lists.{elem, In}
 use Rattle.plain.specs.Search.{Graph, Config, discoveredOf, meets, run, Verdict as PlainVerdict, unfinished, verdict, count}
 use Rattle.plain.specs.Table.{Table, searched, final, firstMeeting}
-use Rattle.plain.specs.Refusals.{Trial, accepted, refused, beyond, shortRoom}
-use Rattle.plain.specs.Machine.{Change, named, apply, conditions, kept, Answer as PlainAnswer, refusal, numbered, answer, changeTrial, trialOf, answerTo, tableAfter, changeAnswer, after, written, answerLine}
+use Rattle.plain.specs.Refusals.{Trial, accepted, refused, beyond}
+use Rattle.plain.specs.Machine.{Change, named, apply, kept, Answer as PlainAnswer, refusal, numbered, answer, changeTrial, trialOf, answerTo, tableAfter, changeAnswer, after, written, answerLine}
 use Rattle.plain.specs.Notes.{Note, Notes, Faithful}
 use Rattle.plain.specs.Claims.{changed}
 use Rattle.plain.proofs.Tests.{either, in-one}
 use Rattle.plain.proofs.Restore.{noted-run}
 use Rattle.plain.proofs.Prefix.{meets-one, unmet-one}
-use Rattle.plain.proofs.Trials.{unheld, passed-behind}
 use Rattle.plain.proofs.Rows.{agree}
-use Rattle.plain.proofs.Tables.{Valid, valid, valid-change, changed-size, changed-start}
+use Rattle.plain.proofs.Tables.{Valid, valid, valid-change, room-enough, changed-size, changed-start}
 use Rattle.plain.proofs.Demands.{run-final, verdict-right, change-unmet, change-met}
 use Rattle.look.specs.Numbers.{noNumber, plus}
 use Rattle.look.proofs.Counting.{plus-more}
@@ -52,11 +51,6 @@ named-one (Add from to) = refl
 named-one (Cut from to) = refl
 named-one (Mark state) = refl
 named-one (Unmark state) = refl
-
--- an accepted change's list has room for the walk
-room-enough : (c : Change) (t : Table) (room : ℕ) → changeTrial c t room ≡ accepted → t .size ≤ room
-unfolding changeTrial shortRoom
-room-enough c t room e = ltb-false room (t .size) (unheld 11 _ (passed-behind (conditions c t) _ e))
 
 -- what the new records are worth for the changed table
 record Worth (c : Change) (t : Table) (v : Verdict) (a : Records) : Type 0 where

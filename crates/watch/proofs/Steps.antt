@@ -10,7 +10,7 @@ use lib.Dec.{eqb}
 use lib.ListN.{length, take, length-append}
 use Rattle.plain.specs.Search.{Edge, Verdict, none, lasso, unfinished, verdict, count}
 use Rattle.plain.specs.Table.{final, withMark, acceptingCount}
-use Rattle.plain.specs.Refusals.{Trial, accepted, refused, loadTrial, full}
+use Rattle.plain.specs.Refusals.{Trial, accepted, refused, flat, loadTrial, full}
 use Rattle.plain.specs.Machine.{Answer as PlainAnswer, answer, loadAnswer, tableOf, answerTo, Line, gameLine, roundLine, noneLine, noLine, answerLine}
 use Rattle.plain.proofs.Tests.{and-true}
 use Rattle.line.specs.Words.{isWord}
@@ -36,7 +36,7 @@ use Rattle.lead.specs.declared.Request.the-variants as R
 use Rattle.lead.specs.Asked.{numbersMost, staged, noTask, refusing, loading, changing, isFull, askedFirst, askedMove, askedBefore, requestOf as leadRequest, planFor, askedAfter, askedAt, asked, takesMove, filedMove}
 use Rattle.lead.proofs.Asking.{taken-at}
 use Rattle.lead.proofs.Filing.{moves-kept, move-put}
-use Rattle.watch.specs.Text.{Draft, Play, Held, waiting, gathering, playing, ended, Step, quiet, noStep, empty, room, flat, loadStep, loadOf, draftOf, withPay, withMove, changeStep, Request, changing as changes, unknown, requestOf, playStep, atFirst, beforeGo, afterGo, step}
+use Rattle.watch.specs.Text.{Draft, Play, Held, waiting, gathering, playing, ended, Step, quiet, noStep, empty, room, loadStep, loadOf, draftOf, withPay, withMove, changeStep, Request, changing as changes, unknown, requestOf, playStep, atFirst, beforeGo, afterGo, step}
 use Rattle.watch.specs.Model.{gathered, Serves, isRefused, linesFor, leadFor}
 
 -- the lead and the list of numbers stand for what is gathered

@@ -4,14 +4,14 @@ use mathlib.Core.List.{map}
 use Rattle.plain.specs.Lists.{any, filter, anyBelow, elem, before, from}
 use Rattle.plain.specs.Search.{onPath, step as searchStep, steps, until, statesOf, stemOf, cycleOf, verdict}
 use Rattle.plain.specs.Table.{bit, accepts, withBit, withMark, withoutBit, withoutMark, countBelow, acceptingCount, row, budget, final, firstMeeting}
-use Rattle.plain.specs.Refusals.{firstHeld, pairs, sameEdge, present, badSize, badStart, badMarks, badCount, outside, repeated, beyond, full, shortRoom, loadTrial}
+use Rattle.plain.specs.Refusals.{firstHeld, pairs, flat, sameEdge, present, badSize, badStart, badMarks, badCount, outside, repeated, beyond, full, shortRoom, loadTrial}
 use Rattle.plain.specs.Machine.{named, tableOf, without, apply, conditions, changeTrial, kept, loadAnswer, changeAnswer, trialOf, answerTo, tableAfter, answerLine}
 use Rattle.line.specs.Fields.{bytes, tab, newline, onFirst, parted, linesOf, fieldsOf}
 use Rattle.line.specs.Numbers.{all, isDigit, valueFrom, value, leadingZero, isNumber}
 use Rattle.line.specs.Words.{isWord}
 use Rattle.line.specs.Records.{sameBytes, words, wordIn, wordOf, worded, fromFields, recordOf}
 use Rattle.answer.specs.Rendering.{digitsIn, decimal, fieldOf, fieldsOf as printedFields, lineOf, render}
-use Rattle.watch.specs.Text.{flat, atFirst, beforeGo, requestOf, afterGo, step, printed, wholeLines, counted, outputOf, output}
+use Rattle.watch.specs.Text.{atFirst, beforeGo, requestOf, afterGo, step, printed, wholeLines, counted, outputOf, output}
 use Rattle.watch.specs.Texts.{Dialogue, dialogue, games}
 
 -- one sentence for all games

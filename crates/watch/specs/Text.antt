@@ -8,7 +8,7 @@ use lib.ListN.{length, take, replicate}
 use Rattle.plain.specs.Lists.{any}
 use Rattle.plain.specs.Search.{Edge}
 use Rattle.plain.specs.Table.{Table, withMark, acceptingCount}
-use Rattle.plain.specs.Refusals.{Trial, accepted, refused, Load, loadTrial, full}
+use Rattle.plain.specs.Refusals.{Trial, accepted, refused, flat, Load, loadTrial, full}
 use Rattle.plain.specs.Machine.{Change, add, cut, mark, unmark, numbered, tableOf, loadAnswer, answerTo, tableAfter, Line, gameLine, noLine, answerLine}
 use Rattle.line.specs.Fields.{newline, linesOf}
 use Rattle.line.specs.Words.{isWord}
@@ -63,11 +63,6 @@ empty (e ∷ es) = false
 -- the list lent for the walk is the box's own: it has an entry for each of 512 states
 abbrev pub room : ℕ
 room = 512
-
--- the numbers of moves, two for each
-unfoldable pub flat : List Edge → List ℕ
-flat [] = []
-flat (e ∷ es) = e .0 ∷ e .1 ∷ flat es
 
 abbrev pub loadOf : Draft → Load
 loadOf d = record { size = d .size; start = d .start; words = d .marks; numbers = flat (d .moves) }
