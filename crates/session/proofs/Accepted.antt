@@ -30,11 +30,12 @@ use Rattle.search.proofs.Ended.{rewound-spent}
 use Rattle.search.proofs.Resumed.{Small, resume-fits, limits}
 use Rattle.table.specs.declared.Op.{Op}
 use Rattle.table.specs.declared.Op.the-variants.{Add, Cut, Mark, Unmark}
+use Rattle.table.specs.declared.Switch.{Switch}
 use Rattle.session.specs.declared.Session.{Session}
 use Rattle.session.specs.declared.Settled.{Settled}
 use Rattle.session.specs.declared.Resumption.{Resumption}
 use Rattle.session.specs.declared.Verdict.{Verdict}
-use Rattle.table.specs.Trials.{Arrays, addConditions, cutConditions, markConditions, unmarkConditions, trialIn}
+use Rattle.table.specs.Trials.{Arrays, opOf, addConditions, cutConditions, markConditions, unmarkConditions, trialIn}
 use Rattle.table.specs.Filing.{changeOf, namedBy, filedIn, Stored}
 use Rattle.session.specs.Model.{Records, recordsOf, recordsIn, arraysHeld, gameIn, resumptionAt, backAt, Sought, verdictOf, sessionOf, refusing, answerIs, shownWalk, Settles, ChangedIn}
 use Rattle.session.specs.Promises.{shown, Tells, heightOf, Holds, Changes}
@@ -301,11 +302,11 @@ module _ (op : Op) (s : Session) (lent : List ℕ) where
       refused-not : refused 6 ≡ accepted → ⊥
       refused-not z = let q : _≡_ {A = ℕ} 0 1 = cc in omega arith
 
-  -- the contract of a change, from what the change leaves in the arrays
-  pub change-right : (lent′ : List ℕ) (b : Arrays) (a : Records) (r : Settled) (total : ℕ) → s .total ≤ 65535 → total ≡ plus (r .verdict .kept) (r .verdict .spent)
+  -- the contract of a change, from what it leaves in the arrays
+  made-right : (lent′ : List ℕ) (b : Arrays) (a : Records) (r : Settled) (total : ℕ) → s .total ≤ 65535 → total ≡ plus (r .verdict .kept) (r .verdict .spent)
       → ChangedIn op (s .size) (s .start) (oldOf s) (arraysHeld s) (recordsHeld s) lent r b a lent′
       → Changes op s lent (record { answer = r .answer; session = sessionOf (s .size) (s .start) b a (r .verdict) total }) lent′
-  change-right lent′ b a r total small e w = by-trial (trialIn op (s .size) (arraysHeld s) (length lent)) refl
+  made-right lent′ b a r total small e w = by-trial (trialIn op (s .size) (arraysHeld s) (length lent)) refl
     where
       Made : Settled → Arrays → Records → ℕ → List ℕ → Type 0
       Made x y z n list = Changes op s lent (record { answer = x .answer; session = sessionOf (s .size) (s .start) y z (x .verdict) n }) list
@@ -317,3 +318,10 @@ module _ (op : Op) (s : Session) (lent : List ℕ) where
           let sum : total ≡ plus (s .total) 0 = e ∙ (λ i. plus (q .0 i .verdict .kept) (q .0 i .verdict .spent)) in
           subst⁻¹ (λ (x : ℕ × Settled × Arrays × Records × List ℕ). Made (x .1) (x .2) (x .3) (x .0) (x .4)) (λ i. (sum i, q .0 i, q .1 i, q .2 i, q .3 i))
           (subst⁻¹ (λ (x : Session). Changes op s lent (record { answer = refusing n; session = x }) lent) (same-session s small) (change-refused n f))
+
+-- the same of a change as it is made
+pub change-right : (op : Op) (switch : Switch) → opOf switch ≡ op → (s : Session) (lent lent′ : List ℕ) (b : Arrays) (a : Records) (r : Settled) (total : ℕ) → s .total ≤ 65535
+    → total ≡ plus (r .verdict .kept) (r .verdict .spent) → ChangedIn (opOf switch) (s .size) (s .start) (oldOf s) (arraysHeld s) (recordsHeld s) lent r b a lent′
+    → Changes op s lent (record { answer = r .answer; session = sessionOf (s .size) (s .start) b a (r .verdict) total }) lent′
+change-right op switch same s lent lent′ b a r total small e w =
+    made-right op s lent lent′ b a r total small e (subst (λ (o : Op). ChangedIn o (s .size) (s .start) (oldOf s) (arraysHeld s) (recordsHeld s) lent r b a lent′) same w)

@@ -2,6 +2,7 @@
 use rows::wide;
 use table::Op;
 use table::Refusal;
+use table::Switch;
 use table::Trial;
 ghost use mathlib.Core.Path.{_≡_};
 ghost use mathlib.Core.List.{_++_};
@@ -10,7 +11,7 @@ ghost use lib.ListN.{length, take, drop};
 ghost use Rattle.rows.specs.Rows.{Tabled};
 ghost use Rattle.look.specs.Numbers.{plus};
 ghost use Rattle.search.specs.Core.{gameOf, Lengths};
-ghost use Rattle.table.specs.Trials.{arraysOf};
+ghost use Rattle.table.specs.Trials.{arraysOf, opOf};
 ghost use Rattle.session.specs.Model.{resumptionAt, isFound, verdictOf, noVerdict, recordsOf, Sought, answerIs, refusing, noGame, shownWalk, Settles, ChangedIn};
 ghost use Rattle.session.specs.Promises.{Loads, Changes};
 
@@ -397,7 +398,7 @@ pub fn load(size: u16, start: u16, words: [u64; 8], numbers: &[u16], lent: &mut 
 
 // A change on the arrays of a session: tried and made in the table's, then searched and answered.
 fn change_in(
-    op: Op,
+    switch: Switch,
     targets: &mut [u16; 2048],
     starts: &mut [u16; 513],
     words: &mut [u64; 8],
@@ -413,16 +414,16 @@ fn change_in(
     lent: &mut [u16],
 ) -> Settled
     requires { ⌜ Tabled (now targets) (now starts) × Lengths (now number) (now parent) (now index) (now probes) (now stamp) (now walk) ⌝ }
-    ensures { λ r. ⌜ ChangedIn op size start old (arraysOf (now (targets .entry)) (now (starts .entry)) (now (words .entry))) (recordsOf (now (number .entry)) (now (parent .entry)) (now (index .entry)) (now (probes .entry)) (now (stamp .entry)) (now (walk .entry))) (now (lent .entry)) r (arraysOf (now (targets .exit)) (now (starts .exit)) (now (words .exit))) (recordsOf (now (number .exit)) (now (parent .exit)) (now (index .exit)) (now (probes .exit)) (now (stamp .exit)) (now (walk .exit))) (now (lent .exit)) ⌝ }
+    ensures { λ r. ⌜ ChangedIn (opOf switch) size start old (arraysOf (now (targets .entry)) (now (starts .entry)) (now (words .entry))) (recordsOf (now (number .entry)) (now (parent .entry)) (now (index .entry)) (now (probes .entry)) (now (stamp .entry)) (now (walk .entry))) (now (lent .entry)) r (arraysOf (now (targets .exit)) (now (starts .exit)) (now (words .exit))) (recordsOf (now (number .exit)) (now (parent .exit)) (now (index .exit)) (now (probes .exit)) (now (stamp .exit)) (now (walk .exit))) (now (lent .exit)) ⌝ }
 {
-    let trial = table::attempt(op, size, targets, starts, words, lent.len());
+    let trial = table::attempt(switch, size, targets, starts, words, lent.len());
     if let Trial::Refused(n) = trial {
         return Settled {
             answer: refused(n),
             verdict: old,
         };
     }
-    let from = where_to_resume(number, table::named_by(op));
+    let from = where_to_resume(number, table::named_by(switch));
     settle(
         targets,
         starts,
@@ -446,6 +447,7 @@ fn change_in(
 pub fn change(s: Session, op: Op, lent: &mut [u16]) -> Outcome
     ensures { λ r. ⌜ Changes op s (now (lent .entry)) r (now (lent .exit)) ⌝ }
 {
+    let switch = table::switch_of(op);
     let mut words = s.words;
     let mut targets = s.targets;
     let mut starts = s.starts;
@@ -463,7 +465,7 @@ pub fn change(s: Session, op: Op, lent: &mut [u16]) -> Outcome
         kept: s.total,
     };
     let r = change_in(
-        op,
+        switch,
         &mut targets,
         &mut starts,
         &mut words,

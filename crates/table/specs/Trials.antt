@@ -1,6 +1,6 @@
 -- The trials of calls, read off the arrays of a table. Assumes nothing.
 use Prim.Native.Nat.{ℕ}
-use mathlib.Core.Bool.{Bool, not}
+use mathlib.Core.Bool.{Bool, true, false, not}
 use mathlib.Core.List.{List, [], _∷_, _++_}
 use lib.Dec.{ltb, leb}
 use Rattle.plain.specs.Lists.{any}
@@ -10,6 +10,9 @@ use Rattle.rows.specs.Rows.{rowAt, degreeAt, edgeCount, placeOf}
 use Rattle.rows.specs.Change.{Rows, rowsOf}
 use Rattle.table.specs.declared.Op.{Op}
 use Rattle.table.specs.declared.Op.the-variants.{Add, Cut, Mark, Unmark}
+use Rattle.table.specs.declared.Subject.{Subject}
+use Rattle.table.specs.declared.Subject.the-variants.{Move, Pay}
+use Rattle.table.specs.declared.Switch.{Switch}
 use Rattle.table.specs.declared.Trial.{Trial}
 use Rattle.table.specs.declared.Trial.the-variants.{Accepted, Refused}
 
@@ -21,6 +24,16 @@ pub record Arrays : Type 0 where
 -- the same of lent arrays
 abbrev pub arraysOf : List ℕ → List ℕ → List ℕ → Arrays
 arraysOf targets starts words = record { rows = rowsOf targets starts; words = words }
+
+-- the change that switches something on or off
+abbrev pub switching : Bool → Subject → Op
+switching true (Move from to) = Add from to
+switching false (Move from to) = Cut from to
+switching true (Pay state) = Mark state
+switching false (Pay state) = Unmark state
+
+abbrev pub opOf : Switch → Op
+opOf s = switching (s .on) (s .subject)
 
 -- what a trial comes to, as the code's enum
 abbrev pub tried : PlainTrial → Trial

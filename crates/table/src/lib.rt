@@ -5,7 +5,7 @@ ghost use Rattle.plain.specs.Lists.{any};
 ghost use Rattle.plain.specs.Refusals.{firstHeld, badMarks, outside, roomCondition, pairs};
 ghost use Rattle.rows.specs.Rows.{Tabled};
 ghost use Rattle.rows.specs.Change.{rowsOf};
-ghost use Rattle.table.specs.Trials.{arraysOf, tried, earlyTrial, there, addConditions, cutConditions, markConditions, unmarkConditions, conditionsIn, trialIn};
+ghost use Rattle.table.specs.Trials.{arraysOf, opOf, tried, earlyTrial, there, addConditions, cutConditions, markConditions, unmarkConditions, conditionsIn, trialIn};
 ghost use Rattle.table.specs.Filing.{namedBy, filedIn, Attempted, Empty, Limits, FiledAll, Tried};
 
 // A refusal: its number in document 01's list.
@@ -19,6 +19,19 @@ pub enum Op {
     Cut { from: u16, to: u16 },
     Mark { state: u16 },
     Unmark { state: u16 },
+}
+
+// What a change switches on or off: a move, or a state's pay.
+pub enum Subject {
+    Move { from: u16, to: u16 },
+    Pay { state: u16 },
+}
+
+// A change as it is made. Each test of it has two ways out. A match of four has a fifth in the compiled code, which is never taken, but for its sake the compiler
+// holds the session once more: 6,000 bytes of stack and 1,300 instructions a change.
+pub struct Switch {
+    pub on: bool,
+    pub subject: Subject,
 }
 
 // What trying a call comes to: the number of the first condition that holds.
@@ -219,28 +232,55 @@ fn unmark_trial(size: u16, words: &[u64; 8], state: u16) -> Trial
     Trial::Accepted
 }
 
+fn switched(on: bool, subject: Subject) -> Switch
+    ensures { λ r. ⌜ r ≡ record { on = on; subject = subject } ⌝ }
+{
+    Switch { on, subject }
+}
+
+// The change as what it switches, and which way.
+pub fn switch_of(op: Op) -> Switch
+    ensures { λ r. ⌜ opOf r ≡ op ⌝ }
+{
+    match op {
+        Op::Add { from, to } => switched(true, Subject::Move { from, to }),
+        Op::Cut { from, to } => switched(false, Subject::Move { from, to }),
+        Op::Mark { state } => switched(true, Subject::Pay { state }),
+        Op::Unmark { state } => switched(false, Subject::Pay { state }),
+    }
+}
+
 // The refusals of a change itself.
 fn own_trial(
-    op: Op,
+    switch: Switch,
     size: u16,
     targets: &[u16; 2048],
     starts: &[u16; 513],
     words: &[u64; 8],
 ) -> Trial
     requires { ⌜ Tabled (now targets) (now starts) ⌝ }
-    ensures { λ r. ⌜ r ≡ tried (firstHeld (conditionsIn op size (arraysOf (now (targets .entry)) (now (starts .entry)) (now (words .entry))))) ⌝ }
+    ensures { λ r. ⌜ r ≡ tried (firstHeld (conditionsIn (opOf switch) size (arraysOf (now (targets .entry)) (now (starts .entry)) (now (words .entry))))) ⌝ }
 {
-    match op {
-        Op::Add { from, to } => add_trial(size, targets, starts, from, to),
-        Op::Cut { from, to } => cut_trial(size, targets, starts, from, to),
-        Op::Mark { state } => mark_trial(size, words, state),
-        Op::Unmark { state } => unmark_trial(size, words, state),
+    let subject = switch.subject;
+    match subject {
+        Subject::Move { from, to } => {
+            if switch.on {
+                return add_trial(size, targets, starts, from, to);
+            }
+            cut_trial(size, targets, starts, from, to)
+        }
+        Subject::Pay { state } => {
+            if switch.on {
+                return mark_trial(size, words, state);
+            }
+            unmark_trial(size, words, state)
+        }
     }
 }
 
 // Tries a change: 11 comes behind its own refusals.
 fn change_trial(
-    op: Op,
+    switch: Switch,
     size: u16,
     targets: &[u16; 2048],
     starts: &[u16; 513],
@@ -248,9 +288,9 @@ fn change_trial(
     room: usize,
 ) -> Trial
     requires { ⌜ Tabled (now targets) (now starts) ⌝ }
-    ensures { λ r. ⌜ r ≡ tried (trialIn op size (arraysOf (now (targets .entry)) (now (starts .entry)) (now (words .entry))) room) ⌝ }
+    ensures { λ r. ⌜ r ≡ tried (trialIn (opOf switch) size (arraysOf (now (targets .entry)) (now (starts .entry)) (now (words .entry))) room) ⌝ }
 {
-    let own = own_trial(op, size, targets, starts, words);
+    let own = own_trial(switch, size, targets, starts, words);
     if let Trial::Refused(n) = own {
         return Trial::Refused(n);
     }
@@ -259,31 +299,38 @@ fn change_trial(
 
 // The change is made in the arrays.
 fn file_one(
-    op: Op,
+    switch: Switch,
     size: u16,
     targets: &mut [u16; 2048],
     starts: &mut [u16; 513],
     words: &mut [u64; 8],
 )
     requires { ⌜ Tabled (now targets) (now starts) ⌝ }
-    ensures { λ r. ⌜ arraysOf (now (targets .exit)) (now (starts .exit)) (now (words .exit)) ≡ filedIn op size (arraysOf (now (targets .entry)) (now (starts .entry)) (now (words .entry))) ⌝ }
+    ensures { λ r. ⌜ arraysOf (now (targets .exit)) (now (starts .exit)) (now (words .exit)) ≡ filedIn (opOf switch) size (arraysOf (now (targets .entry)) (now (starts .entry)) (now (words .entry))) ⌝ }
 {
-    match op {
-        Op::Add { from, to } => {
-            rows::insert(targets, starts, size, from, to);
-        }
-        Op::Cut { from, to } => {
+    let subject = switch.subject;
+    match subject {
+        Subject::Move { from, to } => {
+            if switch.on {
+                rows::insert(targets, starts, size, from, to);
+                return;
+            }
             let k = rows::place(targets, starts, from, to);
             rows::remove(targets, starts, size, from, k);
         }
-        Op::Mark { state } => marks::set_mark(words, wide(state)),
-        Op::Unmark { state } => marks::clear_mark(words, wide(state)),
+        Subject::Pay { state } => {
+            if switch.on {
+                marks::set_mark(words, wide(state));
+                return;
+            }
+            marks::clear_mark(words, wide(state));
+        }
     }
 }
 
 // Tries a change, and makes it in the arrays where it is accepted.
 pub fn attempt(
-    op: Op,
+    switch: Switch,
     size: u16,
     targets: &mut [u16; 2048],
     starts: &mut [u16; 513],
@@ -291,24 +338,23 @@ pub fn attempt(
     room: usize,
 ) -> Trial
     requires { ⌜ Tabled (now targets) (now starts) ⌝ }
-    ensures { λ r. ⌜ Attempted op size room (arraysOf (now (targets .entry)) (now (starts .entry)) (now (words .entry))) r (arraysOf (now (targets .exit)) (now (starts .exit)) (now (words .exit))) ⌝ }
+    ensures { λ r. ⌜ Attempted (opOf switch) size room (arraysOf (now (targets .entry)) (now (starts .entry)) (now (words .entry))) r (arraysOf (now (targets .exit)) (now (starts .exit)) (now (words .exit))) ⌝ }
 {
-    let trial = change_trial(op, size, targets, starts, words, room);
+    let trial = change_trial(switch, size, targets, starts, words, room);
     if let Trial::Refused(n) = trial {
         return Trial::Refused(n);
     }
-    file_one(op, size, targets, starts, words);
+    file_one(switch, size, targets, starts, words);
     Trial::Accepted
 }
 
 // The state that a change names: the one that its move leaves, or the one marked or unmarked.
-pub fn named_by(op: Op) -> u16
-    ensures { λ r. ⌜ r ≡ namedBy op ⌝ }
+pub fn named_by(switch: Switch) -> u16
+    ensures { λ r. ⌜ r ≡ namedBy (opOf switch) ⌝ }
 {
-    match op {
-        Op::Add { from, to } => from,
-        Op::Cut { from, to } => from,
-        Op::Mark { state } => state,
-        Op::Unmark { state } => state,
+    let subject = switch.subject;
+    match subject {
+        Subject::Move { from, to } => from,
+        Subject::Pay { state } => state,
     }
 }

@@ -8,8 +8,11 @@ use borrow.Author.Needs.{needs}
 use Rattle.session.proofs.change.Statement.{statement}
 use Rattle.session.proofs.change.Tie as tie
 
+abbrev switched : tie.After-change-in-arg → tie.After-switch-of
+switched c = c .before .before .before .before .before .before .before .before .before .before .before .before .before .before .before .before .before .before .before
+
 abbrev begun : tie.After-change-in-arg → tie.Start
-begun c = c .before .before .before .before .before .before .before .before .before .before .before .before .before .before .before .before .before .before .before .before
+begun c = switched c .before .before
 
 -- the arrays of a session have the sizes of their types
 sizes : (b : tie.Start) → Lengths (b .args .s .number) (b .args .s .parent) (b .args .s .index) (b .args .s .probes) (b .args .s .stamp) (b .args .s .walk)
@@ -25,6 +28,9 @@ sizes b = record {
 range : (b : tie.Start) → b .args .s .total < 65536
 range b = search needs
 
+switch-of-requires : tie.Need-switch-of-requires
+switch-of-requires c κs = search needs
+
 change-in-requires : tie.Need-change-in-requires
 change-in-requires c κs = (record { targets-size = search needs; starts-size = search needs }, sizes (begun c))
 
@@ -37,8 +43,10 @@ same-length c = search needs
 returns : tie.Need-returns
 returns c =
     let w = c .before .before .before .before in
+    let e = switched (w .before) in
     let b = begun (w .before) in
-    change-right (b .args .op) (b .args .s) (now (b .args .lent)) _ _ _ (w .change-in .result) (c .total-of .result) (omega (arith, range b)) (c .total-of .ensures) (w .change-in .ensures)
+    change-right (b .args .op) (e .switch-of .result) (e .switch-of .ensures) (b .args .s) (now (b .args .lent)) _ _ _ (w .change-in .result) (c .total-of .result)
+    (omega (arith, range b)) (c .total-of .ensures) (w .change-in .ensures)
 
 pub change-spec : {M : Type 1} → statement M
-change-spec = tie.close (tie.spec change-in-requires total-of-requires same-length returns)
+change-spec = tie.close (tie.spec switch-of-requires change-in-requires total-of-requires same-length returns)

@@ -1,6 +1,7 @@
 -- `change_in` meets its contract: a refusal, or the table's arrays changed and the search settled. Assumes nothing.
 use mathlib.Core.Path.{sym, ap, _∙_}
 use denote.Ref.{now}
+use Rattle.table.specs.Trials.{opOf}
 use Rattle.session.specs.Model.{resumptionAt}
 use Rattle.table.proofs.Changing.{filed-tabled}
 use Rattle.session.proofs.Changing.{changed-refused, changed-accepted}
@@ -43,7 +44,7 @@ abbrev begun : tie.After-settle-arg10 → tie.Start
 begun c = tried-at c .before .before .before .before .before .before .before
 
 settle-requires : tie.Need-settle-requires
-settle-requires c κs = (filed-tabled (begun c .args .op) (begun c .args .size) _ _ (tried-at c .before .before .attempt .ensures .filed (tried-at c .enum-told .given .1)) (begun c .pre .0), begun c .pre .1)
+settle-requires c κs = (filed-tabled (opOf (begun c .args .switch)) (begun c .args .size) _ _ (tried-at c .before .before .attempt .ensures .filed (tried-at c .enum-told .given .1)) (begun c .pre .0), begun c .pre .1)
 
 same-length : tie.Need-same-length
 same-length c = search needs
