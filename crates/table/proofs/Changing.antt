@@ -1,7 +1,7 @@
 -- A change of the table: its trial is the plain table's, and the arrays that it leaves hold the changed table. Assumes nothing.
 use mathlib.Core.Path.{_≡_, refl, sym, ap, subst, subst⁻¹, _∙_}
 use mathlib.Core.Logic.{⊎-elim}
-use mathlib.Core.Bool.{true, false, not}
+use mathlib.Core.Bool.{Bool, true, false, not}
 use mathlib.Core.List.{List, [], _∷_, _++_}
 use Prim.Native.Nat.{ℕ, suc, _<_}
 use native.Mathlib.Omega.{arith}
@@ -23,7 +23,9 @@ use Rattle.rows.proofs.Entries.{row-length}
 use Rattle.rows.proofs.Change.{removes-edge, inserted-lengths, removed-lengths}
 use Rattle.table.specs.declared.Op.{Op}
 use Rattle.table.specs.declared.Op.the-variants.{Add, Cut, Mark, Unmark}
-use Rattle.table.specs.Trials.{Arrays, there, addConditions, cutConditions, markConditions, unmarkConditions, conditionsIn, trialIn}
+use Rattle.table.specs.declared.Subject.{Subject}
+use Rattle.table.specs.declared.Subject.the-variants.{Move, Pay}
+use Rattle.table.specs.Trials.{Arrays, switching, stateOf, there, addConditions, cutConditions, markConditions, unmarkConditions, conditionsIn, trialIn}
 use Rattle.table.specs.Filing.{changeOf, namedBy, filedIn, Filed, Stored}
 use Rattle.table.proofs.Filing.{there-present, filed-insert}
 
@@ -36,6 +38,13 @@ filed-tabled (Add from to) size a a′ e l = inserted-lengths size from to (a .r
 filed-tabled (Cut from to) size a a′ e l = removed-lengths size from _ (a .rows) (a′ .rows) (rows-of e) l
 filed-tabled (Mark state) size a a′ e l = subst⁻¹ (λ (r : Rows). Tabled (r .targets) (r .starts)) (rows-of e) l
 filed-tabled (Unmark state) size a a′ e l = subst⁻¹ (λ (r : Rows). Tabled (r .targets) (r .starts)) (rows-of e) l
+
+-- the state that a change names is that of what it switches
+pub named-same : (on : Bool) (x : Subject) → stateOf x ≡ namedBy (switching on x)
+named-same true (Move from to) = refl
+named-same false (Move from to) = refl
+named-same true (Pay state) = refl
+named-same false (Pay state) = refl
 
 -- the state that an accepted change names
 pub named-below : (op : Op) (t : Table) (room : ℕ) → changeTrial (changeOf op) t room ≡ accepted → namedBy op < t .size

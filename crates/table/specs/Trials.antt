@@ -35,6 +35,11 @@ switching false (Pay state) = Unmark state
 abbrev pub opOf : Switch → Op
 opOf s = switching (s .on) (s .subject)
 
+-- the state that it names, whichever way it is switched
+abbrev pub stateOf : Subject → ℕ
+stateOf (Move from to) = from
+stateOf (Pay state) = state
+
 -- what a trial comes to, as the code's enum
 abbrev pub tried : PlainTrial → Trial
 tried accepted = Accepted

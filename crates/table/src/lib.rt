@@ -5,8 +5,8 @@ ghost use Rattle.plain.specs.Lists.{any};
 ghost use Rattle.plain.specs.Refusals.{firstHeld, badMarks, outside, roomCondition, pairs};
 ghost use Rattle.rows.specs.Rows.{Tabled};
 ghost use Rattle.rows.specs.Change.{rowsOf};
-ghost use Rattle.table.specs.Trials.{arraysOf, opOf, tried, earlyTrial, there, addConditions, cutConditions, markConditions, unmarkConditions, conditionsIn, trialIn};
-ghost use Rattle.table.specs.Filing.{namedBy, filedIn, Attempted, Empty, Limits, FiledAll, Tried};
+ghost use Rattle.table.specs.Trials.{arraysOf, opOf, stateOf, tried, earlyTrial, there, addConditions, cutConditions, markConditions, unmarkConditions, conditionsIn, trialIn};
+ghost use Rattle.table.specs.Filing.{filedIn, Attempted, Empty, Limits, FiledAll, Tried};
 
 // A refusal: its number in document 01's list.
 pub struct Refusal {
@@ -350,7 +350,7 @@ pub fn attempt(
 
 // The state that a change names: the one that its move leaves, or the one marked or unmarked.
 pub fn named_by(switch: Switch) -> u16
-    ensures { λ r. ⌜ r ≡ namedBy (opOf switch) ⌝ }
+    ensures { λ r. ⌜ r ≡ stateOf (switch .subject) ⌝ }
 {
     let subject = switch.subject;
     match subject {

@@ -3,7 +3,7 @@ use mathlib.Core.Path.{sym, ap, _∙_}
 use denote.Ref.{now}
 use Rattle.table.specs.Trials.{opOf}
 use Rattle.session.specs.Model.{resumptionAt}
-use Rattle.table.proofs.Changing.{filed-tabled}
+use Rattle.table.proofs.Changing.{filed-tabled, named-same}
 use Rattle.session.proofs.Changing.{changed-refused, changed-accepted}
 use borrow.Author.Needs.{needs}
 use Rattle.session.proofs.change_in.Statement.{statement}
@@ -56,7 +56,7 @@ returns-2 c =
     let e = tried-at g in
     let r = resumed g in
     changed-accepted _ _ _ _ _ _ _ (r .where-to-resume .result) _ _ _ _ (sym (e .enum-told .given .1) ∙ e .before .before .attempt .ensures .trial-is)
-    (e .before .before .attempt .ensures .filed (e .enum-told .given .1)) (r .where-to-resume .ensures ∙ ap (resumptionAt (now (begun g .args .number))) (r .before .named-by .ensures)) (w .settle .ensures)
+    (e .before .before .attempt .ensures .filed (e .enum-told .given .1)) (r .where-to-resume .ensures ∙ ap (resumptionAt (now (begun g .args .number))) (r .before .named-by .ensures ∙ named-same (begun g .args .switch .on) (begun g .args .switch .subject))) (w .settle .ensures)
 
 pub change-in-spec : {M : Type 1} → statement M
 change-in-spec =
