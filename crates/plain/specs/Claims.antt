@@ -55,7 +55,7 @@ pub record ReportRight (r : Report) (t : Table) : Type 0 where
 
 -- Of a change that is answered with so many looks spent and kept; t is the table as the change finds it.
 pub record KeptRight (c : Change) (t : Table) (spent kept : ℕ) : Type 0 where
-  -- "Kept is the looks which that search makes before it first meets the state that the changed move leaves (all if never)"
+  -- "Kept is the looks which that search makes before it first meets the state that the changed move leaves (all if never)", or the state marked or unmarked
   pub kept-is : kept ≡ count (firstMeeting (named c) (apply c t))
   -- they are the first looks of that search
   pub new-run : take kept (taken (final (apply c t))) ≡ taken (firstMeeting (named c) (apply c t))

@@ -73,6 +73,7 @@ full es = leb 2048 (length es)
 unfoldable pub shortRoom : ℕ → ℕ → Bool
 shortRoom n room = ltb room n
 
+-- as the last condition that a load or a change tries
 abbrev pub roomCondition : ℕ → ℕ → List (ℕ × Bool)
 roomCondition n room = (11, shortRoom n room) ∷ []
 

@@ -11,7 +11,7 @@ use Rattle.rows.specs.Change.{Rows, rowsOf}
 use Rattle.table.specs.declared.Op.{Op}
 use Rattle.table.specs.declared.Op.the-variants.{Add, Cut, Mark, Unmark}
 use Rattle.table.specs.declared.Subject.{Subject}
-use Rattle.table.specs.declared.Subject.the-variants.{Move, Pay}
+use Rattle.table.specs.declared.Subject.the-variants as Subject
 use Rattle.table.specs.declared.Switch.{Switch}
 use Rattle.table.specs.declared.Trial.{Trial}
 use Rattle.table.specs.declared.Trial.the-variants.{Accepted, Refused}
@@ -27,18 +27,18 @@ arraysOf targets starts words = record { rows = rowsOf targets starts; words = w
 
 -- the change that switches something on or off
 abbrev pub switching : Bool → Subject → Op
-switching true (Move from to) = Add from to
-switching false (Move from to) = Cut from to
-switching true (Pay state) = Mark state
-switching false (Pay state) = Unmark state
+switching true (Subject.Edge from to) = Add from to
+switching false (Subject.Edge from to) = Cut from to
+switching true (Subject.Mark state) = Mark state
+switching false (Subject.Mark state) = Unmark state
 
 abbrev pub opOf : Switch → Op
 opOf s = switching (s .on) (s .subject)
 
 -- the state that it names, whichever way it is switched
 abbrev pub stateOf : Subject → ℕ
-stateOf (Move from to) = from
-stateOf (Pay state) = state
+stateOf (Subject.Edge from to) = from
+stateOf (Subject.Mark state) = state
 
 -- what a trial comes to, as the code's enum
 abbrev pub tried : PlainTrial → Trial

@@ -21,10 +21,10 @@ pub enum Op {
     Unmark { state: u16 },
 }
 
-// What a change switches on or off: a move, or a state's pay.
+// What a change switches on or off: an edge (move), or a state's paying mark.
 pub enum Subject {
-    Move { from: u16, to: u16 },
-    Pay { state: u16 },
+    Edge { from: u16, to: u16 },
+    Mark { state: u16 },
 }
 
 // A change as it is made. Each test of it has two ways out. A match of four has a fifth in the compiled code, which is never taken, but for its sake the compiler
@@ -243,10 +243,10 @@ pub fn switch_of(op: Op) -> Switch
     ensures { λ r. ⌜ opOf r ≡ op ⌝ }
 {
     match op {
-        Op::Add { from, to } => switched(true, Subject::Move { from, to }),
-        Op::Cut { from, to } => switched(false, Subject::Move { from, to }),
-        Op::Mark { state } => switched(true, Subject::Pay { state }),
-        Op::Unmark { state } => switched(false, Subject::Pay { state }),
+        Op::Add { from, to } => switched(true, Subject::Edge { from, to }),
+        Op::Cut { from, to } => switched(false, Subject::Edge { from, to }),
+        Op::Mark { state } => switched(true, Subject::Mark { state }),
+        Op::Unmark { state } => switched(false, Subject::Mark { state }),
     }
 }
 
@@ -263,13 +263,13 @@ fn own_trial(
 {
     let subject = switch.subject;
     match subject {
-        Subject::Move { from, to } => {
+        Subject::Edge { from, to } => {
             if switch.on {
                 return add_trial(size, targets, starts, from, to);
             }
             cut_trial(size, targets, starts, from, to)
         }
-        Subject::Pay { state } => {
+        Subject::Mark { state } => {
             if switch.on {
                 return mark_trial(size, words, state);
             }
@@ -310,7 +310,7 @@ fn file_one(
 {
     let subject = switch.subject;
     match subject {
-        Subject::Move { from, to } => {
+        Subject::Edge { from, to } => {
             if switch.on {
                 rows::insert(targets, starts, size, from, to);
                 return;
@@ -318,7 +318,7 @@ fn file_one(
             let k = rows::place(targets, starts, from, to);
             rows::remove(targets, starts, size, from, k);
         }
-        Subject::Pay { state } => {
+        Subject::Mark { state } => {
             if switch.on {
                 marks::set_mark(words, wide(state));
                 return;
@@ -354,7 +354,7 @@ pub fn named_by(switch: Switch) -> u16
 {
     let subject = switch.subject;
     match subject {
-        Subject::Move { from, to } => from,
-        Subject::Pay { state } => state,
+        Subject::Edge { from, to } => from,
+        Subject::Mark { state } => state,
     }
 }
