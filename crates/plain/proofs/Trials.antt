@@ -129,6 +129,11 @@ change-never-7 (unmark s) t room = never-handed 7 _ refl
 
 -- ---- orders that are easily mistaken
 
+-- a state to be marked that pays already: 13, however short the lent list is
+pub marked-before-short : (t : Table) (s room : ℕ) → beyond (t .size) s ≡ false → accepts (t .words) s ≡ true → changeTrial (mark s) t room ≡ refused 13
+unfolding changeTrial conditions
+marked-before-short t s room f h = held-later _ _ f ∙ held-first _ _ h
+
 -- a present move added to a full table: 8, not 9
 pub present-before-full : (t : Table) (e : Edge) (room : ℕ) → outside (t .size) e ≡ false → present (t .edges) e ≡ true → changeTrial (add e) t room ≡ refused 8
 unfolding changeTrial conditions
@@ -138,11 +143,6 @@ present-before-full t e room f h = held-later _ _ f ∙ held-first _ _ h
 pub outside-before-absent : (t : Table) (e : Edge) (room : ℕ) → outside (t .size) e ≡ true → changeTrial (cut e) t room ≡ refused 6
 unfolding changeTrial conditions
 outside-before-absent t e room h = held-first _ _ h
-
--- a state to be marked that pays already: 13, however short the lent list is
-pub marked-before-short : (t : Table) (s room : ℕ) → beyond (t .size) s ≡ false → accepts (t .words) s ≡ true → changeTrial (mark s) t room ≡ refused 13
-unfolding changeTrial conditions
-marked-before-short t s room f h = held-later _ _ f ∙ held-first _ _ h
 
 -- a loaded move that names a state outside comes before every repeated one, wherever they stand in the list
 pub outside-before-repeated : (l : Load) (room : ℕ) → badSize (l .size) ≡ false → badStart (l .size) (l .start) ≡ false → badMarks (l .size) (l .words) ≡ false → badCount (l .numbers) ≡ false
