@@ -60,13 +60,13 @@ abbrev pub there : List ℕ → List ℕ → ℕ → ℕ → Bool
 there targets starts from to = ltb (placeOf to (rowAt targets starts from)) (degreeAt starts from)
 
 -- 6, 8 and 9 of an add, read off the rows
-unfoldable pub addConditions : ℕ → Rows → ℕ → ℕ → List (ℕ × Bool)
-addConditions size r from to =
-    (6, outside size (from, to)) ∷ (8, there (r .targets) (r .starts) from to) ∷ (9, leb 2048 (edgeCount (r .starts) size)) ∷ []
+unfoldable pub addConditions : ℕ → List ℕ → List ℕ → ℕ → ℕ → List (ℕ × Bool)
+addConditions size targets starts from to =
+    (6, outside size (from, to)) ∷ (8, there targets starts from to) ∷ (9, leb 2048 (edgeCount starts size)) ∷ []
 
 -- 6 and 10 of a cut
-unfoldable pub cutConditions : ℕ → Rows → ℕ → ℕ → List (ℕ × Bool)
-cutConditions size r from to = (6, outside size (from, to)) ∷ (10, not (there (r .targets) (r .starts) from to)) ∷ []
+unfoldable pub cutConditions : ℕ → List ℕ → List ℕ → ℕ → ℕ → List (ℕ × Bool)
+cutConditions size targets starts from to = (6, outside size (from, to)) ∷ (10, not (there targets starts from to)) ∷ []
 
 -- 6 and 13 of a mark, read off the words
 unfoldable pub markConditions : ℕ → List ℕ → ℕ → List (ℕ × Bool)
@@ -78,8 +78,8 @@ unmarkConditions size words state = (6, beyond size state) ∷ (14, not (accepts
 
 -- the conditions of a change itself
 abbrev pub conditionsIn : Op → ℕ → Arrays → List (ℕ × Bool)
-conditionsIn (Add from to) size a = addConditions size (a .rows) from to
-conditionsIn (Cut from to) size a = cutConditions size (a .rows) from to
+conditionsIn (Add from to) size a = addConditions size (a .rows .targets) (a .rows .starts) from to
+conditionsIn (Cut from to) size a = cutConditions size (a .rows .targets) (a .rows .starts) from to
 conditionsIn (Mark state) size a = markConditions size (a .words) state
 conditionsIn (Unmark state) size a = unmarkConditions size (a .words) state
 

@@ -4,7 +4,6 @@ ghost use mathlib.Core.Path.{_≡_};
 ghost use Rattle.plain.specs.Lists.{any};
 ghost use Rattle.plain.specs.Refusals.{firstHeld, badMarks, outside, roomCondition, pairs};
 ghost use Rattle.rows.specs.Rows.{Tabled};
-ghost use Rattle.rows.specs.Change.{rowsOf};
 ghost use Rattle.table.specs.Trials.{arraysOf, opOf, stateOf, tried, earlyTrial, there, addConditions, cutConditions, markConditions, unmarkConditions, conditionsIn, trialIn};
 ghost use Rattle.table.specs.Filing.{filedIn, Attempted, Empty, Limits, FiledAll, Tried};
 
@@ -178,7 +177,7 @@ fn is_outside(size: u16, from: u16, to: u16) -> bool
 // Refusals 6, 8 and 9 of an add.
 fn add_trial(size: u16, targets: &[u16; 2048], starts: &[u16; 513], from: u16, to: u16) -> Trial
     requires { ⌜ Tabled (now targets) (now starts) ⌝ }
-    ensures { λ r. ⌜ r ≡ tried (firstHeld (addConditions size (rowsOf (now (targets .entry)) (now (starts .entry))) from to)) ⌝ }
+    ensures { λ r. ⌜ r ≡ tried (firstHeld (addConditions size (now (targets .entry)) (now (starts .entry)) from to)) ⌝ }
 {
     if is_outside(size, from, to) {
         return Trial::Refused(6);
@@ -195,7 +194,7 @@ fn add_trial(size: u16, targets: &[u16; 2048], starts: &[u16; 513], from: u16, t
 // Refusals 6 and 10 of a cut.
 fn cut_trial(size: u16, targets: &[u16; 2048], starts: &[u16; 513], from: u16, to: u16) -> Trial
     requires { ⌜ Tabled (now targets) (now starts) ⌝ }
-    ensures { λ r. ⌜ r ≡ tried (firstHeld (cutConditions size (rowsOf (now (targets .entry)) (now (starts .entry))) from to)) ⌝ }
+    ensures { λ r. ⌜ r ≡ tried (firstHeld (cutConditions size (now (targets .entry)) (now (starts .entry)) from to)) ⌝ }
 {
     if is_outside(size, from, to) {
         return Trial::Refused(6);

@@ -9,7 +9,6 @@ use borrow.Author.Needs.{needs}
 use borrow.Author.Tests.{le-leb, lt-leb}
 use Rattle.plain.specs.Refusals.{firstHeld}
 use Rattle.rows.specs.Rows.{edgeCount}
-use Rattle.rows.specs.Change.{rowsOf}
 use Rattle.table.specs.declared.Trial.{Trial}
 use Rattle.table.specs.declared.Trial.the-variants.{Accepted, Refused}
 use Rattle.table.specs.Trials.{tried, addConditions}
@@ -38,7 +37,7 @@ edge-count-requires c κs = search needs
 
 -- the last condition decides
 last : (c : tie.Else2) (k : Trial) → let a = c .before .before .before .before .args in
-    k ≡ tried (firstHeld ((9, leb 2048 (edgeCount (now (a .starts)) (a .size))) ∷ [])) → k ≡ tried (firstHeld (addConditions (a .size) (rowsOf (now (a .targets)) (now (a .starts))) (a .from) (a .to)))
+    k ≡ tried (firstHeld ((9, leb 2048 (edgeCount (now (a .starts)) (a .size))) ∷ [])) → k ≡ tried (firstHeld (addConditions (a .size) (now (a .targets)) (now (a .starts)) (a .from) (a .to)))
 unfolding addConditions
 last c k h =
     let o = c .before .before in
