@@ -26,8 +26,8 @@ pub enum Subject {
     Mark { state: u16 },
 }
 
-// A change as it is made. Each test of it has two ways out. A match of four has a fifth in the compiled code, which is never taken, but for its sake the compiler
-// holds the session once more: 6,000 bytes of stack and 1,300 instructions a change.
+// A change as it is made: what is switched, and whether it comes or goes. Every test of it has two ways out: a match of the four kinds between the copies of the
+// session out and in would cost a third copy (docs/DECISIONS.md, 68).
 pub struct Switch {
     pub on: bool,
     pub subject: Subject,
@@ -231,6 +231,7 @@ fn unmark_trial(size: u16, words: &[u64; 8], state: u16) -> Trial
     Trial::Accepted
 }
 
+// It comes, or it goes.
 fn switched(on: bool, subject: Subject) -> Switch
     ensures { λ r. ⌜ r ≡ record { on = on; subject = subject } ⌝ }
 {
