@@ -11,7 +11,7 @@ use Rattle.plain.specs.Lists.{any}
 use Rattle.plain.specs.Search.{Edge, Verdict, verdict, count}
 use Rattle.plain.specs.Table.{Table, final}
 use Rattle.plain.specs.Refusals.{Trial, accepted, refused, pairs, flat, badCount, outside, repeated, shortRoom, loadTrial}
-use Rattle.plain.specs.Machine.{apply, kept, Answer, answer, tableOf, loadAnswer, changeAnswer, after, Call, trialOf, answerTo, tableAfter}
+use Rattle.plain.specs.Machine.{apply, answer, tableOf, loadAnswer, changeAnswer, after, Call, trialOf, answerTo, tableAfter}
 use Rattle.plain.specs.Claims.{Arises, changed, loadFrom, AsFresh}
 use Rattle.plain.proofs.Tests.{or-neither}
 use Rattle.plain.proofs.Trials.{held-later, accepted-when}
