@@ -5,7 +5,7 @@ use mathlib.Core.Bool.{true, false}
 use mathlib.Core.List.{List, [], _∷_, _++_, reverse, reverse-append}
 use Prim.Native.Nat.{ℕ, zero, suc, _+_, _*_, _-_, _≤_, _<_}
 use native.Mathlib.Omega.{arith}
-use lib.Dec.{eqb, leb}
+use lib.Dec.{eqb}
 use lib.ListN.{length, take, length-append, length-reverse}
 use lib.Seq.{take-at, drop-at}
 use borrow.Author.Tests.{leb-false, eqb-false}
@@ -17,7 +17,7 @@ use Rattle.plain.specs.Refusals.{badStart, outside, accepted}
 use Rattle.plain.specs.Machine.{Change, named, apply, kept, Call, trialOf}
 use Rattle.plain.specs.Notes.{Notes, notes, Faithful}
 use Rattle.plain.specs.Claims.{Arises, changed, times, VerdictRight, clear, round, reportOf, ReportRight, KeptRight}
-use Rattle.plain.proofs.Tests.{either, not-in, in-nil, in-head, in-tail, in-cases, or-first, or-false, one-le, none-cons, any-in}
+use Rattle.plain.proofs.Tests.{either, not-in, in-nil, in-head, in-tail, in-cases, or-first, one-le, none-cons, any-in}
 use Rattle.plain.proofs.Runs.{lasso-free, lasso-inside}
 use Rattle.plain.proofs.Lassos.{sound, none-right}
 use Rattle.plain.proofs.Bounds.{left, left-add, left-const, left-alone, once-short, times-reverse, probes-twice, each-twice, ended-by}
@@ -25,7 +25,7 @@ use Rattle.plain.proofs.Prefix.{FirstMeeting, first-meeting}
 use Rattle.plain.proofs.Resume.{one-end, one-until, met-at-end, until-end, until-at, probes-grow, holds-notes, unchanged, resumed}
 use Rattle.plain.proofs.Edges.{Has, has-cases, has-nil}
 use Rattle.plain.proofs.Rows.{row-nil, row-length, row-has, row-once, agree}
-use Rattle.plain.proofs.Tables.{Valid, valid}
+use Rattle.plain.proofs.Tables.{Valid, valid, inside-both}
 
 -- ---- the states of a table
 
@@ -107,10 +107,9 @@ module _ (t : Table) (v : Valid t) where
   start-in = upto-in (t .start) (t .size) (leb-false (t .size) (t .start) (v .start-ok))
 
   pub target-in : (x y : ℕ) → In x (states t) → In y (searched t .successors x) → In y (states t)
-  unfolding outside
   target-in x y i j =
       let f = has-inside (t .size) (t .edges) (x, y) (v .inside) (row-has (t .edges) x y j) in
-      upto-in y (t .size) (leb-false (t .size) y (or-false (leb (t .size) x) (leb (t .size) y) f .1))
+      upto-in y (t .size) (inside-both (t .size) (x, y) f .1)
 
   edges-few : left (λ x. length (searched t .successors x)) [] (states t) ≤ length (t .edges)
   edges-few = total-le (t .edges) (states t) (states-once t)

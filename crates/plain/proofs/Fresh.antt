@@ -2,20 +2,18 @@
 use mathlib.Core.Path.{_≡_, refl, sym, ap, _∙_}
 use mathlib.Core.Bool.{false}
 use mathlib.Core.List.{List, [], _∷_}
-use Prim.Native.Nat.{ℕ, _+_, _*_, _-_, _%_, _≤_}
+use Prim.Native.Nat.{ℕ, _+_, _*_, _-_, _≤_}
 use native.Mathlib.Omega.{arith}
-use lib.Dec.{eqb, ltb}
 use lib.ListN.{length}
-use borrow.Author.Tests.{ne-eqb, le-ltb}
+use borrow.Author.Tests.{le-ltb}
 use Rattle.plain.specs.Lists.{any}
 use Rattle.plain.specs.Search.{Edge, Verdict, verdict, count}
 use Rattle.plain.specs.Table.{Table, final}
 use Rattle.plain.specs.Refusals.{Trial, accepted, refused, pairs, flat, badCount, outside, repeated, shortRoom, loadTrial}
 use Rattle.plain.specs.Machine.{apply, answer, tableOf, loadAnswer, changeAnswer, after, Call, trialOf, answerTo, tableAfter}
 use Rattle.plain.specs.Claims.{Arises, changed, loadFrom, AsFresh}
-use Rattle.plain.proofs.Tests.{or-neither}
 use Rattle.plain.proofs.Trials.{held-later, accepted-when}
-use Rattle.plain.proofs.Tables.{Valid, valid, room-enough, changed-size}
+use Rattle.plain.proofs.Tables.{Valid, valid, count-fine, room-enough, changed-size}
 use Rattle.plain.proofs.Demands.{demand-3-kept}
 
 -- ---- the numbers of moves
@@ -30,11 +28,8 @@ unfolding flat
 length-flat [] = refl
 length-flat (e ∷ es) = omega (arith, length-flat es)
 
-count-fine : (es : List Edge) → length es ≤ 2048 → badCount (flat es) ≡ false
-unfolding badCount
-count-fine es h =
-    or-neither (eqb (length (flat es) % 2) 1) (ltb 4096 (length (flat es)))
-    (ne-eqb (length (flat es) % 2) 1 (λ e. omega (arith, length-flat es))) (le-ltb 4096 (length (flat es)) (omega (arith, length-flat es)))
+flat-fine : (es : List Edge) → length es ≤ 2048 → badCount (flat es) ≡ false
+flat-fine es h = count-fine (flat es) (λ e. omega (arith, length-flat es)) (omega (arith, length-flat es))
 
 -- ---- a table as it stands
 
@@ -45,7 +40,7 @@ fresh-table t = λ i. record { size = t .size; start = t .start; words = t .word
 pub fresh-accepted : (t : Table) → Valid t → (room : ℕ) → t .size ≤ room → loadTrial (loadFrom t) room ≡ accepted
 unfolding any loadTrial loadFrom shortRoom
 fresh-accepted t v room h =
-    held-later _ _ (v .size-ok) ∙ held-later _ _ (v .start-ok) ∙ held-later _ _ (v .marks-ok) ∙ held-later _ _ (count-fine (t .edges) (v .count-ok))
+    held-later _ _ (v .size-ok) ∙ held-later _ _ (v .start-ok) ∙ held-later _ _ (v .marks-ok) ∙ held-later _ _ (flat-fine (t .edges) (v .count-ok))
     ∙ held-later _ _ (ap (any (outside (t .size))) (pairs-flat (t .edges)) ∙ v .inside) ∙ held-later _ _ (ap repeated (pairs-flat (t .edges)) ∙ v .once)
     ∙ held-later _ _ (le-ltb _ _ h) ∙ accepted-when [] refl
 

@@ -3,11 +3,11 @@ use mathlib.Core.Path.{_≡_, refl, ap, _∙_}
 use mathlib.Core.Logic.{_≢_, ⊎-elim}
 use mathlib.Core.Bool.{Bool, false, _&&_, not}
 use mathlib.Core.List.{List, [], _∷_, _++_}
-use Prim.Native.Nat.{ℕ, _*_, _%_, _≤_}
+use Prim.Native.Nat.{ℕ, _*_, _%_, _≤_, _<_}
 use native.Mathlib.Omega.{arith}
 use lib.Dec.{eqb, ltb, leb}
 use lib.ListN.{length, length-append}
-use borrow.Author.Tests.{ltb-false, leb-false, eqb-false}
+use borrow.Author.Tests.{ltb-false, leb-false, eqb-false, ne-eqb, le-ltb}
 use Rattle.plain.specs.Lists.{any, anyBelow, filter}
 use Rattle.plain.specs.Search.{Edge}
 use Rattle.plain.specs.Table.{Table, accepts, withMark, withoutMark}
@@ -81,6 +81,16 @@ unfolding pairs
 length-pairs [] = omega arith
 length-pairs (a ∷ []) = omega arith
 length-pairs (a ∷ b ∷ ns) = omega (arith, length-pairs ns)
+
+-- a move that is not outside: both its states are inside
+pub inside-both : (n : ℕ) (e : Edge) → outside n e ≡ false → (e .0 < n) × (e .1 < n)
+unfolding outside
+inside-both n e f = let w = or-false (leb n (e .0)) (leb n (e .1)) f in (leb-false n (e .0) (w .0), leb-false n (e .1) (w .1))
+
+-- numbers for whole moves, and not too many
+pub count-fine : (ns : List ℕ) → (length ns % 2 ≡ 1 → ⊥) → length ns ≤ 4096 → badCount ns ≡ false
+unfolding badCount
+count-fine ns e h = or-neither (eqb (length ns % 2) 1) (ltb 4096 (length ns)) (ne-eqb (length ns % 2) 1 e) (le-ltb 4096 (length ns) h)
 
 -- ---- every table of a session is valid
 

@@ -16,7 +16,7 @@ use Rattle.plain.specs.Machine.{without, withWords, apply, conditions, changeTr
 use Rattle.plain.proofs.Tests.{either, or-false}
 use Rattle.plain.proofs.Rows.{row-once, row-cut, row-cut-other, without-length, but, but-yes, but-no}
 use Rattle.plain.proofs.Trials.{unheld}
-use Rattle.plain.proofs.Tables.{Valid}
+use Rattle.plain.proofs.Tables.{Valid, inside-both}
 use Rattle.rows.specs.Rows.{rowAt, degreeAt, placeOf, Tabled}
 use Rattle.rows.specs.Change.{Rows, removed}
 use Rattle.rows.proofs.Entries.{row-length}
@@ -48,9 +48,9 @@ named-same false (Subject.Mark state) = refl
 
 -- the state that an accepted change names
 pub named-below : (op : Op) (t : Table) (room : ℕ) → changeTrial (changeOf op) t room ≡ accepted → namedBy op < t .size
-unfolding changeTrial conditions outside beyond
-named-below (Add from to) t room e = leb-false (t .size) from (or-false (leb (t .size) from) (leb (t .size) to) (unheld 6 _ e) .0)
-named-below (Cut from to) t room e = leb-false (t .size) from (or-false (leb (t .size) from) (leb (t .size) to) (unheld 6 _ e) .0)
+unfolding changeTrial conditions beyond
+named-below (Add from to) t room e = inside-both (t .size) (from, to) (unheld 6 _ e) .0
+named-below (Cut from to) t room e = inside-both (t .size) (from, to) (unheld 6 _ e) .0
 named-below (Mark state) t room e = leb-false (t .size) state (unheld 6 _ e)
 named-below (Unmark state) t room e = leb-false (t .size) state (unheld 6 _ e)
 

@@ -6,9 +6,9 @@ use mathlib.Core.List.{List, [], _∷_, _++_, append-nil, append-assoc}
 use Prim.Native.Nat.{ℕ, suc, _+_, _%_, _≤_, _<_}
 use native.Mathlib.Decide.{ℕ-discrete}
 use native.Mathlib.Omega.{arith}
-use lib.Dec.{eqb, ltb, leb, leb·suc-suc}
+use lib.Dec.{eqb, ltb, leb·suc-suc}
 use lib.ListN.{length, drop, replicate, length-append}
-use borrow.Author.Tests.{lt-ltb, ltb-false, leb-false, ne-eqb}
+use borrow.Author.Tests.{lt-ltb, ltb-false, ne-eqb}
 use Rattle.plain.specs.Lists.{any, elem}
 use Rattle.plain.specs.Search.{Edge}
 use Rattle.plain.specs.Table.{row}
@@ -16,7 +16,7 @@ use Rattle.plain.specs.Refusals.{firstHeld, badSize, badCount, outside, roomCon
 use Rattle.plain.proofs.Tests.{or-first, or-second, or-false, none-cons}
 use Rattle.plain.proofs.Edges.{Has, has-head, has-tail, has-cases, has-nil}
 use Rattle.plain.proofs.Rows.{row-nil, row-has, has-row, row-add, row-add-other}
-use Rattle.plain.proofs.Tables.{length-pairs, repeated-add}
+use Rattle.plain.proofs.Tables.{length-pairs, repeated-add, inside-both}
 use Rattle.rows.specs.Rows.{rowAt, edgeCount, placeOf}
 use Rattle.rows.specs.Change.{Rows, rowsOf, inserted}
 use Rattle.rows.proofs.Entries.{row-length}
@@ -145,10 +145,9 @@ module _ (size : ℕ) where
 
       module _ (within : any (outside size) (pairs numbers) ≡ false) (few : length (pairs numbers) ≤ 2048) where
         source : move .0 < size
-        unfolding outside
         source =
             let o : outside size move ≡ false = none-within (outside size) (f .edges) move later (ap (any (outside size)) (sym parts) ∙ within) in
-            leb-false size (move .0) (or-false (leb size (move .0)) (leb size (move .1)) o .0)
+            inside-both size move o .0
 
         room : edgeCount starts size < 2048
         room = omega (arith, ap length parts, length-append (f .edges) (move ∷ later), f .filed .count-is)

@@ -103,10 +103,6 @@ module _ (ns : List ℕ) where
   unfolding badCount
   count-large h = or-second (eqb (length ns % 2) 1) (ltb 4096 (length ns)) (lt-ltb 4096 (length ns) h)
 
-  pub count-fine : (length ns % 2 ≡ 1 → ⊥) → length ns ≤ 4096 → badCount ns ≡ false
-  unfolding badCount
-  count-fine e h = or-neither (eqb (length ns % 2) 1) (ltb 4096 (length ns)) (ne-eqb (length ns % 2) 1 e) (le-ltb 4096 (length ns) h)
-
 -- ---- the early trial of a load
 
 module _ (size start : ℕ) (words numbers : List ℕ) (room : ℕ) where

@@ -7,10 +7,11 @@ use borrow.Author.Needs.{needs}
 use borrow.Author.Tests.{le-leb, lt-leb}
 use Rattle.plain.specs.Lists.{any}
 use Rattle.plain.specs.Refusals.{firstHeld, badSize, badStart, badMarks, badCount, outside, pairs}
+use Rattle.plain.proofs.Tables.{count-fine}
 use Rattle.table.specs.declared.Trial.{Trial}
 use Rattle.table.specs.declared.Trial.the-variants.{Accepted, Refused}
 use Rattle.table.specs.Trials.{tried, earlyTrial}
-use Rattle.table.proofs.Trying.{stop, skip, none-held, size-none, size-large, size-fine, count-odd, count-large, count-fine}
+use Rattle.table.proofs.Trying.{stop, skip, none-held, size-none, size-large, size-fine, count-odd, count-large}
 use Rattle.table.proofs.early_trial.Statement.{statement}
 use Rattle.table.proofs.early_trial.Tie as tie
 
