@@ -1,77 +1,16 @@
 // The paying marks: eight 64-bit words. State s has bit (s mod 64) of word (s div 64).
 ghost use mathlib.Core.Path.{_≡_};
+ghost use Prim.Native.Nat.{_%_, _^_};
 ghost use Rattle.plain.specs.Table.{accepts, withMark, withoutMark, acceptingCount};
 
-// 2 to the power 0 up to 63.
-const MASKS: [u64; 64] = [
-    1,
-    2,
-    4,
-    8,
-    16,
-    32,
-    64,
-    128,
-    256,
-    512,
-    1024,
-    2048,
-    4096,
-    8192,
-    16384,
-    32768,
-    65536,
-    131072,
-    262144,
-    524288,
-    1048576,
-    2097152,
-    4194304,
-    8388608,
-    16777216,
-    33554432,
-    67108864,
-    134217728,
-    268435456,
-    536870912,
-    1073741824,
-    2147483648,
-    4294967296,
-    8589934592,
-    17179869184,
-    34359738368,
-    68719476736,
-    137438953472,
-    274877906944,
-    549755813888,
-    1099511627776,
-    2199023255552,
-    4398046511104,
-    8796093022208,
-    17592186044416,
-    35184372088832,
-    70368744177664,
-    140737488355328,
-    281474976710656,
-    562949953421312,
-    1125899906842624,
-    2251799813685248,
-    4503599627370496,
-    9007199254740992,
-    18014398509481984,
-    36028797018963968,
-    72057594037927936,
-    144115188075855872,
-    288230376151711744,
-    576460752303423488,
-    1152921504606846976,
-    2305843009213693952,
-    4611686018427387904,
-    9223372036854775808,
-];
+// The mask of state s: 2 to the power of its position, which is s mod 64.
+fn mask(s: usize) -> u64
+    ensures { λ r. ⌜ r ≡ 2 ^ (s % 64) ⌝ }
+{
+    1 << (s % 64)
+}
 
 // Does state s pay, by words that are lent? No for a state past the last word.
-// The word is shifted down: MASKS is written to the stack at each use, and the search asks once for each state.
 pub fn accepts_in(words: &[u64], s: usize) -> bool
     ensures { λ r. ⌜ r ≡ accepts (now (words .entry)) s ⌝ }
 {
@@ -89,9 +28,8 @@ pub fn set_mark(words: &mut [u64], s: usize)
     ensures { λ r. ⌜ now (words .exit) ≡ withMark (now (words .entry)) s ⌝ }
 {
     let word = s / 64;
-    let bit = s % 64;
     if word < words.len() {
-        words[word] = words[word] | MASKS[bit];
+        words[word] = words[word] | mask(s);
     }
 }
 
@@ -100,10 +38,9 @@ pub fn clear_mark(words: &mut [u64], s: usize)
     ensures { λ r. ⌜ now (words .exit) ≡ withoutMark (now (words .entry)) s ⌝ }
 {
     let word = s / 64;
-    let bit = s % 64;
     if word < words.len() {
         let w = words[word];
-        words[word] = w - (w & MASKS[bit]);
+        words[word] = w - (w & mask(s));
     }
 }
 
