@@ -1,7 +1,8 @@
 """Texts for the benchmark: a game with about four moves a state, then changes that are all accepted.
 
 Moves lead on in a hidden order, so there is no round, but for a ring with a paying state that nothing leads to. Rounds
-come and go with the changes: through moves that lead back past a paying state, or through a move into the ring.
+come and go with the changes: through moves that lead back past a paying state, or through a move into the ring. Where the
+changes are at a stem, the walk along it into the ring is there from the load on, and stays.
 """
 
 import pathlib
@@ -18,6 +19,7 @@ KINDS = {
     "far": "at states that the search meets late",
     "start": "at the start state",
     "random": "at states drawn at random",
+    "stem": "at states of a long stem, of moves that the search had not come to",
 }
 
 
@@ -29,14 +31,23 @@ class Game:
         self.order, self.ring = order[:-ring], order[-ring:]
         self.place = {s: i for i, s in enumerate(self.order)}
         pays = rng.sample(self.order[1:], max(2, size // 8)) + [self.ring[0]]
-        moves = dict.fromkeys(zip(self.order, self.order[1:]))
-        moves.update(dict.fromkeys(zip(self.ring, self.ring[1:] + self.ring[:1])))
-        while len(moves) < 4 * size - 32:       # room for moves that come
-            moves[self.onward(rng.choice(self.order[:-1]))] = None
-        shuffled = rng.sample(list(moves), len(moves))
-        self.text = Text(size, self.order[0], pays, shuffled)
-        marks = [s in pays for s in range(size)]
-        self.met = list(plain_search(size, self.order[0], marks, shuffled).met_after)
+        moves = self.first_moves(list(zip(self.ring, self.ring[1:] + self.ring[:1])), 4 * size - 32)        # room for moves that come
+        self.text = Text(size, self.order[0], pays, moves)
+        self.run = plain_search(size, self.order[0], [s in pays for s in range(size)], moves)
+        self.closed = []                        # the moves that may have closed a round; few stand at a time
+
+    def first_moves(self, ring, count):
+        return self.shuffled(self.leading_on(self.order, ring, count))
+
+    def leading_on(self, order, ring, count):
+        """The order's moves and the ring's, and more that lead on."""
+        moves = dict.fromkeys([*zip(order, order[1:]), *ring])
+        while len(moves) < count:
+            moves[self.onward(self.rng.choice(order[:-1]))] = None
+        return list(moves)
+
+    def shuffled(self, moves):
+        return self.rng.sample(moves, len(moves))
 
     def onward(self, state):
         at = self.place[state]
@@ -54,12 +65,13 @@ class Game:
         if kind == "start":
             return self.order[0]
         if kind == "far":
-            return self.rng.choice(self.met[-len(self.met) // 8:])
+            met = list(self.run.met_after)
+            return self.rng.choice(met[-len(met) // 8:])
         return self.rng.choice(self.order)
 
-    def change(self, kind, closed):
-        """One accepted change. closed: the moves that may have closed a round; few stand at a time."""
-        rng, text = self.rng, self.text
+    def change(self, kind):
+        """One accepted change."""
+        rng, text, closed = self.rng, self.text, self.closed
         state = self.state(kind)
         last = self.order[-1]
         if closed and rng.random() < 0.35:
@@ -77,11 +89,33 @@ class Game:
             return text.add(move)
 
 
+class Stem(Game):
+    """The first quarter of the order is a stem. Its states lead to states behind it before they lead along it, so the search has
+    finished most states when it comes to the ring, and it has not finished those of the stem."""
+
+    def first_moves(self, ring, count):
+        stem, rest = self.order[:self.size // 4], self.order[self.size // 4:]
+        along = list(zip(stem, stem[1:] + self.ring[:1]))
+        aside = dict.fromkeys((s, self.rng.choice(rest)) for s in stem * 2)
+        behind = dict.fromkeys((s, self.rng.choice(stem)) for s in stem).keys() - along
+        return self.shuffled(self.leading_on(rest, ring, count - 5 * len(stem)) + [*aside]) + along + sorted(behind)
+
+    def change(self, kind):
+        """One accepted change: a move that comes behind the one along the stem, or goes from there."""
+        rng, text = self.rng, self.text
+        state = rng.choice(self.run.stem)
+        unseen = [m for m in text.moves if m[0] == state and m not in self.run.looks]
+        if len(unseen) > 1:
+            return text.cut(rng.choice(unseen))
+        move = state, rng.choice(self.order)
+        if move not in text.moves:
+            return text.add(move)
+
+
 def text(seed, size, kind, count):
     """Head, up to `go`, and the lines of the changes."""
-    game = Game(random.Random("%s %d %s" % (seed, size, kind)), size)
+    game = (Stem if kind == "stem" else Game)(random.Random("%s %d %s" % (seed, size, kind)), size)
     head = len(game.text.rows)
-    closed = []
     while len(game.text.rows) < head + count:
-        game.change(kind, closed)
+        game.change(kind)
     return as_lines(game.text.rows[:head]), as_lines(game.text.rows[head:])

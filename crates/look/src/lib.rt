@@ -4,7 +4,7 @@ use rows::wide;
 ghost use mathlib.Core.Path.{_≡_};
 ghost use Prim.Native.Nat.{_+_, _-_, _%_, _<_};
 ghost use lib.ListN.{length, getD, set, replicate};
-ghost use Rattle.rows.specs.Rows.{Tabled};
+ghost use Rattle.rows.specs.Rows.{entries, placeOf, Tabled};
 ghost use Rattle.look.specs.Numbers.{up as upped, further as oneFurther, plus as added};
 ghost use Rattle.look.specs.Scan.{Places, Spans, rowIn, Swept};
 
@@ -83,6 +83,21 @@ pub fn put(a: &mut [u16; 512], v: u16, x: u16)
     if i < STATES {
         a[i] = x;
     }
+}
+
+// The place of x among the first n entries, 0 standing past the end; n where it is not there.
+pub fn find(a: &[u16; 512], n: u16, x: u16) -> u16
+    requires { ⌜ length (now a) ≡ 512 ⌝ }
+    ensures { λ r. ⌜ r ≡ placeOf x (entries n 0 (now (a .entry))) ⌝ }
+{
+    let mut i: u16 = 0;
+    while i < n {
+        if get(a, i) == x {
+            return i;
+        }
+        i += 1;
+    }
+    i
 }
 
 // x at each entry.

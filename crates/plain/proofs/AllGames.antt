@@ -3,10 +3,10 @@
 use mathlib.Core.Path.{_≡_, refl, ap₂}
 use mathlib.Core.List.{List, [], _∷_, map}
 use Rattle.plain.specs.Lists.{any, filter, anyBelow, elem, before, from}
-use Rattle.plain.specs.Search.{onPath, step, steps, until, statesOf, stemOf, cycleOf, verdict}
+use Rattle.plain.specs.Search.{onPath, finishes, step, steps, finished, until, statesOf, stemOf, cycleOf, verdict}
 use Rattle.plain.specs.Table.{bit, accepts, withBit, withMark, withoutBit, withoutMark, countBelow, acceptingCount, row, budget, final, firstMeeting}
 use Rattle.plain.specs.Refusals.{firstHeld, pairs, sameEdge, present, badSize, badStart, badMarks, badCount, outside, repeated, beyond, full, shortRoom, loadTrial}
-use Rattle.plain.specs.Machine.{named, tableOf, without, apply, conditions, changeTrial, kept, loadAnswer, changeAnswer, trialOf, answerTo, tableAfter, answers, answerLine, answerLines, Line, gameLine, noneLine, transcript}
+use Rattle.plain.specs.Machine.{named, tableOf, without, apply, conditions, changeTrial, unexplored, keptPart, kept, loadAnswer, changeAnswer, trialOf, answerTo, tableAfter, answers, answerLine, answerLines, Line, gameLine, noneLine, transcript}
 use Rattle.plain.specs.Games.{Known, wordOf, known, lent, returning, games}
 
 -- the lines printed for a game
@@ -24,8 +24,8 @@ two-payers = known 4 (0 ∷ 1 ∷ []) (0 ∷ 1 ∷ 1 ∷ 2 ∷ []) [] (gameLine 
 
 -- that one, and the known ones
 as-known : AsKnown (two-payers ∷ games)
-unfolding any filter anyBelow elem before from onPath step steps until statesOf stemOf cycleOf verdict bit accepts withBit withMark withoutBit withoutMark countBelow acceptingCount row budget final firstMeeting firstHeld pairs sameEdge present badSize badStart badMarks badCount outside repeated beyond full shortRoom loadTrial named tableOf without apply conditions changeTrial kept loadAnswer changeAnswer trialOf answerTo tableAfter answers answerLine answerLines transcript wordOf known lent returning games two-payers
-as-known = (refl, (refl, (refl, (refl, (refl, (refl, (refl, (refl, (refl, (refl, (refl, (refl, (refl, (refl, (refl, (refl, (refl, (refl, (refl, tt)))))))))))))))))))
+unfolding any filter anyBelow elem before from onPath finishes step steps finished until statesOf stemOf cycleOf verdict bit accepts withBit withMark withoutBit withoutMark countBelow acceptingCount row budget final firstMeeting firstHeld pairs sameEdge present badSize badStart badMarks badCount outside repeated beyond full shortRoom loadTrial named tableOf without apply conditions changeTrial unexplored keptPart kept loadAnswer changeAnswer trialOf answerTo tableAfter answers answerLine answerLines transcript wordOf known lent returning games two-payers
+as-known = (refl, (refl, (refl, (refl, (refl, (refl, (refl, (refl, (refl, (refl, (refl, (refl, (refl, (refl, (refl, (refl, (refl, (refl, (refl, (refl, (refl, tt)))))))))))))))))))))
 
 all-of : (ks : List Known) → AsKnown ks → map printed ks ≡ map (λ (k : Known). k .lines) ks
 all-of [] h = refl

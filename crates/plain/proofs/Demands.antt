@@ -1,6 +1,6 @@
 -- Demand 2 and the meaning of "kept", for every table that a session can hold. Assumes nothing.
 use mathlib.Core.Path.{_≡_, refl, sym, ap, _∙_}
-use mathlib.Core.Logic.{_≢_, ⊎-elim}
+use mathlib.Core.Logic.{_≢_, _⊎_, inl, inr, ⊎-elim}
 use mathlib.Core.Bool.{true, false}
 use mathlib.Core.List.{List, [], _∷_, _++_, reverse, reverse-append}
 use Prim.Native.Nat.{ℕ, zero, suc, _+_, _*_, _-_, _≤_, _<_}
@@ -10,22 +10,25 @@ use lib.ListN.{length, take, length-append, length-reverse}
 use lib.Seq.{take-at, drop-at}
 use borrow.Author.Tests.{leb-false, eqb-false}
 use Rattle.plain.specs.Lists.{any, elem, In, Once}
-use Rattle.plain.specs.Search.{Graph, Edge, Config, probesOf, taken, count, meets, run, Verdict, none, lasso, unfinished, verdict}
+use Rattle.plain.specs.Search.{Graph, Edge, Config, discoveredOf, probesOf, taken, count, meets, run, Verdict, none, lasso, unfinished, verdict}
 use Rattle.plain.specs.Cycles.{FreeRound, Lasso}
 use Rattle.plain.specs.Table.{Table, one, row, graphOf, searched, budget, final, firstMeeting}
 use Rattle.plain.specs.Refusals.{badStart, outside, accepted}
-use Rattle.plain.specs.Machine.{Change, named, apply, kept, Call, trialOf}
+use Rattle.plain.specs.Unexplored.{Shared, bare}
+use Rattle.plain.specs.Machine.{Change, named, apply, unexplored, keptPart, kept, Call, trialOf}
 use Rattle.plain.specs.Notes.{Notes, notes, Faithful}
 use Rattle.plain.specs.Claims.{Arises, changed, times, VerdictRight, clear, round, reportOf, ReportRight, KeptRight}
-use Rattle.plain.proofs.Tests.{either, not-in, in-nil, in-head, in-tail, in-cases, or-first, one-le, none-cons, any-in}
+use Rattle.plain.proofs.Tests.{contra, either, not-in, in-nil, in-head, in-tail, in-cases, or-first, one-le, none-cons, any-in}
 use Rattle.plain.proofs.Runs.{lasso-free, lasso-inside}
 use Rattle.plain.proofs.Lassos.{sound, none-right}
 use Rattle.plain.proofs.Bounds.{left, left-add, left-const, left-alone, once-short, times-reverse, probes-twice, each-twice, ended-by}
 use Rattle.plain.proofs.Prefix.{FirstMeeting, first-meeting}
-use Rattle.plain.proofs.Resume.{one-end, one-until, met-at-end, until-end, until-at, probes-grow, holds-notes, unchanged, resumed}
+use Rattle.plain.proofs.Resume.{one-end, one-until, met-at-end, until-end, until-at, probes-grow, holds-notes, resumed}
 use Rattle.plain.proofs.Edges.{Has, has-cases, has-nil}
 use Rattle.plain.proofs.Rows.{row-nil, row-length, row-has, row-once, agree}
 use Rattle.plain.proofs.Tables.{Valid, valid, inside-both}
+use Rattle.plain.proofs.SameRun.{shared-unmet, same-run, same-faithful, alike-discovered, alike-probes, alike-verdict}
+use Rattle.plain.proofs.Unexplored.{unexplored-shared}
 
 -- ---- the states of a table
 
@@ -217,6 +220,15 @@ pub run-final : (t : Table) → Valid t → (n : ℕ) → verdict (run (searched
 unfolding final
 run-final t v n h = one-end (searched t) n (budget t) h (ends t v)
 
+-- which part of the new search is kept
+pub kept-unexplored : (c : Change) (t : Table) → unexplored c t ≡ true → keptPart c t ≡ final (apply c t)
+unfolding keptPart
+kept-unexplored c t u = rw (u, keptPart)
+
+pub kept-explored : (c : Change) (t : Table) → unexplored c t ≡ false → keptPart c t ≡ firstMeeting (named c) (apply c t)
+unfolding keptPart
+kept-explored c t u = rw (u, keptPart)
+
 module _ (c : Change) (t : Table) (v : Valid t) (v′ : Valid (apply c t)) (n : ℕ) (ended : verdict (run (searched t) n) ≢ unfinished) where
   abbrev g : Graph
   g = searched t
@@ -224,28 +236,45 @@ module _ (c : Change) (t : Table) (v : Valid t) (v′ : Valid (apply c t)) (n : 
   abbrev h : Graph
   h = searched (apply c t)
 
-  -- No named state is met: the search on the changed table is the one before, to its end, and the notes stay right; every look is kept.
-  pub record Unmet (r : Notes) : Type 0 where
+  -- No named state has come past what its rows have in common: the search on the changed table is the one before, to its end, and the notes stay right; every
+  -- look is kept.
+  pub record Same (r : Notes) : Type 0 where
+    pub same-steps : bare (run h n) ≡ bare (run g n)
     pub still-ended : verdict (run h n) ≢ unfinished
     pub holds : Faithful h r n
-    pub same-final : final (apply c t) ≡ final t
-    pub same-run : run h n ≡ run g n
-    pub all-kept : firstMeeting (named c) (apply c t) ≡ final t
+    pub same-final : bare (final (apply c t)) ≡ bare (final t)
+    pub all-kept : keptPart c t ≡ final (apply c t)
 
-  pub change-unmet : (r : Notes) → meets (named c) (run g n) ≡ false → Faithful g r n → Unmet r
+  -- the search had not come to the move, or has met no named state
+  abbrev pub Untouched : Type 0
+  Untouched = (unexplored c t ≡ true) ⊎ (meets (named c) (run g n) ≡ false)
+
+  untouched-shared : Untouched → (x : ℕ) → In x (named c) → Shared g h (run g n) x
+  unfolding final
+  untouched-shared (inl u) x i = rw (run-final t v n ended) (unexplored-shared t v c u x i)
+  untouched-shared (inr f) x i =
+      shared-unmet g h (run g n) x (not-in x (discoveredOf (run g n)) (λ j. contra (any-in (λ s. elem s (discoveredOf (run g n))) x (named c) i j) f))
+
+  pub change-same : (r : Notes) → Untouched → Faithful g r n → Same r
   unfolding final firstMeeting
-  change-unmet r f w =
-      let u = unchanged (named c) g h (agree c t) r n f w in
-      let e : verdict (run h n) ≢ unfinished = rw (← u .0) ended in
-      let same : final (apply c t) ≡ final t = sym (run-final (apply c t) v′ n e) ∙ sym (u .0) ∙ run-final t v n ended in
-      let f′ : meets (named c) (final (apply c t)) ≡ false = rw (same, ← run-final t v n ended) f in
+  change-same r o w =
+      let each = untouched-shared o in
+      let e : bare (run h n) ≡ bare (run g n) = same-run (named c) g h (agree c t) n each n (omega arith) in
+      let ended′ : verdict (run h n) ≢ unfinished = rw (alike-verdict (run g n) (run h n) e) ended in
+      let same : bare (final (apply c t)) ≡ bare (final t) = rw (← run-final (apply c t) v′ n ended′, ← run-final t v n ended) e in
       record {
-        still-ended = e;
-        holds = u .1;
+        same-steps = e;
+        still-ended = ended′;
+        holds = same-faithful (named c) g h (agree c t) n each r w;
         same-final = same;
-        same-run = sym (u .0);
-        all-kept = until-end h (named c) (budget (apply c t)) f′ ∙ same;
+        all-kept = ⊎-elim (kept-unexplored c t) (λ f. kept-explored c t f ∙ until-end h (named c) (budget (apply c t)) (unmet o f same)) (either (unexplored c t));
       }
+    where
+      -- a change that the search had come to has met no named state in the new search either
+      unmet : Untouched → unexplored c t ≡ false → bare (final (apply c t)) ≡ bare (final t) → meets (named c) (run h (budget (apply c t))) ≡ false
+      unmet (inl u) f same = absurd (contra u f)
+      unmet (inr m) f same =
+          ap (λ (d : List ℕ). any (λ s. elem s d) (named c)) (alike-discovered (final t) (final (apply c t)) same ∙ ap discoveredOf (sym (run-final t v n ended))) ∙ m
 
   -- A named state is met: the search on the changed table, at its first meeting, stands where the one before stood at its own, and the notes are right there.
   pub record Met (r : Notes) : Type 0 where
@@ -274,44 +303,58 @@ taken-first c e (new, p) =
     ap (λ (l : List Edge). take (count c) (reverse l)) p ∙ ap (take (count c)) (reverse-append new (probesOf c))
     ∙ take-at (reverse (probesOf c)) (reverse new) (count c) (length-reverse (probesOf c))
 
--- the search before goes on from the probes of the new search up to its first meeting
-began : (c : Change) (t : Table) → Valid t → Valid (apply c t) → (new : List Edge) × (probesOf (final t) ≡ new ++ probesOf (firstMeeting (named c) (apply c t)))
-unfolding final
-began c t v v′ = ⊎-elim met unmet (either (meets (named c) (final t)))
-  where
-    Goal : Type 0
-    Goal = (new : List Edge) × (probesOf (final t) ≡ new ++ probesOf (firstMeeting (named c) (apply c t)))
+-- a search goes on from the probes of another's part
+abbrev GoesOn : Config → Config → Type 0
+GoesOn part whole = (new : List Edge) × (probesOf whole ≡ new ++ probesOf part)
 
-    unmet : meets (named c) (final t) ≡ false → Goal
-    unmet f =
-        let w = change-unmet c t v v′ (budget t) (ends t v) (notes (searched t) (budget t)) f (holds-notes (searched t) (budget t)) in
-        ([], ap probesOf (sym (w .all-kept)))
+module _ (c : Change) (t : Table) (v : Valid t) (v′ : Valid (apply c t)) where
+  stops : verdict (run (searched t) (budget t)) ≢ unfinished
+  stops = ended-within t v (budget t) (omega arith)
 
-    met : meets (named c) (final t) ≡ true → Goal
-    met m =
-        let w = change-met c t v v′ (budget t) (ends t v) (notes (searched t) (budget t)) m (holds-notes (searched t) (budget t)) in
-        let f = w .meeting in
-        let e : probesOf (run (searched t) (f .at)) ≡ probesOf (firstMeeting (named c) (apply c t)) = ap probesOf (f .meeting .here) ∙ sym (ap probesOf (w .kept-here ∙ f .meeting .there)) in
-        let p = probes-grow (searched t) (f .at) (budget t) (f .in-time) in
-        (p .0, p .1 ∙ ap (λ (l : List Edge). p .0 ++ l) e)
+  untouched : Untouched c t v v′ (budget t) stops → Same c t v v′ (budget t) stops (notes (searched t) (budget t))
+  untouched o = change-same c t v v′ (budget t) stops (notes (searched t) (budget t)) o (holds-notes (searched t) (budget t))
 
-goes-on : (states : List ℕ) (t : Table) → (new : List Edge) × (probesOf (final t) ≡ new ++ probesOf (firstMeeting states t))
-unfolding final firstMeeting
-goes-on states t =
-    let u = until-at (searched t) states (budget t) in
-    let p = probes-grow (searched t) (u .0) (budget t) (u .1) in
-    (p .0, p .1 ∙ ap (λ (c : Config). p .0 ++ probesOf c) (sym (u .2)))
+  -- the search before goes on from the part of the new search that is kept
+  began : GoesOn (keptPart c t) (final t)
+  unfolding final
+  began = ⊎-elim (λ u. all-of-it (inl u)) (λ e. ⊎-elim (met e) (λ f. all-of-it (inr f)) (either (meets (named c) (run (searched t) (budget t))))) (either (unexplored c t))
+    where
+      all-of-it : Untouched c t v v′ (budget t) stops → GoesOn (keptPart c t) (final t)
+      all-of-it o =
+          let w = untouched o in
+          ([], sym (ap probesOf (w .all-kept) ∙ alike-probes (final t) (final (apply c t)) (w .same-final)))
 
-pub kept-right : (c : Change) (t : Table) → Valid t → Valid (apply c t) → KeptRight c t (count (final (apply c t)) - kept c t) (kept c t)
-unfolding kept
-kept-right c t v v′ =
-    let p = goes-on (named c) (apply c t) in
-    record {
-      kept-is = refl;
-      new-run = taken-first (firstMeeting (named c) (apply c t)) (final (apply c t)) p;
-      run-before = taken-first (firstMeeting (named c) (apply c t)) (final t) (began c t v v′);
-      adds-up = omega (arith, ap length (p .1), length-append (p .0) (probesOf (firstMeeting (named c) (apply c t))));
-    }
+      met : unexplored c t ≡ false → meets (named c) (run (searched t) (budget t)) ≡ true → GoesOn (keptPart c t) (final t)
+      met u m =
+          let w = change-met c t v v′ (budget t) stops (notes (searched t) (budget t)) m (holds-notes (searched t) (budget t)) in
+          let f = w .meeting in
+          let e : probesOf (run (searched t) (f .at)) ≡ probesOf (keptPart c t) = ap probesOf (f .meeting .here) ∙ sym (ap probesOf (kept-explored c t u ∙ w .kept-here ∙ f .meeting .there)) in
+          let p = probes-grow (searched t) (f .at) (budget t) (f .in-time) in
+          (p .0, p .1 ∙ ap (λ (l : List Edge). p .0 ++ l) e)
+
+  -- and so does the new one
+  goes-on : GoesOn (keptPart c t) (final (apply c t))
+  unfolding final firstMeeting
+  goes-on = ⊎-elim
+      (λ u. ([], ap probesOf (sym (kept-unexplored c t u))))
+      (λ e. let t′ = apply c t in
+      let u = until-at (searched (apply c t)) (named c) (budget (apply c t)) in
+      let p = probes-grow (searched (apply c t)) (u .0) (budget (apply c t)) (u .1) in
+      (p .0, p .1 ∙ ap (λ (x : Config). p .0 ++ probesOf x) (sym (kept-explored c t e ∙ u .2)))) (either (unexplored c t))
+
+  pub kept-right : KeptRight c t (count (final (apply c t)) - kept c t) (kept c t)
+  unfolding kept taken
+  kept-right =
+      let p = goes-on in
+      record {
+        same-run = λ u. let w = untouched (inl u) in
+            (ap reverse (alike-probes (final t) (final (apply c t)) (w .same-final)), alike-verdict (final t) (final (apply c t)) (w .same-final));
+        all-kept = λ u. let e = ap count (kept-unexplored c t u) in (omega (arith, e), e);
+        kept-is = λ u. ap count (kept-explored c t u);
+        new-run = taken-first (keptPart c t) (final (apply c t)) p;
+        run-before = taken-first (keptPart c t) (final t) began;
+        adds-up = omega (arith, ap length (p .1), length-append (p .0) (probesOf (keptPart c t)));
+      }
 
 -- what demand 3 says of "kept", for every accepted change of a table that a session can hold
 pub demand-3-kept : (c : Call) (t : Table) → Arises t → trialOf c t ≡ accepted

@@ -8,13 +8,16 @@ pub mod Invariant
 pub mod Lassos
 pub mod Bounds
 pub mod Prefix
+pub mod SameRun
 pub mod Restore
 pub mod Resume
 pub mod Edges
 pub mod OuterProbes
+pub mod Explored
 pub mod Rows
 pub mod Trials
 pub mod Tables
+pub mod Unexplored
 pub mod Demands
 pub mod Answers
 pub mod Loops

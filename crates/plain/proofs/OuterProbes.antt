@@ -1,10 +1,12 @@
 -- The nested search probes only edges that the outer search has probed before. Assumes nothing.
+use mathlib.Core.Path.{_≡_, refl}
 use mathlib.Core.Logic.{⊎-elim}
 use mathlib.Core.Bool.{Bool, true, false}
 use mathlib.Core.List.{List, [], _∷_, _++_}
 use Prim.Native.Nat.{ℕ, zero, suc}
 use Rattle.plain.specs.Lists.{elem}
-use Rattle.plain.specs.Search.{Graph, Edge, Frame, frame, onPath, Config, outer, nested, exhausted, found, probesOf, visit, finish, probe, step, steps, run}
+use Rattle.plain.specs.Search.{Graph, Edge, Frame, frame, onPath, Config, outer, nested, exhausted, found, discoveredOf, probesOf, visit, finish, probe, step, steps, run}
+use Rattle.plain.specs.Unexplored.{unfinishedPath}
 use Rattle.plain.proofs.Tests.{contra, in-nil}
 use Rattle.plain.proofs.Paths.{pending-on}
 use Rattle.plain.proofs.Edges.{Has, has-head, has-tail, has-cases, has-nil}
@@ -39,15 +41,9 @@ module _ (g : Graph) where
   abbrev Probed : List Edge → List Frame → List ℕ → Type 0
   Probed es p d = Settled g (λ x y. Has es (x, y)) p d
 
-  abbrev ProbedOf : List Edge → Config → Type 0
-  ProbedOf es (outer p d k l) = Probed es p d
-  ProbedOf es (nested s p q d k l) = Probed es p d
-  ProbedOf es (exhausted d k l) = Unit {0}
-  ProbedOf es (found h p q d k l) = Unit {0}
-
   -- all probes are among es, which holds those of the outer search
   abbrev Within : List Edge → Config → Type 0
-  Within es c = Covered es (probesOf c) × ProbedOf es c
+  Within es c = Covered es (probesOf c) × Probed es (unfinishedPath c) (discoveredOf c)
 
   probed-taken : (es : List Edge) (s t : ℕ) (ts : List ℕ) (p : List Frame) (d : List ℕ) → Probed es (frame s (t ∷ ts) ∷ p) d → Probed ((s, t) ∷ es) (frame s ts ∷ p) d
   probed-taken es s t ts p d h =
@@ -74,13 +70,13 @@ module _ (g : Graph) where
 
   probe-within : (b c : Bool) (es : List Edge) (s : ℕ) (p : List Frame) (x t : ℕ) (ts : List ℕ) (q : List Frame) (d k : List ℕ) (l : List Edge) → Has es (x, t)
       → Within es (nested s p (frame x (t ∷ ts) ∷ q) d k l) → Within es (probe g b c s p x t ts q d k ((x, t) ∷ l))
-  probe-within true c es s p x t ts q d k l i (v, h) = (covered-again (x, t) es l i v, tt)
+  probe-within true c es s p x t ts q d k l i (v, h) = (covered-again (x, t) es l i v, h)
   probe-within false true es s p x t ts q d k l i (v, h) = (covered-again (x, t) es l i v, h)
   probe-within false false es s p x t ts q d k l i (v, h) = (covered-again (x, t) es l i v, h)
 
   step-within : (c : Config) (es : List Edge) → Inv g c → Within es c → Within (outerProbe c ++ es) (step g c)
   unfolding step outerProbe
-  step-within (outer [] d k l) es v w = (w .0, tt)
+  step-within (outer [] d k l) es v w = w
   step-within (outer (frame s [] ∷ p) d k l) es v w = finish-within (g .accepting s) es s p d k l w
   step-within (outer (frame s (t ∷ ts) ∷ p) d k l) es v w = visit-within (elem t d) es s t ts p d k l w
   step-within (nested s p [] d k l) es v w = w
@@ -98,3 +94,39 @@ module _ (g : Graph) where
   -- an edge that a run has probed at all, its outer search has probed
   pub outer-first : (n : ℕ) (e : Edge) → Has (probesOf (run g n)) e → Has (outerProbes n) e
   outer-first n e h = within n .0 e h
+
+  -- an edge of a discovered state is probed by the outer search, or is pending
+  pub probed-or-pending : (n : ℕ) → Probed (outerProbes n) (unfinishedPath (run g n)) (discoveredOf (run g n))
+  probed-or-pending n = within n .1
+
+  -- what a step has probed stays probed, and its own probe is
+  finish-probes : (b : Bool) (s : ℕ) (p : List Frame) (d k : List ℕ) (l : List Edge) → probesOf (finish g b s p d k l) ≡ l
+  finish-probes true s p d k l = refl
+  finish-probes false s p d k l = refl
+
+  probe-probes : (b c : Bool) (s : ℕ) (p : List Frame) (x t : ℕ) (ts : List ℕ) (q : List Frame) (d k : List ℕ) (l : List Edge) → probesOf (probe g b c s p x t ts q d k l) ≡ l
+  probe-probes true c s p x t ts q d k l = refl
+  probe-probes false true s p x t ts q d k l = refl
+  probe-probes false false s p x t ts q d k l = refl
+
+  visit-probes : (b : Bool) (s t : ℕ) (ts : List ℕ) (p : List Frame) (d k : List ℕ) (l : List Edge) → probesOf (visit g b s t ts p d k l) ≡ l
+  visit-probes true s t ts p d k l = refl
+  visit-probes false s t ts p d k l = refl
+
+  outer-step : (es : List Edge) (c : Config) → Covered (probesOf c) es → Covered (probesOf (step g c)) (outerProbe c ++ es)
+  unfolding step outerProbe
+  outer-step es (outer [] d k l) h = h
+  outer-step es (outer (frame s [] ∷ p) d k l) h = rw (finish-probes (g .accepting s) s p d k l) h
+  outer-step es (outer (frame s (t ∷ ts) ∷ p) d k l) h = rw (visit-probes (elem t d) s t ts p d k ((s, t) ∷ l)) (covered-both (s, t) l es h)
+  outer-step es (nested s p [] d k l) h = h
+  outer-step es (nested s p (frame x [] ∷ q) d k l) h = h
+  outer-step es (nested s p (frame x (t ∷ ts) ∷ q) d k l) h =
+      rw (probe-probes (onPath t (frame s [] ∷ p)) (elem t k) s p x t ts q d k ((x, t) ∷ l)) (λ e i. has-tail e (x, t) l (h e i))
+  outer-step es (exhausted d k l) h = h
+  outer-step es (found t p q d k l) h = h
+
+  -- and the probes of the outer search are among those of the run
+  pub outer-probed : (n : ℕ) (e : Edge) → Has (outerProbes n) e → Has (probesOf (run g n)) e
+  unfolding steps outerProbes
+  outer-probed zero e h = h
+  outer-probed (suc n) e h = outer-step (outerProbes n) (run g n) (outer-probed n) e h

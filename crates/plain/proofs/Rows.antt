@@ -117,6 +117,21 @@ but-yes y x xs h = filter-no (λ z. not (eqb y z)) x xs (rw h)
 pub but-no : (y x : ℕ) (xs : List ℕ) → eqb y x ≡ false → but y (x ∷ xs) ≡ x ∷ but y xs
 but-no y x xs h = filter-yes (λ z. not (eqb y z)) x xs (rw h)
 
+-- taken out where it stands behind a part without it, or where it is not at all
+pub but-front : (y : ℕ) (xs ys : List ℕ) → elem y xs ≡ false → but y (xs ++ ys) ≡ xs ++ but y ys
+unfolding elem
+but-front y [] ys f = refl
+but-front y (x ∷ xs) ys f =
+    let w = or-false (eqb y x) (elem y xs) f in
+    but-no y x (xs ++ ys) (w .0) ∙ ap (λ (l : List ℕ). x ∷ l) (but-front y xs ys (w .1))
+
+pub but-none : (y : ℕ) (xs : List ℕ) → elem y xs ≡ false → but y xs ≡ xs
+unfolding elem filter
+but-none y [] f = refl
+but-none y (x ∷ xs) f =
+    let w = or-false (eqb y x) (elem y xs) f in
+    but-no y x xs (w .0) ∙ ap (λ (l : List ℕ). x ∷ l) (but-none y xs (w .1))
+
 cut-gone : (es : List Edge) (e f : Edge) → sameEdge e f ≡ true → row (without e es) (e .0) ≡ but (e .1) (row es (e .0))
     → row (without e (f ∷ es)) (e .0) ≡ but (e .1) (row (f ∷ es) (e .0))
 cut-gone es e f h below =

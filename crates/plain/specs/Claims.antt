@@ -10,7 +10,7 @@ use Rattle.plain.specs.Search.{Edge, Verdict, none, lasso, unfinished, v
 use Rattle.plain.specs.Cycles.{FreeRound, AcceptingLoop, Lasso}
 use Rattle.plain.specs.Table.{Table, graphOf, final, firstMeeting}
 use Rattle.plain.specs.Refusals.{accepted, flat, Load, loadTrial, sameEdge}
-use Rattle.plain.specs.Machine.{Change, named, apply, answer, tableOf, loadAnswer, Call, trialOf, answerTo, tableAfter, Line, gameLine, roundLine, noneLine, noLine}
+use Rattle.plain.specs.Machine.{Change, named, apply, unexplored, keptPart, answer, tableOf, loadAnswer, Call, trialOf, answerTo, tableAfter, Line, gameLine, roundLine, noneLine, noLine}
 
 -- the tables that a session can hold: those that a load accepts, and those to which accepted changes lead
 pub data Arises : Table → Type 0 where
@@ -55,12 +55,17 @@ pub record ReportRight (r : Report) (t : Table) : Type 0 where
 
 -- Of a change that is answered with so many looks spent and kept; t is the table as the change finds it.
 pub record KeptRight (c : Change) (t : Table) (spent kept : ℕ) : Type 0 where
-  -- "Kept is the looks which that search makes before it first meets the state that the changed move leaves (all if never)", or the state marked or unmarked
-  pub kept-is : kept ≡ count (firstMeeting (named c) (apply c t))
-  -- they are the first looks of that search
-  pub new-run : take kept (taken (final (apply c t))) ≡ taken (firstMeeting (named c) (apply c t))
+  -- Ticket 4, of moves that the search had not come to: "the new run is the old one", the same looks, move for move, and the same verdict and walk.
+  -- "Spent is then 0 and kept is the full count."
+  pub same-run : unexplored c t ≡ true → (taken (final (apply c t)) ≡ taken (final t)) × (verdict (final (apply c t)) ≡ verdict (final t))
+  pub all-kept : unexplored c t ≡ true → (spent ≡ 0) × (kept ≡ count (final (apply c t)))
+  -- "In all other cases kept is counted as before": "Kept is the looks which that search makes before it first meets the state that the changed move leaves (all if
+  -- never)", or the state marked or unmarked
+  pub kept-is : unexplored c t ≡ false → kept ≡ count (firstMeeting (named c) (apply c t))
+  -- either way they are the first looks of that search
+  pub new-run : take kept (taken (final (apply c t))) ≡ taken (keptPart c t)
   -- "the run before began with these looks, move for move"
-  pub run-before : take kept (taken (final t)) ≡ taken (firstMeeting (named c) (apply c t))
+  pub run-before : take kept (taken (final t)) ≡ taken (keptPart c t)
   -- "Kept + spent = that search's full count"
   pub adds-up : kept + spent ≡ count (final (apply c t))
 

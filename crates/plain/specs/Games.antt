@@ -57,9 +57,9 @@ games =
     ∷ known 3 (0 ∷ []) (0 ∷ 1 ∷ 1 ∷ 2 ∷ 2 ∷ 1 ∷ []) [] (gameLine 3 3 1 ∷ noneLine 6 0 ∷ [])
     -- G
     ∷ known 3 (1 ∷ []) (1 ∷ 2 ∷ 2 ∷ 1 ∷ []) [] (gameLine 3 2 1 ∷ noneLine 0 0 ∷ [])
-    -- H
+    -- H, its last line as ticket 4 has it
     ∷ known 3 (1 ∷ 2 ∷ []) (0 ∷ 1 ∷ 0 ∷ 2 ∷ 1 ∷ 0 ∷ 2 ∷ 0 ∷ []) (cut (0, 1) ∷ add (0, 1) ∷ [])
-    (gameLine 3 4 2 ∷ roundLine 3 0 0 2 (0 ∷ 1 ∷ []) ∷ roundLine 3 0 0 2 (0 ∷ 2 ∷ []) ∷ roundLine 3 0 0 2 (0 ∷ 2 ∷ []) ∷ [])
+    (gameLine 3 4 2 ∷ roundLine 3 0 0 2 (0 ∷ 1 ∷ []) ∷ roundLine 3 0 0 2 (0 ∷ 2 ∷ []) ∷ roundLine 0 3 0 2 (0 ∷ 2 ∷ []) ∷ [])
     -- I
     ∷ known 3 (0 ∷ 1 ∷ []) (0 ∷ 1 ∷ 1 ∷ 2 ∷ 2 ∷ 1 ∷ []) [] (gameLine 3 3 2 ∷ roundLine 5 0 1 2 (0 ∷ 1 ∷ 2 ∷ []) ∷ [])
     -- Ticket 1: a paying state that returns to itself
@@ -79,7 +79,7 @@ games =
     ∷ roundLine 2 1 1 1 (0 ∷ 1 ∷ [])
     ∷ noLine (numbered 8)
     ∷ noLine (numbered 10)
-    ∷ roundLine 3 0 1 1 (0 ∷ 1 ∷ [])
+    ∷ roundLine 0 3 1 1 (0 ∷ 1 ∷ [])
     ∷ noneLine 1 0
     ∷ noLine (numbered 6)
     ∷ noneLine 0 0
@@ -122,5 +122,35 @@ games =
     ∷ roundLine 4 1 0 2 (0 ∷ 2 ∷ [])
     ∷ noneLine 1 3
     ∷ roundLine 2 1 0 2 (0 ∷ 1 ∷ [])
+    ∷ [])
+    -- Ticket 4: moves behind the one along the stem go and come, one at a state whose last move leads along it, one at a state never met; then moves of a state
+    -- that has finished, behind the stem again, a mark, a move of the tip, the move along the stem, a move after "none", and one that was looked at first
+    ∷ known 5 (3 ∷ []) (0 ∷ 1 ∷ 0 ∷ 2 ∷ 0 ∷ 4 ∷ 2 ∷ 3 ∷ 3 ∷ 2 ∷ [])
+    (cut (0, 4) ∷ add (0, 3) ∷ add (2, 4) ∷ add (4, 0) ∷ add (1, 4) ∷ cut (2, 4) ∷ cut (0, 3) ∷ mark 2 ∷ add (3, 0) ∷ cut (2, 3) ∷ add (2, 0) ∷ cut (0, 1) ∷ [])
+    (gameLine 5 5 1
+    ∷ roundLine 5 0 1 2 (0 ∷ 2 ∷ 3 ∷ [])
+    ∷ roundLine 0 5 1 2 (0 ∷ 2 ∷ 3 ∷ [])
+    ∷ roundLine 0 5 1 2 (0 ∷ 2 ∷ 3 ∷ [])
+    ∷ roundLine 0 5 1 2 (0 ∷ 2 ∷ 3 ∷ [])
+    ∷ roundLine 0 5 1 2 (0 ∷ 2 ∷ 3 ∷ [])
+    ∷ roundLine 6 1 1 2 (0 ∷ 2 ∷ 3 ∷ [])
+    ∷ roundLine 0 7 1 2 (0 ∷ 2 ∷ 3 ∷ [])
+    ∷ roundLine 0 7 1 2 (0 ∷ 2 ∷ 3 ∷ [])
+    ∷ roundLine 3 4 1 2 (0 ∷ 2 ∷ 3 ∷ [])
+    ∷ roundLine 3 5 1 2 (0 ∷ 2 ∷ 3 ∷ [])
+    ∷ noneLine 0 4
+    ∷ roundLine 2 4 0 2 (0 ∷ 2 ∷ [])
+    ∷ roundLine 3 0 0 2 (0 ∷ 2 ∷ [])
+    ∷ [])
+    -- the tip and a state behind it, which the inner search passes: moves of both; then moves never come to, and the only move of the start state
+    ∷ known 3 (1 ∷ []) (0 ∷ 1 ∷ 1 ∷ 2 ∷ 2 ∷ 0 ∷ []) (add (1, 0) ∷ cut (1, 2) ∷ add (2, 2) ∷ add (0, 2) ∷ cut (0, 1) ∷ cut (2, 2) ∷ [])
+    (gameLine 3 3 1
+    ∷ roundLine 5 0 0 3 (0 ∷ 1 ∷ 2 ∷ [])
+    ∷ roundLine 5 1 0 3 (0 ∷ 1 ∷ 2 ∷ [])
+    ∷ roundLine 2 1 0 2 (0 ∷ 1 ∷ [])
+    ∷ roundLine 0 3 0 2 (0 ∷ 1 ∷ [])
+    ∷ roundLine 0 3 0 2 (0 ∷ 1 ∷ [])
+    ∷ noneLine 3 0
+    ∷ noneLine 1 1
     ∷ [])
     ∷ []

@@ -1,12 +1,12 @@
--- Document 01, "The plain table" and "Load, add, cut": what each call answers, and what it leaves. Document 02, ticket 2: the paying marks can be switched too.
--- Assumes nothing.
+-- Document 01, "The plain table" and "Load, add, cut": what each call answers, and what it leaves. Document 02, ticket 2: the paying marks can be switched too;
+-- ticket 4: what is kept of moves that the search had not come to. Assumes nothing.
 use Prim.Native.Nat.{ℕ, _+_, _-_}
-use mathlib.Core.Bool.{Bool, not}
+use mathlib.Core.Bool.{Bool, true, false, not}
 use mathlib.Core.List.{List, [], _∷_, _++_}
 use lib.ListN.{length, drop}
 use Rattle.plain.specs.Lists.{filter}
-use Rattle.plain.specs.Search.{Edge, Verdict, none, lasso, unfinished, verdict, count}
-use Rattle.plain.specs.Table.{Table, accepts, withMark, withoutMark, final, firstMeeting, acceptingCount}
+use Rattle.plain.specs.Search.{Edge, Config, probesOf, finished, Verdict, none, lasso, unfinished, verdict, count}
+use Rattle.plain.specs.Table.{Table, accepts, withMark, withoutMark, searched, budget, final, firstMeeting, acceptingCount}
 use Rattle.plain.specs.Refusals.{Trial, accepted, refused, firstHeld, pairs, sameEdge, present, outside, beyond, full, roomCondition, Load, loadTrial}
 
 -- A change of a session. Tickets of document 02 bring more kinds.
@@ -68,10 +68,22 @@ pub data Answer : Type 0 where
   refusal : Refusal → Answer
   answer : Verdict → ℕ → ℕ → Answer
 
--- "kept is the looks of the plain search on the new table before it first meets the state that the move leaves, or all its looks"; of a mark, "what the plain
--- search looks at before it first meets that state". t is the table as the change finds it.
+-- Ticket 4, moves "that the last run never reached": "If that run had not looked at a cut move, or had not finished the outer moves of the state that an added one
+-- leaves". That run is the plain search on t, the table as the change finds it. A state never met has not finished. The ticket speaks of moves alone.
+unfoldable pub unexplored : Change → Table → Bool
+unexplored (add e) t = not (finished (searched t) (budget t) (e .0))
+unexplored (cut e) t = not (present (probesOf (final t)) e)
+unexplored (mark s) t = false
+unexplored (unmark s) t = false
+
+-- The plain search on the new table, as far as it is kept. "the new run is the old one .. kept is the full count. In all other cases kept is counted as before":
+-- up to where that search "first meets the state that the move leaves", or the state of a mark, "or all .. if it never meets it". t is the table as the change finds it.
+unfoldable pub keptPart : Change → Table → Config
+keptPart c t = elim (unexplored c t) [ true ↦ final (apply c t) | false ↦ firstMeeting (named c) (apply c t) ]
+
+-- "kept is the looks of the plain search on the new table" as far as it is kept
 unfoldable pub kept : Change → Table → ℕ
-kept c t = count (firstMeeting (named c) (apply c t))
+kept c t = count (keptPart c t)
 
 -- "After a load, kept is 0."
 unfoldable pub loadAnswer : Trial → Table → Answer

@@ -23,6 +23,10 @@ entries-at (suc n) at xs (suc i) h =
     let e : suc at + i ≡ at + suc i = omega arith in
     entries-at n (suc at) xs i (le-of-suc-le-suc h) ∙ same-place xs e
 
+-- the first ones
+pub entries-first : (n : ℕ) (xs : List ℕ) (i : ℕ) → i < n → getD xs i 0 ≡ getD (entries n 0 xs) i 0
+entries-first n xs i h = let e : 0 + i ≡ i = omega arith in sym (entries-at n 0 xs i h ∙ same-place xs e)
+
 pub entries-same : (n p q : ℕ) (xs ys : List ℕ) → ((i : ℕ) → i < n → getD xs (p + i) 0 ≡ getD ys (q + i) 0) → entries n p xs ≡ entries n q ys
 entries-same n p q xs ys f =
     let e : length (entries n p xs) ≡ n = entries-length n p xs in

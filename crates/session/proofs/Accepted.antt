@@ -1,18 +1,19 @@
 -- An accepted change: the session that it returns holds the changed table, and the answer and the walk are the plain table's. Assumes nothing.
 use mathlib.Core.Path.{_≡_, refl, sym, ap, subst, subst⁻¹, _∙_}
-use mathlib.Core.Logic.{_≢_, ⊎-elim}
-use mathlib.Core.Bool.{true, false}
+use mathlib.Core.Logic.{_≢_, inl, inr, ⊎-elim}
+use mathlib.Core.Bool.{true, false, cond}
 use mathlib.Core.List.{List, [], _∷_}
-use Prim.Native.Nat.{ℕ, _+_, _-_, _≤_}
+use Prim.Native.Nat.{ℕ, suc, _+_, _-_, _≤_}
 use native.Mathlib.Nat.{add-zero}
 use native.Mathlib.Omega.{arith}
 use lib.ListN.{length, getD}
 use borrow.Author.Tests.{le-leb}
 use Rattle.plain.specs.Lists.{elem, In}
-use Rattle.plain.specs.Search.{Graph, Config, discoveredOf, meets, run, Verdict as PlainVerdict, unfinished, verdict, count}
-use Rattle.plain.specs.Table.{Table, searched, final, firstMeeting}
+use Rattle.plain.specs.Search.{Graph, Frame, frame, Config, outer, nested, exhausted, found, discoveredOf, meets, run, Verdict as PlainVerdict, unfinished, verdict, count}
+use Rattle.plain.specs.Unexplored.{bareFrames, bare}
+use Rattle.plain.specs.Table.{Table, searched, final}
 use Rattle.plain.specs.Refusals.{Trial, accepted, refused, beyond}
-use Rattle.plain.specs.Machine.{Change, named, apply, kept, Answer as PlainAnswer, refusal, numbered, answer, changeTrial, trialOf, answerTo, tableAfter, changeAnswer, after, written, answerLine}
+use Rattle.plain.specs.Machine.{Change, named, apply, unexplored, keptPart, kept, Answer as PlainAnswer, refusal, numbered, answer, changeTrial, trialOf, answerTo, tableAfter, changeAnswer, after, written, answerLine}
 use Rattle.plain.specs.Notes.{Note, Notes, Faithful}
 use Rattle.plain.specs.Claims.{changed}
 use Rattle.plain.proofs.Tests.{either, in-one}
@@ -20,11 +21,12 @@ use Rattle.plain.proofs.Restore.{noted-run}
 use Rattle.plain.proofs.Prefix.{meets-one, unmet-one}
 use Rattle.plain.proofs.Rows.{agree}
 use Rattle.plain.proofs.Tables.{Valid, valid, valid-change, room-enough, changed-size, changed-start}
-use Rattle.plain.proofs.Demands.{run-final, verdict-right, change-unmet, change-met}
+use Rattle.plain.proofs.SameRun.{alike, alike-discovered, alike-marked, alike-probes, alike-verdict}
+use Rattle.plain.proofs.Demands.{run-final, verdict-right, kept-explored, Untouched, change-same, change-met}
 use Rattle.look.specs.Numbers.{noNumber, plus}
 use Rattle.look.proofs.Counting.{plus-more}
 use Rattle.search.specs.Core.{Result}
-use Rattle.search.specs.Archive.{notesOf, Archived}
+use Rattle.search.specs.Archive.{rootOf, notesOf, Archived}
 use Rattle.search.proofs.Scans.{ran-from}
 use Rattle.search.proofs.Ended.{rewound-spent}
 use Rattle.search.proofs.Resumed.{Small, resume-fits, limits}
@@ -34,17 +36,19 @@ use Rattle.table.specs.declared.Switch.{Switch}
 use Rattle.session.specs.declared.Session.{Session}
 use Rattle.session.specs.declared.Settled.{Settled}
 use Rattle.session.specs.declared.Resumption.{Resumption}
+use Rattle.session.specs.declared.Resumption.the-variants.{Nowhere, At}
 use Rattle.session.specs.declared.Verdict.{Verdict}
 use Rattle.table.specs.Trials.{Arrays, opOf, addConditions, cutConditions, markConditions, unmarkConditions, trialIn}
 use Rattle.table.specs.Filing.{changeOf, namedBy, filedIn, Stored}
-use Rattle.session.specs.Model.{Records, recordsOf, recordsIn, arraysHeld, gameIn, resumptionAt, backAt, Sought, verdictOf, sessionOf, refusing, answerIs, shownWalk, Settles, ChangedIn}
+use Rattle.session.specs.Model.{Records, recordsOf, recordsIn, arraysHeld, gameIn, resumptionOf, backAt, Sought, verdictOf, sessionOf, refusing, answerIs, shownWalk, Settles, ChangedIn}
 use Rattle.session.specs.Promises.{shown, Tells, heightOf, Holds, Changes}
 use Rattle.table.proofs.Pairs.{outside-from}
 use Rattle.table.proofs.Trying.{tried-refused, stop}
 use Rattle.session.proofs.Held.{size-few, small, trial-here}
 use Rattle.table.proofs.Changing.{named-below, restored}
 use Rattle.session.proofs.Told.{tells-answer, tells-written, tells-fits, never-refused}
-use Rattle.session.proofs.Sought.{matches, Reached, reached, taken-nowhere, taken-at}
+use Rattle.session.proofs.Sought.{matches, Reached, reached}
+use Rattle.session.proofs.Resuming.{nowhere-unmet, nowhere-unexplored, at-explored, decided}
 
 named-one : (op : Op) → named (changeOf op) ≡ namedBy op ∷ []
 unfolding named
@@ -64,17 +68,43 @@ record Worth (c : Change) (t : Table) (v : Verdict) (a : Records) : Type 0 where
   adds-up : v .kept + v .spent ≡ count (final (apply c t))
   total-is : plus (v .kept) (v .spent) ≡ count (final (apply c t))
 
--- the same run on another graph
+-- ---- the same run on another graph
+
+bare-root : (c : Config) → rootOf (bare c) ≡ rootOf c
+bare-root (outer p d k l) = refl
+bare-root (nested s p q d k l) = refl
+bare-root (exhausted d k l) = refl
+bare-root (found h [] q d k l) = refl
+bare-root (found h (frame s ts ∷ p) q d k l) = refl
+
+bare-length : (p : List Frame) → length (bareFrames p) ≡ length p
+bare-length [] = refl
+bare-length (frame s ts ∷ p) = ap suc (bare-length p)
+
+bare-height : (c : Config) → heightOf (bare c) ≡ heightOf c
+bare-height (outer p d k l) = bare-length p
+bare-height (nested s p q d k l) = ap suc (bare-length p)
+bare-height (exhausted d k l) = refl
+bare-height (found h p q d k l) = bare-length p
+
 archive-moved : (g h : Graph) (n : ℕ) (a : Records) → Archived g n (a .number) (a .parent) (a .index) (a .probes) (a .stamp) (a .walk)
-    → Faithful h (notesOf (run g n) (a .number) (a .parent) (a .index) (a .probes) (a .stamp)) n → run h n ≡ run g n
+    → Faithful h (notesOf (run g n) (a .number) (a .parent) (a .index) (a .probes) (a .stamp)) n → bare (run h n) ≡ bare (run g n)
     → Archived h n (a .number) (a .parent) (a .index) (a .probes) (a .stamp) (a .walk)
-archive-moved g h n a f w e = record {
-  sizes = f .sizes;
-  holds = subst⁻¹ (λ (c : Config). Faithful h (notesOf c (a .number) (a .parent) (a .index) (a .probes) (a .stamp)) n) e w;
-  undiscovered = λ x b o. f .undiscovered x b (rw e at o);
-  unmarked = λ x b o. f .unmarked x b (rw e at o);
-  root-unmarked = λ x i. f .root-unmarked x (rw e at i);
-}
+archive-moved g h n a f w e =
+    let root = alike rootOf bare-root (run g n) (run h n) e in
+    let met = alike-discovered (run g n) (run h n) e in
+    let same : notesOf (run h n) (a .number) (a .parent) (a .index) (a .probes) (a .stamp) ≡ notesOf (run g n) (a .number) (a .parent) (a .index) (a .probes) (a .stamp) =
+    λ i. record {
+      of = λ x. record { number = getD (a .number) x 0; parent = getD (a .parent) x 0; index = getD (a .index) x 0; probes = getD (a .probes) x 0 };
+      stamp = λ x. cond (elem x (root i)) (length (met i)) (getD (a .stamp) x 0);
+    } in
+    record {
+      sizes = f .sizes;
+      holds = subst⁻¹ (λ (r : Notes). Faithful h r n) same w;
+      undiscovered = λ x b o. f .undiscovered x b (rw met at o);
+      unmarked = λ x b o. f .unmarked x b (rw (alike-marked (run g n) (run h n) e) at o);
+      root-unmarked = λ x i. f .root-unmarked x (rw root at i);
+    }
 
 -- what a session holds of its last search
 abbrev oldOf : Session → Verdict
@@ -83,8 +113,12 @@ oldOf s = record { stem = s .stem; length = s .length; height = s .height; spent
 abbrev recordsHeld : Session → Records
 recordsHeld s = recordsOf (s .number) (s .parent) (s .index) (s .probes) (s .stamp) (s .walk)
 
+-- where a session's search is taken up for a change
+abbrev takenUp : Op → Session → Resumption
+takenUp op s = resumptionOf op (arraysHeld s .rows) (s .number) (s .index) (s .walk) (s .height)
+
 module _ (op : Op) (s : Session) (b : Arrays) (a : Records) (v : Verdict) (new : b ≡ filedIn op (s .size) (arraysHeld s))
-    (sought : Sought (gameIn b) (s .size) (s .start) (resumptionAt (s .number) (namedBy op)) (oldOf s) (recordsHeld s) v a)
+    (sought : Sought (gameIn b) (s .size) (s .start) (takenUp op s) (oldOf s) (recordsHeld s) v a)
     (t : Table) (h : Holds s t) (room : ℕ) (yes-it-is : changeTrial (changeOf op) t room ≡ accepted) where
   abbrev from : ℕ
   from = namedBy op
@@ -107,30 +141,30 @@ module _ (op : Op) (s : Session) (b : Arrays) (a : Records) (v : Verdict) (new :
   stored-new : Stored t′ b
   stored-new = restored t (arraysHeld s) (h .stored) b ok op room yes-it-is (new ∙ ap (λ (n : ℕ). filedIn op n (arraysHeld s)) (h .size-is))
 
-  -- the named state was never met: nothing is to be done
-  worth-unmet : getD (s .number) from 0 ≡ noNumber → elem from (discoveredOf (run (searched t) (h .steps))) ≡ false → Worth c t v a
+  -- nothing is to be done
+  worth-same : takenUp op s ≡ Nowhere → Untouched c t ok ok′ (h .steps) (h .ended) → Worth c t v a
   unfolding r kept
-  worth-unmet e f =
-      let q = subst (λ (x : Resumption). Sought (gameIn b) (s .size) (s .start) x (oldOf s) (recordsHeld s) v a) (taken-nowhere (s .number) from e) sought in
-      let m : meets (named c) (run (searched t) (h .steps)) ≡ false = subst (λ (l : List ℕ). meets l (run (searched t) (h .steps)) ≡ false) (sym (named-one op)) (unmet-one (searched t) from (run (searched t) (h .steps)) f) in
-      let u = change-unmet c t ok ok′ (h .steps) (h .ended) r m (h .archived .holds) in
-      let z : s .total + 0 ≡ count (final t′) = omega (arith, h .total-is, ap count (u .same-final)) in
+  worth-same e o =
+      let q = subst (λ (x : Resumption). Sought (gameIn b) (s .size) (s .start) x (oldOf s) (recordsHeld s) v a) e sought in
+      let u = change-same c t ok ok′ (h .steps) (h .ended) r o (h .archived .holds) in
+      let looks : count (final t′) ≡ count (final t) = ap length (alike-probes (final t) (final t′) (u .same-final)) in
+      let z : s .total + 0 ≡ count (final t′) = omega (arith, h .total-is, looks) in
       subst⁻¹ (λ (x : Verdict). Worth c t x a) (q .0) (subst⁻¹ (λ (x : Records). Worth c t (oldOf s) x) (q .1) (record {
         steps = h .steps;
         ended = u .still-ended;
-        archive = archive-moved (searched t) (searched t′) (h .steps) (recordsHeld s) (h .archived) (u .holds) (u .same-run);
-        tells = subst⁻¹ (λ (w : PlainVerdict). Tells (s .stem) (s .length) (s .walk) w) (ap verdict (u .same-final)) (h .told);
-        height-is = h .height-is ∙ sym (ap heightOf (u .same-final));
-        kept-is = h .total-is ∙ sym (ap count (u .all-kept));
+        archive = archive-moved (searched t) (searched t′) (h .steps) (recordsHeld s) (h .archived) (u .holds) (u .same-steps);
+        tells = subst⁻¹ (λ (w : PlainVerdict). Tells (s .stem) (s .length) (s .walk) w) (alike-verdict (final t) (final t′) (u .same-final)) (h .told);
+        height-is = h .height-is ∙ sym (alike heightOf bare-height (final t) (final t′) (u .same-final));
+        kept-is = h .total-is ∙ sym (ap count (u .all-kept) ∙ looks);
         adds-up = z;
         total-is = plus-more (s .total) 0 (omega (arith, z, limits (searched t′) (t′ .size) (small t′ ok′) (h .steps) .probes-few, ap count (run-final t′ ok′ (h .steps) (u .still-ended)))) ∙ z;
       }))
 
   -- the named state was met: the search is resumed there
-  worth-met : (getD (s .number) from 0 ≡ noNumber → ⊥) → In from (discoveredOf (run (searched t) (h .steps))) → Worth c t v a
+  worth-met : takenUp op s ≡ At from → unexplored c t ≡ false → In from (discoveredOf (run (searched t) (h .steps))) → Worth c t v a
   unfolding r kept
-  worth-met e i =
-      let q = subst (λ (x : Resumption). Sought (gameIn b) (s .size) (s .start) x (oldOf s) (recordsHeld s) v a) (taken-at (s .number) from e) sought in
+  worth-met e o i =
+      let q = subst (λ (x : Resumption). Sought (gameIn b) (s .size) (s .start) x (oldOf s) (recordsHeld s) v a) e sought in
       let m : meets (named c) (run (searched t) (h .steps)) ≡ true = subst (λ (l : List ℕ). meets l (run (searched t) (h .steps)) ≡ true) (sym (named-one op)) (meets-one (searched t) from (run (searched t) (h .steps)) i) in
       let u = change-met c t ok ok′ (h .steps) (h .ended) r m (h .archived .holds) in
       let w = u .meeting in
@@ -142,12 +176,12 @@ module _ (op : Op) (s : Session) (b : Arrays) (a : Records) (v : Verdict) (new :
       let g = reached t′ ok′ (gameIn b) (matches t′ b stored-new)
       (w .at) (backAt (t .size) (t′ .start) (w .meeting .state) (recordsHeld s)) (q .0)
       (rewound-spent (t .size) (t′ .start) (w .meeting .state) 0 (s .number) (s .parent) (s .index) (s .probes) (s .stamp) (s .walk)) fit ran in
-      subst⁻¹ (λ (x : Verdict). Worth c t x a) (q .2) (subst⁻¹ (λ (x : Records). Worth c t (verdictOf (q .0 .walker) (q .0 .spent)) x) (q .3) (settled-by (q .0) (w .at) g (ap count (u .kept-here))))
+      subst⁻¹ (λ (x : Verdict). Worth c t x a) (q .2) (subst⁻¹ (λ (x : Records). Worth c t (verdictOf (q .0 .walker) (q .0 .spent)) x) (q .3) (settled-by (q .0) (w .at) g (ap count (kept-explored c t o ∙ u .kept-here))))
     where
       same-start : {m m₂ x y z w : ℕ} → m ≡ m₂ → x ≡ y → z ≡ w → backAt m x z (recordsHeld s) ≡ backAt m₂ y w (recordsHeld s)
       same-start l p z = λ j. backAt (l j) (p j) (z j) (recordsHeld s)
 
-      settled-by : (x : Result) (n : ℕ) → Reached t′ n x → count (firstMeeting (named c) t′) ≡ count (run (searched t′) n) → Worth c t (verdictOf (x .walker) (x .spent)) (recordsIn x)
+      settled-by : (x : Result) (n : ℕ) → Reached t′ n x → count (keptPart c t) ≡ count (run (searched t′) n) → Worth c t (verdictOf (x .walker) (x .spent)) (recordsIn x)
       settled-by x n g z = record {
         steps = g .steps;
         ended = g .ended;
@@ -161,13 +195,10 @@ module _ (op : Op) (s : Session) (b : Arrays) (a : Records) (v : Verdict) (new :
 
   -- the records are those of the changed table, either way
   worth : Worth c t v a
-  worth = ⊎-elim
-      (λ i. worth-met (λ e. met-number i e) i)
-      (λ f. worth-unmet (h .archived .undiscovered from (omega (arith, named-below op t room yes-it-is, size-few (t .size) (ok .size-ok))) f) f)
-      (either (elem from (discoveredOf (run (searched t) (h .steps)))))
+  worth = ⊎-elim met unmet (either (elem from (discoveredOf (run (searched t) (h .steps)))))
     where
-      met-number : In from (discoveredOf (run (searched t) (h .steps))) → getD (s .number) from 0 ≡ noNumber → ⊥
-      met-number i e =
+      numbered-met : In from (discoveredOf (run (searched t) (h .steps))) → getD (s .number) from 0 ≡ noNumber → ⊥
+      numbered-met i e =
           let n = noted-run (searched t) (h .steps) in
           omega (
             arith,
@@ -175,6 +206,20 @@ module _ (op : Op) (s : Session) (b : Arrays) (a : Records) (v : Verdict) (new :
             n .counted .0 from i,
             limits (searched t) (t .size) (small t ok) (h .steps) .few,
           )
+
+      met : In from (discoveredOf (run (searched t) (h .steps))) → Worth c t v a
+      met i =
+          let n = numbered-met i in
+          let d = decided s t h ok op room yes-it-is i in
+          ⊎-elim
+          (λ u. worth-same (nowhere-unexplored op (arraysHeld s .rows) (s .number) (s .index) (s .walk) (s .height) n (d ∙ u)) (inl u))
+          (λ u. worth-met (at-explored op (arraysHeld s .rows) (s .number) (s .index) (s .walk) (s .height) n (d ∙ u)) u i) (either (unexplored c t))
+
+      unmet : elem from (discoveredOf (run (searched t) (h .steps))) ≡ false → Worth c t v a
+      unmet f =
+          let n = h .archived .undiscovered from (omega (arith, named-below op t room yes-it-is, size-few (t .size) (ok .size-ok))) f in
+          worth-same (nowhere-unmet op (arraysHeld s .rows) (s .number) (s .index) (s .walk) (s .height) n)
+          (inr (subst (λ (l : List ℕ). meets l (run (searched t) (h .steps)) ≡ false) (sym (named-one op)) (unmet-one (searched t) from (run (searched t) (h .steps)) f)))
 
   -- the session that is returned
   abbrev next : Session
@@ -281,7 +326,7 @@ module _ (op : Op) (s : Session) (lent : List ℕ) where
 
   change-accepted : (lent′ : List ℕ) (b : Arrays) (a : Records) (r : Settled) → trialIn op (s .size) (arraysHeld s) (length lent) ≡ accepted
       → b ≡ filedIn op (s .size) (arraysHeld s)
-      → Settles (gameIn b) (s .size) (s .start) (resumptionAt (s .number) (namedBy op)) (oldOf s) (recordsHeld s) lent r a lent′
+      → Settles (gameIn b) (s .size) (s .start) (takenUp op s) (oldOf s) (recordsHeld s) lent r a lent′
       → Changes op s lent (record { answer = r .answer; session = sessionOf (s .size) (s .start) b a (r .verdict) (plus (r .verdict .kept) (r .verdict .spent)) }) lent′
   change-accepted lent′ b a r e new w = rw (w .answer-is) (record {
     answers = λ t h. ap answerLine (answer-accepted (changeOf op) (length lent) t (is t h))

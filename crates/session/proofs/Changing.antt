@@ -12,8 +12,8 @@ use Rattle.session.specs.declared.Settled.{Settled}
 use Rattle.table.specs.declared.Trial.the-variants.{Accepted, Refused}
 use Rattle.session.specs.declared.Verdict.{Verdict}
 use Rattle.table.specs.Trials.{Arrays, tried, trialIn}
-use Rattle.table.specs.Filing.{namedBy, filedIn}
-use Rattle.session.specs.Model.{Records, gameIn, resumptionAt, refusing, Settles, ChangedIn}
+use Rattle.table.specs.Filing.{filedIn}
+use Rattle.session.specs.Model.{Records, gameIn, resumptionOf, refusing, Settles, ChangedIn}
 use Rattle.table.proofs.Trying.{tried-accepted, tried-refused}
 
 same-number : {m n : ℕ} → refused m ≡ refused n → m ≡ n
@@ -36,7 +36,7 @@ module _ (op : Op) (size start : ℕ) (old : Verdict) (b : Arrays) (a : Records)
   }
 
   pub changed-accepted : (from : Resumption) (r : Settled) (b′ : Arrays) (a′ : Records) (lent′ : List ℕ) → Accepted ≡ tried trial → b′ ≡ filedIn op size b
-      → from ≡ resumptionAt (a .number) (namedBy op) → Settles (gameIn b′) size start from old a lent r a′ lent′
+      → from ≡ resumptionOf op (b .rows) (a .number) (a .index) (a .walk) (old .height) → Settles (gameIn b′) size start from old a lent r a′ lent′
       → ChangedIn op size start old b a lent r b′ a′ lent′
   changed-accepted from r b′ a′ lent′ e f g w = record {
     on-refusal = λ n z. absurd (not-both (sym z ∙ tried-accepted trial (sym e)));

@@ -2,6 +2,7 @@ pub mod Writing
 pub mod Held
 pub mod Told
 pub mod Sought
+pub mod Resuming
 pub mod Accepted
 pub mod Loaded
 pub mod Changing

@@ -5,8 +5,7 @@ use mathlib.Core.Bool.{Bool, true, false, cond}
 use mathlib.Core.List.{List}
 use Prim.Native.Nat.{ℕ, suc, _+_, _≤_, _<_}
 use native.Mathlib.Omega.{arith}
-use lib.ListN.{length, getD}
-use borrow.Author.Tests.{eq-eqb, ne-eqb}
+use lib.ListN.{length}
 use Rattle.plain.specs.Search.{Graph, Config, outer, nested, exhausted, found, run, lasso, unfinished, verdict, count}
 use Rattle.plain.specs.Table.{Table, searched, final, accepts}
 use Rattle.plain.specs.Notes.{notes}
@@ -14,7 +13,7 @@ use Rattle.plain.proofs.Tables.{Valid}
 use Rattle.plain.proofs.Demands.{ended-within, run-final, verdict-right}
 use Rattle.rows.proofs.Entries.{no-row}
 use Rattle.rows.proofs.Change.{starts-within}
-use Rattle.look.specs.Numbers.{noNumber, plus}
+use Rattle.look.specs.Numbers.{plus}
 use Rattle.look.proofs.Counting.{plus-more}
 use Rattle.look.proofs.Scans.{row-fits}
 use Rattle.search.specs.declared.Walker.{Walker}
@@ -28,7 +27,7 @@ use Rattle.search.proofs.Ended.{run-kept}
 use Rattle.session.specs.declared.Verdict.{Verdict}
 use Rattle.session.specs.declared.Resumption.{Resumption}
 use Rattle.session.specs.declared.Resumption.the-variants.{Nowhere, At}
-use Rattle.session.specs.Model.{Records, gameIn, recordsIn, isFound, verdictOf, bound, resumptionAt, backAt, Sought}
+use Rattle.session.specs.Model.{Records, gameIn, recordsIn, isFound, verdictOf, bound, backAt, Sought}
 use Rattle.session.specs.Promises.{Tells, heightOf}
 use Rattle.session.proofs.Held.{small, budget-bound}
 use Rattle.table.specs.Trials.{Arrays}
@@ -108,16 +107,6 @@ module _ (t : Table) (v : Valid t) (game : Game) (m : Matches (searched t) game)
 
   pub reached : (n : ℕ) (s : Core) (r : Result) → s .spent ≡ 0 → Fits (searched t) s (notes (searched t) n) (run (searched t) n) → Ran game bound s r → Reached t n r
   reached n s r unspent a ran = subst⁻¹ (Reached t n) (ran .reached) (reached-by (ran .steps) (ran .enough) n s unspent a)
-
--- ---- where the search is taken up
-
-pub taken-nowhere : (number : List ℕ) (s : ℕ) → getD number s 0 ≡ noNumber → resumptionAt number s ≡ Nowhere
-unfolding resumptionAt
-taken-nowhere number s e = ap (λ (b : Bool). cond b Nowhere (At s)) (eq-eqb (getD number s 0) noNumber e)
-
-pub taken-at : (number : List ℕ) (s : ℕ) → (getD number s 0 ≡ noNumber → ⊥) → resumptionAt number s ≡ At s
-unfolding resumptionAt
-taken-at number s n = ap (λ (b : Bool). cond b Nowhere (At s)) (ne-eqb (getD number s 0) noNumber n)
 
 -- ---- what `seek` leaves
 

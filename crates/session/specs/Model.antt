@@ -1,12 +1,15 @@
 -- What the inner functions of the session do, over the lists that its arrays hold. Cited by their contracts alone. Assumes nothing.
-use Prim.Native.Nat.{ℕ, _-_, _≤_}
+use Prim.Native.Nat.{ℕ, suc, _-_, _≤_}
 use mathlib.Core.Path.{_≡_}
-use mathlib.Core.Bool.{Bool, true, false, cond}
+use mathlib.Core.Bool.{Bool, true, false, cond, _&&_, _||_}
 use mathlib.Core.List.{List, _++_}
-use lib.Dec.{eqb}
+use lib.Dec.{eqb, ltb}
 use lib.ListN.{length, getD, take, drop, replicate}
 use Rattle.plain.specs.Refusals.{accepted, refused}
+use Rattle.rows.specs.Rows.{entries, rowAt, placeOf}
+use Rattle.rows.specs.Change.{Rows}
 use Rattle.table.specs.declared.Op.{Op}
+use Rattle.table.specs.declared.Op.the-variants.{Add, Cut, Mark, Unmark}
 use Rattle.table.specs.Trials.{Arrays, arraysOf, trialIn}
 use Rattle.table.specs.Filing.{namedBy, filedIn}
 use Rattle.look.specs.Numbers.{noNumber}
@@ -94,9 +97,25 @@ answerIs v = cond (eqb (v .length) 0) (Clear (v .spent) (v .kept)) (Round (v .sp
 unfoldable pub shownWalk : ℕ → List ℕ → List ℕ → List ℕ
 shownWalk n walk lent = take n walk ++ drop n lent
 
--- where a search is taken up for a state that a change names: nowhere if it was never discovered
-unfoldable pub resumptionAt : List ℕ → ℕ → Resumption
-resumptionAt number s = cond (eqb (getD number s 0) noNumber) Nowhere (At s)
+-- Had the search not come to an edge that comes or goes? Below the place of the tip stand, on the walk, the states that have not finished their outer moves. The state
+-- behind each of them was discovered through the last of its edges that was taken: an edge that goes has to stand behind that one.
+unfoldable pub unexploredEdge : Bool → ℕ → ℕ → Rows → List ℕ → List ℕ → ℕ → Bool
+unexploredEdge on from to rows index walk tip =
+    let i = placeOf from (entries tip 0 walk) in
+    ltb i tip && (on || ltb (getD index (getD walk (suc i) 0) 0) (placeOf to (rowAt (rows .targets) (rows .starts) from)))
+
+-- of a change
+abbrev pub unexploredIn : Op → Rows → List ℕ → List ℕ → ℕ → Bool
+unexploredIn (Add from to) rows index walk tip = unexploredEdge true from to rows index walk tip
+unexploredIn (Cut from to) rows index walk tip = unexploredEdge false from to rows index walk tip
+unexploredIn (Mark state) rows index walk tip = false
+unexploredIn (Unmark state) rows index walk tip = false
+
+-- Where a search is taken up for a change: nowhere if the state that it names was never discovered, or the search had not come to its edge. The tip is the last state of
+-- the open path, which is so many states high.
+unfoldable pub resumptionOf : Op → Rows → List ℕ → List ℕ → List ℕ → ℕ → Resumption
+resumptionOf op rows number index walk height =
+    cond (eqb (getD number (namedBy op) 0) noNumber || unexploredIn op rows index walk (height - 1)) Nowhere (At (namedBy op))
 
 -- has the search found a cycle?
 abbrev pub isFound : Phase → Bool
@@ -142,4 +161,4 @@ pub record ChangedIn (op : Op) (size start : ℕ) (old : Verdict) (b : Arrays) (
   pub on-refusal : (n : ℕ) → trialIn op size b (length lent) ≡ refused n
       → (r ≡ record { answer = refusing n; verdict = old }) × (b′ ≡ b) × (a′ ≡ a) × (lent′ ≡ lent)
   pub on-acceptance : trialIn op size b (length lent) ≡ accepted
-      → (b′ ≡ filedIn op size b) × Settles (gameIn b′) size start (resumptionAt (a .number) (namedBy op)) old a lent r a′ lent′
+      → (b′ ≡ filedIn op size b) × Settles (gameIn b′) size start (resumptionOf op (b .rows) (a .number) (a .index) (a .walk) (old .height)) old a lent r a′ lent′

@@ -2,6 +2,7 @@
 use rows::wide;
 use table::Op;
 use table::Refusal;
+use table::Subject;
 use table::Switch;
 use table::Trial;
 ghost use mathlib.Core.Path.{_≡_};
@@ -9,10 +10,11 @@ ghost use mathlib.Core.List.{_++_};
 ghost use Prim.Native.Nat.{_+_, _≤_};
 ghost use lib.ListN.{length, take, drop};
 ghost use Rattle.rows.specs.Rows.{Tabled};
+ghost use Rattle.rows.specs.Change.{rowsOf};
 ghost use Rattle.look.specs.Numbers.{plus};
 ghost use Rattle.search.specs.Core.{gameOf, Lengths};
 ghost use Rattle.table.specs.Trials.{arraysOf, opOf};
-ghost use Rattle.session.specs.Model.{resumptionAt, isFound, verdictOf, noVerdict, recordsOf, Sought, answerIs, refusing, noGame, shownWalk, Settles, ChangedIn};
+ghost use Rattle.session.specs.Model.{unexploredEdge, resumptionOf, isFound, verdictOf, noVerdict, recordsOf, Sought, answerIs, refusing, noGame, shownWalk, Settles, ChangedIn};
 ghost use Rattle.session.specs.Promises.{Loads, Changes};
 
 // The answer to a call: a refusal, or the probes spent and kept, and with a round the lengths of stem and round.
@@ -45,7 +47,7 @@ struct Settled {
     verdict: Verdict,
 }
 
-// Where a search is taken up: nowhere, since the state that a change names was never discovered, or where a state was discovered.
+// Where a search is taken up: nowhere, since it had not come to what a change alters, or where the state was discovered that the change names.
 enum Resumption {
     Nowhere,
     At(u16),
@@ -83,13 +85,55 @@ pub struct Outcome {
 // 2 × 2,048 + 3 × 512 + 2: no search takes more steps, and a phase of it is one step or more.
 const PHASES: u16 = 5634;
 
-// Where the search is taken up for a state that a change names.
-fn where_to_resume(number: &[u16; 512], s: u16) -> Resumption
-    requires { ⌜ length (now number) ≡ 512 ⌝ }
-    ensures { λ r. ⌜ r ≡ resumptionAt (now (number .entry)) s ⌝ }
+// Had the search not come to an edge that comes or goes? The states below the place of the tip have not finished their outer moves: an edge that comes stands
+// behind those taken. The state behind each of them on the walk was discovered through the last one taken: an edge that goes has to stand further on.
+fn is_unexplored(
+    on: bool,
+    from: u16,
+    to: u16,
+    targets: &[u16; 2048],
+    starts: &[u16; 513],
+    index: &[u16; 512],
+    walk: &[u16; 512],
+    tip: u16,
+) -> bool
+    requires { ⌜ Tabled (now targets) (now starts) × (length (now index) ≡ 512) × (length (now walk) ≡ 512) ⌝ }
+    ensures { λ r. ⌜ r ≡ unexploredEdge on from to (rowsOf (now (targets .entry)) (now (starts .entry))) (now (index .entry)) (now (walk .entry)) tip ⌝ }
 {
+    let i = look::find(walk, tip, from);
+    if tip <= i {
+        return false;
+    }
+    if on {
+        return true;
+    }
+    let next = look::get(walk, i + 1);
+    look::get(index, next) < rows::place(targets, starts, from, to)
+}
+
+// Where the search is taken up for a change. It is asked before the change is made, while an edge that goes still has its place.
+fn where_to_resume(
+    switch: Switch,
+    targets: &[u16; 2048],
+    starts: &[u16; 513],
+    number: &[u16; 512],
+    index: &[u16; 512],
+    walk: &[u16; 512],
+    height: u16,
+) -> Resumption
+    requires { ⌜ Tabled (now targets) (now starts) × (length (now number) ≡ 512) × (length (now index) ≡ 512) × (length (now walk) ≡ 512) ⌝ }
+    ensures { λ r. ⌜ r ≡ resumptionOf (opOf switch) (rowsOf (now (targets .entry)) (now (starts .entry))) (now (number .entry)) (now (index .entry)) (now (walk .entry)) height ⌝ }
+{
+    let s = table::named_by(switch);
     if look::get(number, s) == look::NO_NUMBER {
         return Resumption::Nowhere;
+    }
+    let subject = switch.subject;
+    if let Subject::Edge { from, to } = subject {
+        let tip = look::down(height);
+        if is_unexplored(switch.on, from, to, targets, starts, index, walk, tip) {
+            return Resumption::Nowhere;
+        }
     }
     Resumption::At(s)
 }
@@ -416,6 +460,7 @@ fn change_in(
     requires { ⌜ Tabled (now targets) (now starts) × Lengths (now number) (now parent) (now index) (now probes) (now stamp) (now walk) ⌝ }
     ensures { λ r. ⌜ ChangedIn (opOf switch) size start old (arraysOf (now (targets .entry)) (now (starts .entry)) (now (words .entry))) (recordsOf (now (number .entry)) (now (parent .entry)) (now (index .entry)) (now (probes .entry)) (now (stamp .entry)) (now (walk .entry))) (now (lent .entry)) r (arraysOf (now (targets .exit)) (now (starts .exit)) (now (words .exit))) (recordsOf (now (number .exit)) (now (parent .exit)) (now (index .exit)) (now (probes .exit)) (now (stamp .exit)) (now (walk .exit))) (now (lent .exit)) ⌝ }
 {
+    let from = where_to_resume(switch, targets, starts, number, index, walk, old.height);
     let trial = table::attempt(switch, size, targets, starts, words, lent.len());
     if let Trial::Refused(n) = trial {
         return Settled {
@@ -423,7 +468,6 @@ fn change_in(
             verdict: old,
         };
     }
-    let from = where_to_resume(number, table::named_by(switch));
     settle(
         targets,
         starts,

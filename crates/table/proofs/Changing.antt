@@ -14,7 +14,7 @@ use Rattle.plain.specs.Table.{Table, accepts, row, withMark, withoutMark}
 use Rattle.plain.specs.Refusals.{accepted, firstHeld, present, outside, beyond, full, roomCondition}
 use Rattle.plain.specs.Machine.{without, withWords, apply, conditions, changeTrial}
 use Rattle.plain.proofs.Tests.{either, or-false}
-use Rattle.plain.proofs.Rows.{row-once, row-cut, row-cut-other, without-length, but, but-yes, but-no}
+use Rattle.plain.proofs.Rows.{row-once, row-cut, row-cut-other, without-length, but, but-yes, but-no, but-none}
 use Rattle.plain.proofs.Trials.{unheld}
 use Rattle.plain.proofs.Tables.{Valid, inside-both}
 use Rattle.rows.specs.Rows.{rowAt, degreeAt, placeOf, Tabled}
@@ -27,6 +27,7 @@ use Rattle.table.specs.declared.Subject.{Subject}
 use Rattle.table.specs.declared.Subject.the-variants as Subject
 use Rattle.table.specs.Trials.{Arrays, switching, stateOf, there, addConditions, cutConditions, markConditions, unmarkConditions, conditionsIn, trialIn}
 use Rattle.table.specs.Filing.{changeOf, namedBy, filedIn, Filed, Stored}
+use Rattle.table.proofs.Places.{place-hit, place-miss}
 use Rattle.table.proofs.Filing.{there-present, filed-insert}
 
 rows-of : {a b : Arrays} → a ≡ b → a .rows ≡ b .rows
@@ -53,23 +54,6 @@ named-below (Add from to) t room e = inside-both (t .size) (from, to) (unheld 6 
 named-below (Cut from to) t room e = inside-both (t .size) (from, to) (unheld 6 _ e) .0
 named-below (Mark state) t room e = leb-false (t .size) state (unheld 6 _ e)
 named-below (Unmark state) t room e = leb-false (t .size) state (unheld 6 _ e)
-
--- ---- the place of an entry of a list
-
-place-hit : (y x : ℕ) (xs : List ℕ) → eqb y x ≡ true → placeOf y (x ∷ xs) ≡ 0
-unfolding placeOf
-place-hit y x xs e = rw (e, placeOf)
-
-place-miss : (y x : ℕ) (xs : List ℕ) → eqb y x ≡ false → placeOf y (x ∷ xs) ≡ suc (placeOf y xs)
-unfolding placeOf
-place-miss y x xs e = rw (e, placeOf)
-
-but-none : (y : ℕ) (xs : List ℕ) → elem y xs ≡ false → but y xs ≡ xs
-unfolding elem filter
-but-none y [] o = refl
-but-none y (x ∷ xs) o =
-    let w = or-false (eqb y x) (elem y xs) o in
-    but-no y x xs (w .0) ∙ ap (λ (l : List ℕ). x ∷ l) (but-none y xs (w .1))
 
 -- taking out the entry at its place takes out the entry
 remove-place : (y : ℕ) (xs : List ℕ) → Once xs → placeOf y xs < length xs → take (placeOf y xs) xs ++ drop (suc (placeOf y xs)) xs ≡ but y xs

@@ -6,9 +6,9 @@ use mathlib.Core.List.{List, [], _∷_, _++_, append-nil, append-assoc}
 use Prim.Native.Nat.{ℕ, suc, _+_, _%_, _≤_, _<_}
 use native.Mathlib.Decide.{ℕ-discrete}
 use native.Mathlib.Omega.{arith}
-use lib.Dec.{eqb, ltb, leb·suc-suc}
+use lib.Dec.{eqb, ltb}
 use lib.ListN.{length, drop, replicate, length-append}
-use borrow.Author.Tests.{lt-ltb, ltb-false, ne-eqb}
+use borrow.Author.Tests.{ltb-false, ne-eqb}
 use Rattle.plain.specs.Lists.{any, elem}
 use Rattle.plain.specs.Search.{Edge}
 use Rattle.plain.specs.Table.{row}
@@ -26,24 +26,11 @@ use Rattle.table.specs.declared.Trial.{Trial}
 use Rattle.table.specs.declared.Trial.the-variants.{Accepted, Refused}
 use Rattle.table.specs.Trials.{tried, earlyTrial, there}
 use Rattle.table.specs.Filing.{Filed, Empty, Limits, FiledAll, Tried}
+use Rattle.table.proofs.Places.{found, same-test}
 use Rattle.table.proofs.Pairs.{moveAt, pairs-more, pairs-end}
 use Rattle.table.proofs.Trying.{stop, skip, early-held, Early, early-free}
 
 -- ---- an edge is present exactly when its target has a place in its row
-
-found-by : (b : Bool) (p n : ℕ) (e : Bool) → ltb p n ≡ e → ltb (elim b [ true ↦ 0 | false ↦ suc p ]) (suc n) ≡ b || e
-found-by true p n e h = lt-ltb 0 (suc n) (omega arith)
-found-by false p n e h = leb·suc-suc (suc p) n ∙ h
-
-found : (t : ℕ) (xs : List ℕ) → ltb (placeOf t xs) (length xs) ≡ elem t xs
-unfolding placeOf elem
-found t [] = refl
-found t (x ∷ xs) = found-by (eqb t x) (placeOf t xs) (length xs) (elem t xs) (found t xs)
-
-same-test : (a b : Bool) → (a ≡ true → b ≡ true) → (b ≡ true → a ≡ true) → a ≡ b
-same-test true b f g = sym (f refl)
-same-test false true f g = g refl
-same-test false false f g = refl
 
 pub there-present : (targets starts : List ℕ) (es : List Edge) (v t : ℕ) → rowAt targets starts v ≡ row es v → there targets starts v t ≡ present es (v, t)
 there-present targets starts es v t e =

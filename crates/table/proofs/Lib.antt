@@ -1,3 +1,4 @@
+pub mod Places
 pub mod Pairs
 pub mod Trying
 pub mod Filing
