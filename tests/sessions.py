@@ -16,7 +16,8 @@ import sys
 
 import common
 from common import ROOT, STORED, as_lines, difference, fail, game_a
-from reference import GAMES, MARK_GAMES, MOST_MOVES, MOST_STATES, SELF_GAMES, answer_text, bench_answer
+from reference import (GAMES, MARK_GAMES, MOST_MOVES, MOST_STATES, SELF_GAMES, UNREACHED_GAMES, answer_text, bench_answer,
+                       plain_search)
 
 
 # ------------------------------------------------------------ one text
@@ -244,6 +245,86 @@ def chain(rng, count=60):
     return text.data()
 
 
+def stem_game(rng, size):
+    """A line of states to one that pays and leads back. Before the move that leads along it, a state of the line has some
+    to states off it or met by then; behind it some to any; or none behind, so that its last move leads along."""
+    order = rng.sample(range(size), size)
+    length = rng.randint(size // 2 + 1, size)
+    line, off = order[:length], order[length:]
+
+    def few(targets):
+        return rng.choices(targets, k=rng.choice((0, 0, 1, 2)))
+    rows = {s: few(off + line[:1]) for s in off}
+    for at, target in enumerate(line[1:]):
+        rows[line[at]] = few(off + line[:at + 1]) + [target] + few(order)
+    rows[line[-1]] = few(off + line[:1]) + [rng.choice(line)] + few(order)
+    targets = {s: iter(dict.fromkeys(row)) for s, row in rows.items()}
+    sources = [s for s, row in rows.items() for _ in dict.fromkeys(row)]
+    moves = [(s, next(targets[s])) for s in rng.sample(sources, len(sources))]
+    return Text(size, line[0], sorted({line[-1], *rng.sample(line, rng.choice((0, 0, 1)))}), moves), line
+
+
+def repaired(rng, text, line):
+    """The line leads on again to a state that pays and leads back."""
+    broken = [move for move in zip(line, line[1:]) if move not in text.moves]
+    if broken:
+        text.add(broken[0])
+    elif line[-1] not in text.pays:
+        text.mark(line[-1])
+    else:
+        text.add((line[-1], rng.choice(line)))
+
+
+def by_run(rng, text, run):
+    """A change of a sort that the run which it finds decides; mostly of a move that this run has not come to."""
+    def to_any(states):
+        return rng.choice(states), rng.randrange(text.size)
+    done, looked = set(run.finished), set(run.looks)
+    unfinished = [s for s in run.met_after if s not in done]
+    unmet = [s for s in range(text.size) if s not in run.met_after]
+    behind = [move for move in text.moves if move[0] in run.met_after and move not in looked]
+    walk = run.stem + run.round
+    dice = rng.random()
+    if dice < 0.28 and behind:
+        text.cut(rng.choice(behind))
+    elif dice < 0.52 and unfinished:
+        text.add(to_any(unfinished))
+    elif dice < 0.66 and unmet:
+        there = [move for move in text.moves if move[0] in unmet]
+        if there and rng.random() < 0.5:
+            text.cut(rng.choice(there))
+        else:
+            text.add(to_any(unmet))
+    elif dice < 0.76:
+        text.add(to_any(run.finished[-1:] if rng.random() < 0.5 else run.finished))       # the last is the one that pays
+    elif dice < 0.92 and looked:
+        along = list(zip(walk, walk[1:]))
+        move = rng.choice(along if along and rng.random() < 0.6 else run.looks)
+        text.cut(move)
+        if rng.random() < 0.5:
+            text.add(move)                     # newest now: the last of its row, and what was behind it is before it
+    else:
+        text.turn(rng.choice(unfinished if unfinished and rng.random() < 0.7 else run.finished))
+
+
+def stems(rng, size=None, count=40):
+    """A long walk, and moves that the search comes to and does not come to, with marks and refused lines between them."""
+    size = size or rng.choice((rng.randint(6, 12), rng.randint(6, 12), rng.randint(13, 64), rng.randint(65, 511), 512))
+    text, line = stem_game(rng, size)
+    for _ in range(count):
+        run = plain_search(size, text.start, [s in text.pays for s in range(size)], list(text.moves))
+        dice = rng.random()
+        if dice < 0.06:
+            refused_change(rng, text)
+        elif dice < 0.09:
+            text.rows.append(rng.choice(("", "go", "end", "add 0", "mark 0 0")))
+        elif not run.found and dice < 0.7:
+            repaired(rng, text, line)
+        else:
+            by_run(rng, text, run)
+    return text.data()
+
+
 def hostile(rng):
     """A small session with unreadable lines among its lines, mostly behind `go`."""
     lines = common.lines_of(small(rng))
@@ -305,7 +386,7 @@ def many(rng):
     return text.data()
 
 
-KINDS = {make.__name__: make for make in (small, mid, full, chain, hostile, refused, ended, many)}
+KINDS = {make.__name__: make for make in (small, mid, full, chain, stems, hostile, refused, ended, many)}
 
 
 def session(seed, kind):
@@ -357,7 +438,7 @@ def stored():
     """Name and text of each stored session."""
     for game in GAMES:
         yield "game-" + game[0].lower(), known(game)
-    for game in SELF_GAMES + MARK_GAMES:
+    for game in SELF_GAMES + MARK_GAMES + UNREACHED_GAMES:
         yield game[0], known(game)
     yield "states-512", as_lines(["game 512 0", "pay 511", "move 0 511", "go", "add 511 0", "add 512 0", "cut 511 0"])
     yield "states-513", as_lines(["game 513 0", "pay 511", "move 0 511", "go", "add 511 0"])
@@ -397,12 +478,16 @@ def stored():
     yield "random-mid-changes", session(247, "mid")
     yield "random-full", session(29, "full")
     yield "random-chain", chain(random.Random(54), 16)
+    yield "random-stems", session(1028, "stems")
+    yield "random-stems-512", stems(random.Random(65), 512, 16)
 
 
 SEPARATOR = b"\x1e"                            # parts the texts that crates/texts is run on
 # It holds 65,536 bytes of input. What moves-2048 asks is asked in self-move-2048 too. same-move-2049 is a shorter text for
 # what moves-2049 and self-move-2049 ask, and marks-none-of-512 for the states about which marks-all-of-512 asks.
-TOO_LONG = {"random-full", "random-chain", "moves-2048", "moves-2049", "self-move-2049", "self-moves-512", "marks-all-of-512"}
+# random-stems asks on a walk of 6 states what random-stems-512 asks on one of 487.
+TOO_LONG = {"random-full", "random-chain", "moves-2048", "moves-2049", "self-move-2049", "self-moves-512", "marks-all-of-512",
+            "random-stems-512"}
 
 
 def bundle():

@@ -4,7 +4,9 @@
 Written from the papers alone. After every accepted call the whole search is
 run afresh on the table; nothing is remembered from one run to the next. A move
 from a state to itself is taken like any other; there is no refusal 7. A state's
-pay is turned on and off by `mark` and `unmark`.
+pay is turned on and off by `mark` and `unmark`. Where a move comes or goes, the
+search is also run on the table as it was: what that run had not come to keeps
+every look.
 
     python3 reference.py --selftest      run the tests of this file
     python3 reference.py < text          answer a whole input text
@@ -13,7 +15,7 @@ pay is turned on and off by `mark` and `unmark`.
 import itertools
 import random
 import sys
-from collections import Counter
+from collections import Counter, namedtuple
 
 MOST_STATES = 512
 MOST_MOVES = 2048
@@ -29,6 +31,8 @@ class Run:
         self.looks = []       # the moves looked at, in the order taken
         self.met_after = {}   # state -> count of looks before its meeting;
                               # the states stand in the order of meeting
+        self.finished = []    # the states whose last outer move was taken and, if
+                              # that move met its target, the target completed
         self.found = False
         self.stem = []
         self.round = []
@@ -84,6 +88,7 @@ def plain_search(size, start, pays, moves):
                 meet(target)
             continue
         # after its last move
+        run.finished.append(state)
         if pays[state]:
             stop = inner_search(state)
             if stop is not None:
@@ -99,6 +104,13 @@ def plain_search(size, start, pays, moves):
 
     assert len(run.looks) <= 2 * len(moves)
     return run
+
+
+def not_come_to(run, word, move):
+    """Whether this run, the one before an add or a cut, had not come to the move."""
+    if word == "cut":
+        return move not in run.looks
+    return move[0] not in run.finished
 
 
 # ----------------------------------------------------------------- the table
@@ -131,17 +143,16 @@ class Table:
     def add(self, a, b, room):
         number = self._refusal((a, b), room, lambda: 8 if (a, b) in self.moves else
                                9 if len(self.moves) >= MOST_MOVES else 0)
-        if number:
-            return ("no", number)
-        self.moves.append((a, b))
-        return self._answer(a)
+        return ("no", number) if number else self._move("add", (a, b), self.moves.append)
 
     def cut(self, a, b, room):
         number = self._refusal((a, b), room, lambda: 0 if (a, b) in self.moves else 10)
-        if number:
-            return ("no", number)
-        self.moves.remove((a, b))
-        return self._answer(a)
+        return ("no", number) if number else self._move("cut", (a, b), self.moves.remove)
+
+    def _move(self, word, move, change):
+        spared = not_come_to(self._search(), word, move)
+        change(move)
+        return self._answer(move[0], spared)
 
     def mark(self, state, room):
         return self._switch(state, room, True, 13)
@@ -182,11 +193,20 @@ class Table:
             return 11
         return 0
 
-    def _answer(self, named):
-        """named: the state that the changed move leaves, or whose mark changed; None after a load."""
-        self.run = run = plain_search(self.size, self.start, self.pays, self.moves)
+    def _search(self):
+        return plain_search(self.size, self.start, self.pays, self.moves)
+
+    def _answer(self, named, spared=False):
+        """named: the state that the changed move leaves, or whose mark changed; None after a load.
+        spared: the run before the change had not come to the move."""
+        self.run = run = self._search()
         count = len(run.looks)
-        kept = 0 if named is None else run.met_after.get(named, count)
+        if named is None:
+            kept = 0
+        elif spared:
+            kept = count
+        else:
+            kept = run.met_after.get(named, count)
         spent = count - kept
         if not run.found:
             return ("none", spent, kept)
@@ -329,7 +349,7 @@ GAMES = [
     ("H", 3, [1, 2], [(0, 1), (0, 2), (1, 0), (2, 0)],
      ("round", 3, 0, [], [0, 1]), [
         ("cut", 0, 1, ("round", 3, 0, [], [0, 2])),
-        ("add", 0, 1, ("round", 3, 0, [], [0, 2])),
+        ("add", 0, 1, ("round", 0, 3, [], [0, 2])),
     ]),
     ("I", 3, [0, 1], F_MOVES, ("round", 5, 0, [0], [1, 2]), []),
 ]
@@ -351,7 +371,7 @@ SELF_GAMES = [
     ("self-stem", 3, [2], [(0, 0), (0, 1), (1, 2), (2, 1)],
      ("round", 5, 0, [0], [1, 2]), [
         ("cut", 0, 0, ("round", 4, 0, [0], [1, 2])),
-        ("add", 0, 0, ("round", 4, 0, [0], [1, 2])),
+        ("add", 0, 0, ("round", 0, 4, [0], [1, 2])),
         ("cut", 2, 1, ("none", 1, 2)),
     ]),
     ("self-round", 3, [2], [(0, 1), (1, 1), (1, 2), (2, 0)],
@@ -376,7 +396,7 @@ SELF_GAMES = [
     ("self-newest", 3, [1, 2], [(0, 1), (0, 2), (1, 1), (2, 2)],
      ("round", 3, 0, [0], [1]), [
         ("cut", 0, 1, ("round", 3, 0, [0], [2])),
-        ("add", 0, 1, ("round", 3, 0, [0], [2])),
+        ("add", 0, 1, ("round", 0, 3, [0], [2])),
         ("cut", 2, 2, ("round", 3, 1, [0], [1])),
         ("add", 2, 2, ("round", 2, 1, [0], [2])),
     ]),
@@ -385,7 +405,7 @@ SELF_GAMES = [
         ("add", 1, 1, ("none", 0, 1)),
         ("cut", 0, 0, ("none", 0, 0)),
         ("add", 0, 1, ("round", 3, 0, [0], [1])),
-        ("add", 0, 0, ("round", 3, 0, [0], [1])),
+        ("add", 0, 0, ("round", 0, 3, [0], [1])),
         ("cut", 1, 1, ("none", 1, 1)),
     ]),
     ("self-moves", 3, [1], [(0, 1), (1, 1), (1, 2)],
@@ -398,7 +418,7 @@ SELF_GAMES = [
         ("add", 3, 3, ("no", 6)),
         ("cut", 3, 3, ("no", 6)),
         ("cut", 0, 0, ("no", 10)),
-        ("add", 0, 0, ("round", 7, 0, [0], [1])),
+        ("add", 0, 0, ("round", 0, 7, [0], [1])),
         ("add", 0, 0, ("no", 8)),
         ("cut", 0, 1, ("none", 1, 0)),
         ("cut", 1, 1, ("none", 0, 1)),
@@ -548,7 +568,205 @@ MARK_GAMES = [
     ]),
 ]
 
-WORKED = GAMES + SELF_GAMES + MARK_GAMES
+# The same for moves that the run before had not come to, worked by hand.
+UNREACHED_GAMES = [
+    # moves before, at and behind the one that leads along the stem, of two states
+    ("unreached-behind", 5, [3], [(0, 4), (0, 1), (0, 2), (1, 4), (1, 3), (1, 2), (3, 1), (2, 0)],
+     ("round", 6, 0, [0], [1, 3]), [
+        ("cut", 0, 2, ("round", 0, 6, [0], [1, 3])),
+        ("cut", 1, 2, ("round", 0, 6, [0], [1, 3])),
+        ("cut", 2, 0, ("round", 0, 6, [0], [1, 3])),        # of a state never met
+        ("add", 1, 2, ("round", 0, 6, [0], [1, 3])),
+        ("add", 0, 2, ("round", 0, 6, [0], [1, 3])),
+        ("add", 0, 2, ("no", 8)),
+        ("cut", 2, 0, ("no", 10)),
+        ("cut", 1, 4, ("round", 3, 2, [0], [1, 3])),        # before
+        ("cut", 1, 3, ("none", 2, 2)),                      # at
+        ("add", 1, 3, ("round", 4, 2, [0], [1, 3])),        # now 1 2 stands before it
+        ("cut", 0, 2, ("round", 0, 6, [0], [1, 3])),
+        ("cut", 0, 4, ("round", 5, 0, [0], [1, 3])),
+        ("cut", 0, 1, ("none", 0, 0)),
+    ]),
+    # the paying state at the end of the open path has finished; so has a state without moves that was met
+    ("unreached-tip", 4, [2], [(0, 1), (1, 2), (2, 1)], ("round", 4, 0, [0], [1, 2]), [
+        ("add", 2, 3, ("round", 3, 2, [0], [1, 2])),
+        ("add", 3, 0, ("round", 2, 4, [0], [1, 2])),
+        ("add", 2, 0, ("round", 5, 2, [0], [1, 2])),
+        ("cut", 2, 1, ("round", 5, 2, [], [0, 1, 2, 3])),
+        ("add", 2, 1, ("round", 6, 2, [], [0, 1, 2, 3])),
+        ("cut", 3, 0, ("round", 4, 3, [], [0, 1, 2])),
+        ("cut", 2, 3, ("round", 3, 2, [], [0, 1, 2])),
+        ("cut", 2, 0, ("round", 2, 2, [0], [1, 2])),
+    ]),
+    # an added move of that state makes another round; the state is then one whose last move leads along the open path
+    ("unreached-new-tip", 4, [2, 3], [(0, 1), (1, 2), (2, 1), (3, 0)], ("round", 4, 0, [0], [1, 2]), [
+        ("cut", 3, 0, ("round", 0, 4, [0], [1, 2])),
+        ("add", 3, 0, ("round", 0, 4, [0], [1, 2])),
+        ("add", 2, 3, ("round", 4, 2, [], [0, 1, 2, 3])),
+        ("add", 2, 0, ("round", 0, 6, [], [0, 1, 2, 3])),
+        ("add", 2, 2, ("round", 0, 6, [], [0, 1, 2, 3])),
+        ("cut", 2, 2, ("round", 0, 6, [], [0, 1, 2, 3])),
+        ("cut", 2, 0, ("round", 0, 6, [], [0, 1, 2, 3])),
+        ("add", 3, 1, ("round", 3, 4, [], [0, 1, 2, 3])),
+        ("cut", 3, 0, ("round", 2, 4, [0], [1, 2, 3])),
+        ("cut", 2, 3, ("round", 2, 2, [0], [1, 2])),
+    ]),
+    # the paying state with a move to itself
+    ("unreached-self", 3, [1], [(0, 1), (1, 1), (0, 2)], ("round", 3, 0, [0], [1]), [
+        ("cut", 0, 2, ("round", 0, 3, [0], [1])),
+        ("add", 0, 0, ("round", 0, 3, [0], [1])),
+        ("add", 1, 2, ("round", 3, 1, [0], [1])),
+        ("add", 1, 0, ("round", 4, 1, [0], [1])),
+        ("cut", 1, 1, ("round", 4, 1, [], [0, 1])),
+        ("add", 1, 1, ("round", 5, 1, [], [0, 1])),
+        ("add", 2, 2, ("round", 6, 2, [], [0, 1])),         # of a state that has left the open path
+        ("cut", 0, 0, ("round", 0, 8, [], [0, 1])),
+        ("cut", 1, 1, ("round", 6, 1, [], [0, 1])),         # no inner look, but an outer one
+    ]),
+    # the start state is the one that pays, alone on the open path, and then is not
+    ("unreached-start", 2, [0], [(0, 0)], ("round", 2, 0, [], [0]), [
+        ("add", 0, 1, ("round", 3, 0, [], [0])),
+        ("add", 1, 0, ("round", 2, 2, [], [0])),
+        ("add", 1, 1, ("round", 3, 2, [], [0])),
+        ("mark", 1, ("round", 3, 2, [], [0, 1])),
+        ("cut", 0, 0, ("round", 4, 0, [], [0, 1])),
+        ("add", 0, 0, ("round", 0, 4, [], [0, 1])),         # its only move leads along the open path
+        ("cut", 0, 0, ("round", 0, 4, [], [0, 1])),
+        ("unmark", 1, ("round", 4, 1, [], [0, 1])),
+        ("add", 0, 0, ("round", 6, 0, [], [0, 1])),
+    ]),
+    # with no round every state that was met has finished, and all its moves were looked at
+    ("unreached-none", 4, [1], [(0, 1), (1, 2), (3, 0)], ("none", 3, 0), [
+        ("add", 0, 2, ("none", 4, 0)),
+        ("add", 2, 2, ("none", 4, 2)),
+        ("cut", 3, 0, ("none", 0, 6)),
+        ("add", 3, 3, ("none", 0, 6)),
+        ("cut", 0, 2, ("none", 5, 0)),
+        ("cut", 2, 2, ("none", 1, 2)),
+        ("add", 2, 1, ("round", 3, 2, [0], [1, 2])),
+        ("add", 0, 3, ("round", 0, 5, [0], [1, 2])),
+        ("cut", 1, 2, ("none", 2, 1)),
+        ("add", 1, 2, ("round", 4, 1, [0], [1, 2])),
+        ("cut", 0, 3, ("round", 0, 5, [0], [1, 2])),
+    ]),
+    # states that have left the open path, with moves and without; one of them comes to lie on the walk
+    ("unreached-left", 5, [3], [(0, 1), (1, 2), (0, 3), (3, 0), (0, 4)], ("round", 5, 0, [], [0, 3]), [
+        ("add", 0, 2, ("round", 0, 5, [], [0, 3])),
+        ("add", 4, 0, ("round", 0, 5, [], [0, 3])),
+        ("add", 2, 4, ("round", 5, 2, [], [0, 3])),
+        ("add", 1, 3, ("round", 6, 1, [], [0, 1, 3])),
+        ("cut", 0, 3, ("round", 0, 7, [], [0, 1, 3])),      # looked at by the run before the last
+        ("add", 1, 4, ("round", 0, 7, [], [0, 1, 3])),
+        ("cut", 2, 4, ("round", 3, 2, [], [0, 1, 3])),
+        ("cut", 1, 4, ("round", 0, 5, [], [0, 1, 3])),
+        ("add", 2, 1, ("round", 4, 2, [], [0, 1, 3])),
+        ("cut", 1, 3, ("none", 5, 1)),
+        ("cut", 3, 0, ("none", 0, 6)),
+    ]),
+    # one after another, and then one that matters
+    ("unreached-again", 6, [4], [(0, 1), (1, 2), (2, 3), (3, 4), (4, 2)], ("round", 6, 0, [0, 1], [2, 3, 4]), [
+        ("add", 3, 5, ("round", 0, 6, [0, 1], [2, 3, 4])),
+        ("add", 2, 5, ("round", 0, 6, [0, 1], [2, 3, 4])),
+        ("add", 1, 5, ("round", 0, 6, [0, 1], [2, 3, 4])),
+        ("add", 0, 5, ("round", 0, 6, [0, 1], [2, 3, 4])),
+        ("add", 0, 4, ("round", 0, 6, [0, 1], [2, 3, 4])),
+        ("cut", 1, 5, ("round", 0, 6, [0, 1], [2, 3, 4])),
+        ("add", 1, 5, ("round", 0, 6, [0, 1], [2, 3, 4])),
+        ("add", 5, 4, ("round", 0, 6, [0, 1], [2, 3, 4])),
+        ("cut", 2, 3, ("round", 4, 2, [0, 1], [2, 5, 4])),
+        ("cut", 3, 5, ("round", 0, 6, [0, 1], [2, 5, 4])),
+        ("cut", 1, 5, ("round", 0, 6, [0, 1], [2, 5, 4])),
+        ("add", 2, 3, ("round", 0, 6, [0, 1], [2, 5, 4])),
+        ("cut", 2, 5, ("round", 4, 2, [0, 1], [2, 3, 4])),
+        ("cut", 0, 1, ("round", 8, 0, [0, 5], [4, 2, 3])),
+        ("add", 5, 0, ("round", 0, 8, [0, 5], [4, 2, 3])),
+        ("cut", 0, 4, ("round", 0, 8, [0, 5], [4, 2, 3])),
+        ("add", 2, 0, ("round", 6, 3, [0, 5], [4, 2, 3])),  # on the round, but by the inner search: it has finished
+        ("cut", 2, 0, ("round", 5, 3, [0, 5], [4, 2, 3])),
+    ]),
+    # marks of states that have not finished are counted as before
+    ("unreached-marks", 4, [3], [(0, 1), (1, 2), (2, 3), (3, 2), (1, 3)], ("round", 5, 0, [0, 1], [2, 3]), [
+        ("mark", 1, ("round", 4, 1, [0, 1], [2, 3])),
+        ("add", 1, 0, ("round", 0, 5, [0, 1], [2, 3])),
+        ("unmark", 1, ("round", 4, 1, [0, 1], [2, 3])),
+        ("mark", 0, ("round", 5, 0, [0, 1], [2, 3])),
+        ("cut", 1, 3, ("round", 0, 5, [0, 1], [2, 3])),
+        ("mark", 2, ("round", 3, 2, [0, 1], [2, 3])),
+        ("unmark", 3, ("round", 3, 3, [0, 1], [2, 3])),
+        ("add", 2, 0, ("round", 5, 2, [0, 1], [2, 3])),
+        ("unmark", 0, ("round", 7, 0, [0, 1], [2, 3])),
+        ("add", 3, 3, ("round", 5, 3, [0, 1], [2, 3])),
+        ("add", 0, 2, ("round", 0, 8, [0, 1], [2, 3])),
+        ("unmark", 2, ("none", 6, 2)),
+        ("mark", 0, ("round", 14, 0, [], [0, 1, 2])),
+        ("add", 0, 3, ("round", 15, 0, [], [0, 1, 2])),
+        ("add", 3, 0, ("round", 13, 3, [], [0, 1, 2, 3])),
+        ("cut", 1, 0, ("round", 14, 1, [], [0, 1, 2, 3])),
+    ]),
+    # refused changes between
+    ("unreached-refused", 3, [2], [(0, 1), (1, 2), (2, 0), (1, 0)], ("round", 4, 0, [], [0, 1, 2]), [
+        ("cut", 1, 1, ("no", 10)),
+        ("add", 1, 0, ("no", 8)),
+        ("cut", 1, 0, ("round", 0, 4, [], [0, 1, 2])),
+        ("cut", 1, 0, ("no", 10)),
+        ("mark", 2, ("no", 13)),
+        ("unmark", 1, ("no", 14)),
+        ("add", 1, 3, ("no", 6)),
+        ("cut", 3, 3, ("no", 6)),
+        ("add", 1, 1, ("round", 0, 4, [], [0, 1, 2])),
+        ("add", 1, 1, ("no", 8)),
+        ("mark", 3, ("no", 6)),
+        ("add", 1, 0, ("round", 0, 4, [], [0, 1, 2])),
+        ("cut", 2, 0, ("none", 2, 2)),
+        ("add", 2, 0, ("round", 2, 2, [], [0, 1, 2])),
+        ("cut", 1, 1, ("round", 0, 4, [], [0, 1, 2])),
+    ]),
+    # whole branches before the move that leads along the stem; then the walk leads through one of them
+    ("unreached-branch", 7, [6], [(0, 1), (1, 2), (2, 1), (0, 3), (3, 4), (3, 6), (6, 3), (4, 2), (5, 0), (3, 5), (0, 5)],
+     ("round", 9, 0, [0], [3, 6]), [
+        ("cut", 2, 1, ("round", 6, 2, [0], [3, 6])),
+        ("add", 2, 5, ("round", 8, 2, [0], [3, 6])),
+        ("cut", 3, 5, ("round", 0, 10, [0], [3, 6])),
+        ("cut", 0, 5, ("round", 0, 10, [0], [3, 6])),
+        ("add", 5, 6, ("round", 9, 3, [0, 1], [2, 5, 6, 3, 4])),
+        ("add", 3, 0, ("round", 7, 6, [0, 1], [2, 5, 6, 3, 4])),
+        ("add", 5, 1, ("round", 0, 13, [0, 1], [2, 5, 6, 3, 4])),
+        ("cut", 0, 3, ("round", 0, 13, [0, 1], [2, 5, 6, 3, 4])),
+        ("cut", 2, 5, ("none", 0, 2)),                      # looked at, and yet nothing is spent
+        ("add", 0, 3, ("round", 8, 0, [0], [3, 6])),
+    ]),
+    # states never met, then met, then never met again
+    ("unreached-unmet", 4, [1, 3], [(0, 1), (1, 0), (2, 3)], ("round", 3, 0, [], [0, 1]), [
+        ("add", 3, 2, ("round", 0, 3, [], [0, 1])),
+        ("add", 2, 2, ("round", 0, 3, [], [0, 1])),
+        ("cut", 2, 3, ("round", 0, 3, [], [0, 1])),
+        ("add", 2, 3, ("round", 0, 3, [], [0, 1])),
+        ("mark", 2, ("round", 0, 3, [], [0, 1])),
+        ("unmark", 2, ("round", 0, 3, [], [0, 1])),
+        ("add", 0, 2, ("round", 0, 3, [], [0, 1])),
+        ("cut", 1, 0, ("round", 5, 1, [0], [2, 3])),
+        ("add", 1, 0, ("round", 2, 1, [], [0, 1])),
+        ("cut", 3, 2, ("round", 0, 3, [], [0, 1])),
+        ("cut", 0, 2, ("round", 0, 3, [], [0, 1])),
+        ("cut", 0, 1, ("none", 0, 0)),
+        ("add", 0, 1, ("round", 3, 0, [], [0, 1])),
+    ]),
+    # a last move to a state that was met before, not completed; a last move that met its target
+    ("unreached-last", 5, [3], [(0, 1), (1, 2), (2, 1), (1, 3), (3, 1)], ("round", 6, 0, [0], [1, 3]), [
+        ("add", 2, 0, ("round", 5, 2, [0], [1, 3])),
+        ("add", 1, 0, ("round", 0, 7, [0], [1, 3])),
+        ("add", 0, 0, ("round", 0, 7, [0], [1, 3])),
+        ("cut", 1, 3, ("none", 5, 1)),
+        ("add", 1, 3, ("round", 7, 1, [0], [1, 3])),
+        ("cut", 1, 0, ("round", 6, 1, [0], [1, 3])),
+        ("cut", 0, 0, ("round", 0, 7, [0], [1, 3])),
+        ("add", 3, 4, ("round", 3, 5, [0], [1, 3])),
+        ("add", 4, 4, ("round", 2, 7, [0], [1, 3])),
+        ("cut", 4, 4, ("round", 1, 7, [0], [1, 3])),
+    ]),
+]
+
+WORKED = GAMES + SELF_GAMES + MARK_GAMES + UNREACHED_GAMES
 
 
 def flat(moves):
@@ -571,20 +789,28 @@ def free_round_reachable(size, start, pays, moves):
                for p in range(size))
 
 
+# What the recursive search tells: the looks; the outer ones, each with the count of looks before it; the states met,
+# likewise; those whose loop over the outer moves was left; the open path at the end; the walk, if there is one.
+Told = namedtuple("Told", "looks outer met done path walk")
+
+
 def told_search(size, start, pays, moves):
     """The steps of the paper once more, by recursion, sharing nothing."""
     class Stop(Exception):
         pass
     met, path, marks, looks, inner, walk = {}, [], set(), [], [], []
+    outer, done = {}, []
 
     def meet(s):
         met[s] = len(looks)
         path.append(s)
         for a, b in moves:
             if a == s:
+                outer[a, b] = len(looks)
                 looks.append((a, b))
                 if b not in met:
                     meet(b)
+        done.append(s)
         if pays[s]:
             search_inside(s)
         path.pop()
@@ -607,7 +833,19 @@ def told_search(size, start, pays, moves):
         meet(start)
     except Stop:
         pass
-    return looks, met, walk
+    return Told(looks, outer, met, done, path, walk)
+
+
+def told_of(table):
+    return told_search(table.size, table.start, table.pays, table.moves)
+
+
+def spared_by(told, word, a, b):
+    """Whether the search had not come to the move, by other signs than those of not_come_to: the outer looks alone, and
+    the open path at the end, of which the last state alone has taken its last move."""
+    if word == "cut":
+        return (a, b) not in told.outer
+    return a not in told.met or a in told.path[:-1]
 
 
 def pays_again(table):
@@ -621,11 +859,14 @@ def pays_again(table):
 
 def check_run(table):
     run = table.run
-    game = (table.size, table.start, table.pays, table.moves)
-    looks, met, walk = told_search(*game)
-    assert looks == run.looks and list(met.items()) == list(run.met_after.items())
-    assert walk == ([(run.stem, run.round)] if run.found else [])
-    assert run.found == free_round_reachable(*game)
+    told = told_of(table)
+    assert told.looks == run.looks and list(told.met.items()) == list(run.met_after.items())
+    assert told.done == run.finished
+    assert told.walk == ([(run.stem, run.round)] if run.found else [])
+    assert all(told.outer[move] <= at for at, move in enumerate(told.looks))    # an inner look follows an outer one
+    assert [s for s in told.met if s not in told.done] == told.path[:-1]        # unfinished at a stop
+    assert run.found == bool(told.path)
+    assert run.found == free_round_reachable(table.size, table.start, table.pays, table.moves)
     if run.found:
         states = run.stem + run.round
         assert states[0] == table.start and len(set(states)) == len(states)
@@ -634,22 +875,29 @@ def check_run(table):
         assert any(table.pays[s] for s in run.round)
 
 
-def check_change(table, before, named, answer):
-    """An accepted change. before: the looks of the run that it found; named: the state that it names."""
+def check_change(table, before, word, named, answer):
+    """An accepted change. before: the recursive search on the table that it found; named: its states."""
     check_run(table)
-    looks, met, _ = told_search(table.size, table.start, table.pays, table.moves)
-    kept = met.get(named, len(looks))
-    assert answer[1:3] == (len(looks) - kept, kept)
-    assert before[:kept] == looks[:kept]        # up to that state both runs are one and the same
+    now = told_of(table)
+    count = len(now.looks)
+    kept = now.met.get(named[0], count)
+    if word in ("add", "cut"):
+        spared = spared_by(before, word, *named)
+        assert spared == (now.looks == before.looks)     # the new run is the old one there, and only there
+        if spared:
+            assert now == before                         # in verdict and walk too
+            kept = count
+    assert answer[1:3] == (count - kept, kept)
+    assert before.looks[:kept] == now.looks[:kept]       # up to there both runs are one and the same
     pay = [s for s in range(table.size) if table.pays[s]]
     fresh = Table().load(table.size, table.start, words_of(pay), flat(table.moves), table.size)
-    assert fresh == (answer[0], len(looks), 0, *answer[3:])
+    assert fresh == (answer[0], count, 0, *answer[3:])
 
 
 def switch(table, word, state, room):
     """A mark or an unmark, its number and the table that it leaves held against the list of refusals."""
     paying = {s for s in range(table.size) if table.pays[s]}
-    moves, run = list(table.moves), table.run
+    moves, run, before = list(table.moves), table.run, told_of(table)
     faults = [(6, state >= table.size), (13, word == "mark" and state in paying),
               (14, word == "unmark" and state not in paying), (11, room < table.size)]
     number = next((n for n, holds in faults if holds), 0)
@@ -658,9 +906,22 @@ def switch(table, word, state, room):
         assert answer == ("no", number) and table.run is run
     else:
         paying ^= {state}
-        check_change(table, run.looks, state, answer)
+        check_change(table, before, word, (state,), answer)
     assert table.pays == [s in paying for s in range(table.size)] and table.moves == moves
     return answer
+
+
+def moved(table, word, a, b, room):
+    """An add or a cut with its counts: the answer, and what the run before it had to do with the move."""
+    before = told_of(table)
+    answer = getattr(table, word)(a, b, room)
+    if answer[0] == "no":
+        check_run(table)
+        return answer, "refused"
+    check_change(table, before, word, (a, b), answer)
+    if a not in before.met:
+        return answer, "never met"
+    return answer, "not come to" if spared_by(before, word, a, b) else "come to"
 
 
 def test_games():
@@ -830,9 +1091,8 @@ def test_every_call():
             continue
         check_run(t)
         for a, b, room in itertools.product(range(3), range(3), (0, 2)):
-            for call in (t.cut, t.cut, t.add, t.add):
-                heard.add(call(a, b, room)[:2])
-                check_run(t)
+            for word in ("cut", "cut", "add", "add"):
+                heard.add(moved(t, word, a, b, room)[0][:2])
         for state, room, word in itertools.product(range(4), range(4), ("mark", "mark", "unmark", "unmark")):
             heard.add(switch(t, word, state, room)[:2])
     assert {number for word, number in heard if word == "no"} == {2, 3, 4, 5, 6, 8, 10, 11, 13, 14}
@@ -852,18 +1112,19 @@ def random_switch(rng, table):
     """A mark or an unmark that is accepted, or one time in eight any."""
     state = rng.randrange(table.size)
     if rng.random() < 0.125:
-        return switch(table, rng.choice(("mark", "unmark")), rng.randint(0, table.size), rng.randint(0, table.size))
-    return switch(table, "unmark" if table.pays[state] else "mark", state, table.size)
+        word, state, room = rng.choice(("mark", "unmark")), rng.randint(0, table.size), rng.randint(0, table.size)
+    else:
+        word, room = "unmark" if table.pays[state] else "mark", table.size
+    return word, switch(table, word, state, room)
 
 
 def random_move(rng, table):
     """A move that comes or goes."""
     every = [(a, b) for a in range(table.size) for b in range(table.size)]
-    a, b = rng.choice(table.moves if table.moves and rng.random() < 0.3 else every)
-    before = table.run.looks
-    answer = (table.cut if (a, b) in table.moves else table.add)(a, b, table.size)
-    check_change(table, before, a, answer)
-    return answer
+    move = rng.choice(table.moves if table.moves and rng.random() < 0.3 else every)
+    word = "cut" if move in table.moves else "add"
+    answer, sort = moved(table, word, *move, table.size)
+    return word, sort, answer
 
 
 def test_random():
@@ -885,12 +1146,35 @@ def test_random():
         check_run(t)
         for _ in range(12):
             what, call = rng.choice((("switch", random_switch), ("move", random_move)))
-            heard(t, what, call(rng, t))
+            heard(t, what, call(rng, t)[-1])
     for what in ("switch", "move"):
         assert min(seen[what, "none"], seen[what, "round"]) > 3000, seen
         for kept, spent in itertools.product(("kept", "kept 0"), ("spent", "spent 0")):
             assert seen[what, kept, spent] > 500, seen
     assert min(seen["length 1"], seen["another"], seen["switch", "no"]) > 700, seen
+
+
+def test_lines_of_states():
+    """Random changes where a line of states leads to one that pays and leads back. Of each sort there are many."""
+    rng = random.Random(9)
+    seen = Counter()
+    for _ in range(800):
+        size = rng.randint(3, 9)
+        line = [(s, s + 1) for s in range(size - 1)] + [(size - 1, rng.randrange(size))]
+        others = [(rng.randrange(size), rng.randrange(size)) for _ in range(size)]
+        moves = list(dict.fromkeys(line + others))
+        rng.shuffle(moves)
+        t = Table()
+        t.load(size, 0, words_of([size - 1, rng.randrange(size)]), flat(moves), size)
+        for _ in range(10):
+            *sort, answer = rng.choice((random_move, random_move, random_move, random_switch))(rng, t)
+            seen[(*sort, answer[0])] += 1
+    for word in ("add", "cut"):
+        for sort, verdict in itertools.product(("never met", "come to"), ("round", "none")):
+            assert seen[word, sort, verdict] > 150, seen
+        assert seen[word, "not come to", "round"] > 400, seen
+        assert seen[word, "not come to", "none"] == 0       # with no round all that was met had been finished
+    assert min(seen["mark", "round"], seen["unmark", "round"]) > 150, seen
 
 
 def test_there_and_back():
@@ -914,6 +1198,7 @@ def selftest():
     test_refusals()
     test_every_call()
     test_random()
+    test_lines_of_states()
     test_there_and_back()
     print("ok")
 

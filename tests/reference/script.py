@@ -13,10 +13,10 @@ KIND is games, edges, small, full, or all (the four as one script, one end).
 import random
 import struct
 import sys
-from collections import Counter
+from collections import Counter, namedtuple
 
 import reference
-from reference import Table, flat, pairs, words_of
+from reference import Table, flat, not_come_to, pairs, words_of
 
 LENT = 600
 OPS = {2: "add", 3: "cut", 4: "mark", 5: "unmark"}
@@ -24,7 +24,7 @@ CODES = {word: op for op, word in OPS.items()}
 ALREADY = {"add": 8, "cut": 10, "mark": 13, "unmark": 14}      # the number where it is so already
 # About each border of two words, and some other states.
 PROBES = [1, 15, 16, 31, 32, 62, 63, 64, 65, 127, 128, 191, 192, 255, 256, 319, 320, 383, 384, 447, 448, 510, 511]
-LIMITS = {"games": 8900, "edges": 31600, "small": 11000, "full": 12500}   # bytes
+LIMITS = {"games": 11300, "edges": 33000, "small": 8400, "full": 11300}   # bytes
 assert sum(LIMITS.values()) <= 64000
 
 
@@ -73,19 +73,31 @@ def replay(script):
 
 # ------------------------------------------------------- making of scripts
 
+Call = namedtuple("Call", "word own answer place")   # own: a self-move is named; place: what place_of says
+
+
+def place_of(run, word, move):
+    """Where the run before an add or a cut had not come to the move, or that it had."""
+    if move[0] not in run.met_after:
+        return "never met"
+    if not not_come_to(run, word, move):
+        return "come to"
+    return "stem" if move[0] in run.stem else "round"
+
+
 class Script:
     """Collects calls; runs each at once, so that the next can look at the table."""
 
     def __init__(self):
         self.numbers = []
         self.table = Table()
-        self.calls = []                         # word, whether a self-move is named, answer
+        self.calls = []
 
-    def _said(self, word, moves, answer, want):
+    def _said(self, word, moves, answer, want, place=None):
         if want is not None:
             got = answer[1] if answer[0] == "no" else answer[0]
             assert got == want, (got, want)
-        self.calls.append((word, any(a == b for a, b in moves), answer))
+        self.calls.append(Call(word, any(a == b for a, b in moves), answer, place))
         return answer
 
     def load(self, size, start, pay, numbers, room=None, want=None):
@@ -103,8 +115,12 @@ class Script:
         assert self.table.loaded
         room = self.table.size if room is None else room
         self.numbers += [CODES[word], *named, *[0] * (2 - len(named)), room]
+        before = self.table.run
         answer = getattr(self.table, word)(*named, room)
-        return self._said(word, [named] if len(named) == 2 else [], answer, want)
+        if len(named) == 1:
+            return self._said(word, [], answer, want)
+        place = None if answer[0] == "no" else place_of(before, word, named)
+        return self._said(word, [named], answer, want, place)
 
     def add(self, a, b, room=None, want=None):
         return self.change("add", a, b, room=room, want=want)
@@ -117,6 +133,13 @@ class Script:
 
     def unmark(self, state, room=None, want=None):
         return self.change("unmark", state, room=room, want=want)
+
+    def spared(self, word, a, b):
+        """An add or a cut that the run before had not come to: every look is kept, the walk stays."""
+        run = self.table.run
+        looks = len(run.looks)
+        wanted = ("round", 0, looks, run.stem, run.round) if run.found else ("none", 0, looks)
+        assert self.change(word, a, b) == wanted
 
     def move_words(self, move):
         """What is accepted first and then."""
@@ -147,6 +170,8 @@ def make_games(s, rng):
         assert s.load(size, 0, pay, flat(moves)) == first, name
         for word, *named, wanted in changes:
             assert s.change(word, *named) == wanted, name
+        if name.startswith("unreached"):        # what follows was asked behind enough other games
+            continue
         s.add(size, 0, want=6)
         s.cut(0, size, want=6)
         s.mark(size, want=6)
@@ -313,6 +338,8 @@ def make_edges(s, rng):
         assert answer[0] == "round" and answer[2] == t and len(answer[4]) == 512
         s.mark(t, room=511, want=13)
         s.unmark(t, want="none")
+    ring_edges(s)
+    stem_edges(s)
 
     # 512 states, each with a move to itself, and no others
     own = [(t, t) for t in range(512)]
@@ -380,6 +407,56 @@ def make_edges(s, rng):
     s.mark(512, room=0, want=6)
     s.add(*moves[0], want=9)
     mark_edges(s)
+
+
+def ring_edges(s):
+    """On the ring of 512 states, of which none pays: moves that a run has not come to."""
+    assert s.mark(511)[1:3] == (2, 511)
+    s.spared("add", 0, 511)
+    s.spared("add", 255, 300)
+    s.add(510, 0, room=511, want=11)
+    s.spared("add", 510, 0)                     # the last state that has not finished
+    assert s.add(511, 5)[1:3] == (3, 511)       # the first that has
+    s.cut(510, 0, room=511, want=11)
+    s.spared("cut", 510, 0)
+    assert s.cut(255, 256)[1:3] == (215, 255)
+    s.spared("cut", 299, 300)                   # never met now
+    s.spared("add", 299, 300)
+    s.spared("add", 255, 256)                   # beside its only move, which leads along the walk
+    assert s.cut(255, 300)[1:3] == (259, 255)
+    assert s.cut(300, 301) == ("round", 4, 300, [], [0, 511])
+    s.spared("cut", 400, 401)
+    s.spared("add", 0, 0)
+    assert s.add(300, 400)[1:3] == (5, 300)     # it has left the open path
+    assert s.add(400, 401)[1:3] == (114, 301)   # met and without moves, so it had finished
+    assert s.unmark(511) == ("none", 4, 412)
+    s.spared("cut", 350, 351)                   # never met
+    assert s.cut(0, 0) == ("none", 415, 0)      # with no round all moves of a met state were looked at
+
+
+def stem_edges(s):
+    """64 states in a line; each has a move before and one behind that which leads along it."""
+    last = 63
+    moves = [m for t in range(last - 1) for m in ((t, 0), (t, t + 1), (t, last))]
+    s.load(64, 0, [last], flat(moves + [(last - 1, 0), (last - 1, last), (last, last - 1)]), want="round")
+    for t in (0, 1, 31, last - 2):
+        s.cut(t, last, room=last, want=11)
+        s.spared("cut", t, last)
+        s.cut(t, last, room=last, want=10)
+        s.spared("add", t, last)
+        s.spared("add", t, 40)
+        s.add(t, 40, room=last, want=8)
+        s.cut(t, 0, want="round")               # before
+    s.cut(last - 1, last, want="round")         # at; the last state but one leads back all the same
+    s.add(last - 1, last, want="round")         # it had finished
+    for t in (last - 3, 2):
+        s.cut(t, t + 1, want="round")           # at; the one behind takes its place
+        s.spared("add", t, t + 1)
+        s.spared("cut", t + 1, last)            # of a state never met
+        s.mark(t, want="round")
+        s.spared("cut", t, t + 1)
+        s.add(last, last, want="round")         # the paying state had finished
+        s.cut(last, last, want="round")
 
 
 def mark_edges(s):
@@ -465,6 +542,46 @@ def some_switch(s, rng, state, room):
     return s.change(second if dice < 0.12 else first, state, room=room)
 
 
+def some_spared(s, rng, room, target):
+    """A change that the last run had not come to, of a state that it met: mostly a cut, where there is a move for it.
+    Says whether there is one. target: gives a state to which a new move may lead from another."""
+    table, run = s.table, s.table.run
+    done, looked = set(run.finished), set(run.looks)
+    states = [t for t in run.met_after if t not in done]
+    behind = [m for m in table.moves if m[0] in states and m not in looked]
+    if not states:
+        return False
+    if behind and rng.random() < 0.6:
+        s.cut(*rng.choice(behind), room)
+        return True
+    state = rng.choice(states)
+    move = state, target(state)
+    if move in table.moves:
+        return False
+    s.add(*move, room)
+    return True
+
+
+def faulty_load(s, rng, size, start, pay, numbers):
+    """A load that is mostly refused."""
+    fault = rng.randrange(7)
+    if fault == 0:
+        s.load(rng.choice((0, 513)), start, pay, numbers, small_room(rng, size))
+    elif fault == 1:
+        s.load(size, rng.randint(size, size + 3), pay, numbers, size)
+    elif fault == 2:
+        s.load(size, start, pay + [rng.randint(size, 511)], numbers, size)
+    elif fault == 3:
+        s.load(size, start, pay, numbers + [0], size)
+    elif fault == 4:
+        a = rng.randrange(size)
+        s.load(size, start, pay, [a, a] + numbers + [a, a], size)
+    else:
+        bad = [[rng.randint(0, size), rng.randint(0, size)] for _ in range(2)]
+        at = 2 * rng.randint(0, len(numbers) // 2)
+        s.load(size, start, pay, numbers[:at] + sum(bad, []) + numbers[at:], size)
+
+
 def small_session(s, rng):
     size = rng.choice((1, 2, 3, 3, 4, 4, 5, 5, 6, 6, 7, 7, 8, 8))
     every = [(a, b) for a in range(size) for b in range(size)]
@@ -474,26 +591,17 @@ def small_session(s, rng):
     pay = [t for t in range(size) if rng.random() < density]
     start = rng.randrange(size)
     numbers = flat(moves)
-    if rng.random() < 0.15:                     # a load that is mostly refused
-        fault = rng.randrange(7)
-        if fault == 0:
-            s.load(rng.choice((0, 513)), start, pay, numbers, small_room(rng, size))
-        elif fault == 1:
-            s.load(size, rng.randint(size, size + 3), pay, numbers, size)
-        elif fault == 2:
-            s.load(size, start, pay + [rng.randint(size, 511)], numbers, size)
-        elif fault == 3:
-            s.load(size, start, pay, numbers + [0], size)
-        elif fault == 4:
-            a = rng.randrange(size)
-            s.load(size, start, pay, [a, a] + numbers + [a, a], size)
-        else:
-            bad = [[rng.randint(0, size), rng.randint(0, size)] for _ in range(2)]
-            at = 2 * rng.randint(0, len(moves))
-            s.load(size, start, pay, numbers[:at] + sum(bad, []) + numbers[at:], size)
+    if rng.random() < 0.25:
+        faulty_load(s, rng, size, start, pay, numbers)
     if s.load(size, start, pay, numbers, small_room(rng, size))[0] == "no":
         s.load(size, start, pay, numbers)
+    small_changes(s, rng, every, wanted)
+
+
+def small_changes(s, rng, every, wanted):
+    """every: all moves that there can be; wanted: about how many shall be present."""
     table = s.table
+    size = table.size
     last_cut = None
 
     def pick(moves):                            # rather one that leaves a met state
@@ -502,6 +610,8 @@ def small_session(s, rng):
 
     for _ in range(rng.randint(16, 36) if size > 1 else 6):
         room = small_room(rng, size)
+        if rng.random() < 0.3 and some_spared(s, rng, room, lambda _: rng.randrange(size)):
+            continue
         if rng.random() < 0.4:
             states = list(table.run.met_after) if rng.random() < 0.6 else range(size)
             some_switch(s, rng, rng.choice(states), room)
@@ -593,13 +703,15 @@ def make_full(s, rng, limit):
         mine = [m for m in table.moves if m[0] == state]
         walk = table.run.stem + table.run.round
         dice = rng.random()
-        if closed and rng.random() < (0.3 if walk else 0.05):      # open a closed round again
+        if closed and rng.random() < (0.15 if walk else 0.05):     # open a closed round again
             on_walk = [c for c in closed if set(c[1]) <= set(walk)]
             undo = rng.choice(on_walk or closed)
             closed.remove(undo)
             s.change(undo[0], *undo[1], room=room)
+        elif rng.random() < 0.4 and some_spared(s, rng, room, lambda t: onward(place[t])[1]):
+            pass
         elif rng.random() < 0.3:
-            if rng.random() < 0.2:
+            if rng.random() < 0.3:
                 state = rng.choice([t for t in walk if table.pays[t]] or pay)
             if some_switch(s, rng, state, room)[0] == "round" and table.pays[state]:
                 closed.append(("unmark", (state,)))
@@ -674,13 +786,17 @@ def stats(seed):
     for kind in list(MAKERS) + ["all"]:
         s = make(seed, kind)
         print(kind, "script", len(s.data()), "bytes; output", len(replay(s.data())), "bytes")
-        every = [answer for _, _, answer in s.calls]
-        marks = [answer for word, _, answer in s.calls if word in ("mark", "unmark")]
+        every = [call.answer for call in s.calls]
+        marks = [call.answer for call in s.calls if call.word in ("mark", "unmark")]
         counts("calls", every)
-        counts("those that name a self-move", [answer for _, own, answer in s.calls if own])
+        counts("those that name a self-move", [call.answer for call in s.calls if call.own])
         counts("marks and unmarks", marks)
         looks("calls", every)
         looks("marks and unmarks", marks)
+        for word in ("add", "cut"):
+            places = Counter(call.place for call in s.calls if call.word == word)
+            print("    %s accepted: not come to, of a state on the stem %d, on the round %d, never met %d; come to %d" % (
+                word, *[places[place] for place in ("stem", "round", "never met", "come to")]))
 
 
 def main(args):
