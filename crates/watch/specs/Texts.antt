@@ -28,9 +28,9 @@ games =
     ∷ dialogue "game\t3\t0\npay\t0\nmove\t0\t1\nmove\t1\t2\nmove\t2\t1\ngo\n" ("game\t3\t3\t1\n" ∷ "none\t6\t0\n" ∷ [])
     -- G
     ∷ dialogue "game\t3\t0\npay\t1\nmove\t1\t2\nmove\t2\t1\ngo\n" ("game\t3\t2\t1\n" ∷ "none\t0\t0\n" ∷ [])
-    -- H
+    -- H, its last line as ticket 4 has it
     ∷ dialogue "game\t3\t0\npay\t1\npay\t2\nmove\t0\t1\nmove\t0\t2\nmove\t1\t0\nmove\t2\t0\ngo\ncut\t0\t1\nadd\t0\t1\n"
-    ("game\t3\t4\t2\n" ∷ "round\t3\t0\t0\t2\t0\t1\n" ∷ "round\t3\t0\t0\t2\t0\t2\n" ∷ "round\t3\t0\t0\t2\t0\t2\n" ∷ [])
+    ("game\t3\t4\t2\n" ∷ "round\t3\t0\t0\t2\t0\t1\n" ∷ "round\t3\t0\t0\t2\t0\t2\n" ∷ "round\t0\t3\t0\t2\t0\t2\n" ∷ [])
     -- I
     ∷ dialogue "game\t3\t0\npay\t0\npay\t1\nmove\t0\t1\nmove\t1\t2\nmove\t2\t1\ngo\n" ("game\t3\t3\t2\n" ∷ "round\t5\t0\t1\t2\t0\t1\t2\n" ∷ [])
     -- Ticket 1: a paying state that returns to itself
@@ -49,7 +49,7 @@ games =
     ∷ "round\t2\t1\t1\t1\t0\t1\n"
     ∷ "no\t8\n"
     ∷ "no\t10\n"
-    ∷ "round\t3\t0\t1\t1\t0\t1\n"
+    ∷ "round\t0\t3\t1\t1\t0\t1\n"
     ∷ "none\t1\t0\n"
     ∷ "no\t6\n"
     ∷ "none\t0\t0\n"
@@ -91,5 +91,34 @@ games =
     ∷ "round\t4\t1\t0\t2\t0\t2\n"
     ∷ "none\t1\t3\n"
     ∷ "round\t2\t1\t0\t2\t0\t1\n"
+    ∷ [])
+    -- Ticket 4: moves behind the one along the stem go and come, one at a state whose last move leads along it, one at a state never met; then moves of a state
+    -- that has finished, behind the stem again, a mark, a move of the tip, the move along the stem, a move after "none", and one that was looked at first
+    ∷ dialogue "game\t5\t0\npay\t3\nmove\t0\t1\nmove\t0\t2\nmove\t0\t4\nmove\t2\t3\nmove\t3\t2\ngo\ncut\t0\t4\nadd\t0\t3\nadd\t2\t4\nadd\t4\t0\nadd\t1\t4\ncut\t2\t4\ncut\t0\t3\nmark\t2\nadd\t3\t0\ncut\t2\t3\nadd\t2\t0\ncut\t0\t1\n"
+    ("game\t5\t5\t1\n"
+    ∷ "round\t5\t0\t1\t2\t0\t2\t3\n"
+    ∷ "round\t0\t5\t1\t2\t0\t2\t3\n"
+    ∷ "round\t0\t5\t1\t2\t0\t2\t3\n"
+    ∷ "round\t0\t5\t1\t2\t0\t2\t3\n"
+    ∷ "round\t0\t5\t1\t2\t0\t2\t3\n"
+    ∷ "round\t6\t1\t1\t2\t0\t2\t3\n"
+    ∷ "round\t0\t7\t1\t2\t0\t2\t3\n"
+    ∷ "round\t0\t7\t1\t2\t0\t2\t3\n"
+    ∷ "round\t3\t4\t1\t2\t0\t2\t3\n"
+    ∷ "round\t3\t5\t1\t2\t0\t2\t3\n"
+    ∷ "none\t0\t4\n"
+    ∷ "round\t2\t4\t0\t2\t0\t2\n"
+    ∷ "round\t3\t0\t0\t2\t0\t2\n"
+    ∷ [])
+    -- the tip and a state behind it, which the inner search passes: moves of both; then moves never come to, and the only move of the start state
+    ∷ dialogue "game\t3\t0\npay\t1\nmove\t0\t1\nmove\t1\t2\nmove\t2\t0\ngo\nadd\t1\t0\ncut\t1\t2\nadd\t2\t2\nadd\t0\t2\ncut\t0\t1\ncut\t2\t2\n"
+    ("game\t3\t3\t1\n"
+    ∷ "round\t5\t0\t0\t3\t0\t1\t2\n"
+    ∷ "round\t5\t1\t0\t3\t0\t1\t2\n"
+    ∷ "round\t2\t1\t0\t2\t0\t1\n"
+    ∷ "round\t0\t3\t0\t2\t0\t1\n"
+    ∷ "round\t0\t3\t0\t2\t0\t1\n"
+    ∷ "none\t3\t0\n"
+    ∷ "none\t1\t1\n"
     ∷ [])
     ∷ []
