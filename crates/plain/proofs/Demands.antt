@@ -251,7 +251,7 @@ module _ (c : Change) (t : Table) (v : Valid t) (v′ : Valid (apply c t)) (n : 
 
   untouched-shared : Untouched → (x : ℕ) → In x (named c) → Shared g h (run g n) x
   unfolding final
-  untouched-shared (inl u) x i = rw (run-final t v n ended) (unexplored-shared t v c u x i)
+  untouched-shared (inl u) x i = rw (run-final t v n ended) (unexplored-shared t v c u x)
   untouched-shared (inr f) x i =
       shared-unmet g h (run g n) x (not-in x (discoveredOf (run g n)) (λ j. contra (any-in (λ s. elem s (discoveredOf (run g n))) x (named c) i j) f))
 

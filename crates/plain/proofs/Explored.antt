@@ -6,14 +6,14 @@ use mathlib.Core.List.{List, [], _∷_, _++_}
 use Prim.Native.Nat.{ℕ, zero, suc}
 use lib.Dec.{eqb}
 use Rattle.plain.specs.Lists.{anyBelow, elem, In, Once}
-use Rattle.plain.specs.Search.{Graph, Edge, Frame, frame, onPath, Config, outer, nested, exhausted, found, discoveredOf, probesOf, finishes, begin, visit, finish, probe, step, steps, run, finished}
+use Rattle.plain.specs.Search.{Graph, Edge, Frame, frame, onPath, Config, outer, nested, exhausted, found, discoveredOf, probesOf, finishes, visit, finish, probe, step, steps, run, finished}
 use Rattle.plain.specs.Unexplored.{unfinishedPath, Untaken}
 use Rattle.plain.specs.Notes.{Notes, notes}
-use Rattle.plain.proofs.Tests.{contra, either, not-true, or-false, same, in-nil, in-head, in-tail, in-cases, in-left, in-right, not-in}
+use Rattle.plain.proofs.Tests.{contra, same, in-nil, in-tail, in-cases, in-left, in-right}
 use Rattle.plain.proofs.Paths.{On, Off, Distinct, on-head, on-tail, on-cases, off-nil, Pending, pending-nil, pending-here, pending-below, pending-cases, pending-more, pending-on}
 use Rattle.plain.proofs.Invariant.{Inv, inv-run}
 use Rattle.plain.proofs.SameRun.{untaken-on}
-use Rattle.plain.proofs.Edges.{Has, has-head, has-tail, has-cases, has-nil}
+use Rattle.plain.proofs.Edges.{Has, has-cases, has-nil}
 use Rattle.plain.proofs.OuterProbes.{outerProbe, outerProbes, outer-first, outer-probed, probed-or-pending}
 use Rattle.plain.proofs.Restore.{Tails, ShapeOf, noted-run}
 
@@ -33,11 +33,6 @@ once-apart x (y ∷ xs) ys (n, o) i j =
 pub on-untaken : (x : ℕ) (p : List Frame) → On x p → (ts : List ℕ) × Untaken x ts p
 on-untaken x [] h = absurd (contra h (off-nil x))
 on-untaken x (frame s us ∷ p) h = ⊎-elim (λ e. (us, inl (e, refl))) (λ j. let w = on-untaken x p j in (w .0, inr (w .1))) (on-cases x s us p h)
-
-pub pending-untaken : (x y : ℕ) (p : List Frame) → Pending x y p → (ts : List ℕ) × Untaken x ts p × In y ts
-pending-untaken x y [] h = pending-nil x y h
-pending-untaken x y (frame s us ∷ p) h =
-    ⊎-elim (λ c. (us, inl (c .0, refl), c .1)) (λ j. let w = pending-untaken x y p j in (w .0, inr (w .1), w .2)) (pending-cases x y s us p h)
 
 untaken-pending : (x y : ℕ) (ts : List ℕ) (p : List Frame) → Untaken x ts p → In y ts → Pending x y p
 untaken-pending x y ts [] w i = absurd w
@@ -78,6 +73,15 @@ module _ (g : Graph) where
   distinct-of (found t [] q d k l) v = tt
   distinct-of (found t (frame s us ∷ p) [] d k l) v = absurd v
   distinct-of (found t (frame s us ∷ p) (frame x ts ∷ q) d k l) v = v .distinct .1
+
+  -- a state on the path is discovered
+  pub path-known : (c : Config) → Inv g c → (x : ℕ) → On x (unfinishedPath c) → In x (discoveredOf c)
+  path-known (outer p d k l) v x o = v .0 .known x o
+  path-known (nested s p q d k l) v x o = v .0 .known x (on-tail x s [] p o)
+  path-known (exhausted d k l) v x o = absurd (contra o (off-nil x))
+  path-known (found t [] q d k l) v x o = absurd v
+  path-known (found t (frame s us ∷ p) [] d k l) v x o = absurd v
+  path-known (found t (frame s us ∷ p) (frame y ts ∷ q) d k l) v x o = v .known x (on-tail x s [] p o)
 
   -- ---- "had not finished the outer moves": at a stop, the states of the open path below its tip, and those never met
 
@@ -211,7 +215,7 @@ module _ (g : Graph) (rows : (x : ℕ) → Once (g .successors x)) where
     left-unlooked ts w i h = fresh n .0 x y (untaken-pending x y ts (unfinishedPath c) w i) (outer-first g n (x, y) h)
 
     -- an edge of a state that was met has been looked at, or is left to take
-    pub looked-or-pending : In x (discoveredOf c) → In y (g .successors x) → Has (probesOf c) (x, y) ⊎ Pending x y (unfinishedPath c)
+    looked-or-pending : In x (discoveredOf c) → In y (g .successors x) → Has (probesOf c) (x, y) ⊎ Pending x y (unfinishedPath c)
     looked-or-pending i j = ⊎-elim (λ h. inl (outer-probed g n (x, y) h)) inr (probed-or-pending g n x y i j)
 
     -- those in front of them have

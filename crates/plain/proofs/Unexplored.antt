@@ -4,24 +4,23 @@ use mathlib.Core.Logic.{inr, ⊎-elim}
 use mathlib.Core.Bool.{Bool, true, false, _&&_, not, true≢false}
 use mathlib.Core.List.{List, [], _∷_, _++_, append-assoc}
 use Prim.Native.Nat.{ℕ}
+use borrow.Author.Tests.{not-true as untrue}
 use Rattle.plain.specs.Lists.{elem, In, Once}
-use Rattle.plain.specs.Search.{Graph, Edge, onPath, Config, discoveredOf, probesOf, run}
+use Rattle.plain.specs.Search.{Graph, Edge, onPath, Config, discoveredOf, probesOf, run, finished}
 use Rattle.plain.specs.Unexplored.{unfinishedPath, Untaken, Shared}
 use Rattle.plain.specs.Table.{Table, row, searched, budget, final}
 use Rattle.plain.specs.Refusals.{present}
 use Rattle.plain.specs.Machine.{Change, add, cut, mark, unmark, named, apply, unexplored}
-use Rattle.plain.proofs.Tests.{contra, either, in-one, not-in}
-use Rattle.plain.proofs.Paths.{On}
+use Rattle.plain.proofs.Tests.{contra, either, not-true, in-one, not-in}
+use Rattle.plain.proofs.Paths.{On, Off}
+use Rattle.plain.proofs.Invariant.{inv-run}
 use Rattle.plain.proofs.Edges.{Has}
-use Rattle.plain.proofs.Rows.{row-once, row-add, row-cut, but, but-front, but-none}
+use Rattle.plain.proofs.Rows.{row-once, row-add, row-cut, but, but-front, but-none, agree}
 use Rattle.plain.proofs.Tables.{Valid}
-use Rattle.plain.proofs.SameRun.{shared-equal, shared-unmet}
-use Rattle.plain.proofs.Explored.{on-untaken, pending-untaken, row-splits, finished-is, front-looked, looked-or-pending}
+use Rattle.plain.proofs.SameRun.{untaken-on, shared-equal, shared-unmet}
+use Rattle.plain.proofs.Explored.{on-untaken, path-known, row-splits, finished-is, looked-known, front-looked, finished-looked}
 
-pub not-not : (b : Bool) → not b ≡ true → b ≡ false
-not-not true h = absurd (true≢false (sym h))
-not-not false h = refl
-
+-- c is where the run on t has stopped, h any other graph
 module _ (t : Table) (v : Valid t) where
   abbrev g : Graph
   g = searched t
@@ -32,56 +31,142 @@ module _ (t : Table) (v : Valid t) where
   once : (x : ℕ) → Once (g .successors x)
   once x = row-once (t .edges) x (v .once)
 
-  -- x has not finished: the new row begins with what was taken
-  shared-left : (h : Graph) (x : ℕ) (front ts us : List ℕ) → Untaken x ts (unfinishedPath c) → g .successors x ≡ front ++ ts → h .successors x ≡ front ++ us
-      → h .accepting x ≡ g .accepting x → Shared g h c x
-  shared-left h x front ts us w e z a = record {
-    common = front;
-    left = ts;
-    right = us;
-    here = e;
-    there = z;
-    untaken = inr (inr w);
-    acceptance = λ i. a;
+  -- nothing stands behind the common part in either: the rows are equal
+  flat-row : (h : Graph) (x : ℕ) (s : Shared g h c x) → (s .left ≡ []) × (s .right ≡ []) → h .successors x ≡ g .successors x
+  flat-row h x s (a, b) = s .there ∙ ap (λ (l : List ℕ). s .common ++ l) (b ∙ sym a) ∙ sym (s .here)
+
+  -- of a state that has not finished: what was taken of its row, what was left, and what stands there in the other graph
+  record Open (h : Graph) (x : ℕ) : Type 0 where
+    front : List ℕ
+    left : List ℕ
+    right : List ℕ
+    here : g .successors x ≡ front ++ left
+    there : h .successors x ≡ front ++ right
+    untaken : Untaken x left (unfinishedPath c)
+    acceptance : h .accepting x ≡ g .accepting x
+
+  shared-open : (h : Graph) (x : ℕ) → On x (unfinishedPath c) → Shared g h c x → Open h x
+  shared-open h x o s = ⊎-elim
+      (λ z. let w = on-untaken x (unfinishedPath c) o in
+      let r = row-splits g (budget t) x (w .0) (w .1) in
+      record {
+        front = r .0;
+        left = w .0;
+        right = w .0;
+        here = r .1;
+        there = flat-row h x s z ∙ r .1;
+        untaken = w .1;
+        acceptance = s .acceptance met;
+      })
+      (λ u. ⊎-elim
+      (λ f. absurd (contra met f))
+      (λ w. record { front = s .common; left = s .left; right = s .right; here = s .here; there = s .there; untaken = w; acceptance = s .acceptance met }) u)
+      (s .untaken)
+    where
+      met : In x (discoveredOf c)
+      met = path-known g c (inv-run g (budget t)) x o
+
+  open-shared : (h : Graph) (x : ℕ) → Open h x → Shared g h c x
+  open-shared h x o = record {
+    common = o .front;
+    left = o .left;
+    right = o .right;
+    here = o .here;
+    there = o .there;
+    untaken = inr (inr (o .untaken));
+    acceptance = λ i. o .acceptance;
   }
 
-  shared-add : (e : Edge) → not (elem (e .0) (discoveredOf c) && not (onPath (e .0) (unfinishedPath c))) ≡ true → Shared g (searched (apply (add e) t)) c (e .0)
-  unfolding apply
-  shared-add e u = by-state (elem (e .0) (discoveredOf c)) (onPath (e .0) (unfinishedPath c)) refl refl
+  -- a state that has finished has the same row in both
+  shared-finished : (h : Graph) (x : ℕ) → In x (discoveredOf c) → Off x (unfinishedPath c) → Shared g h c x → h .successors x ≡ g .successors x
+  shared-finished h x i f s = ⊎-elim
+      (flat-row h x s)
+      (λ u. ⊎-elim (λ n. absurd (contra i n)) (λ w. absurd (contra (untaken-on x (s .left) (unfinishedPath c) w) f)) u) (s .untaken)
+
+  -- a target more at the end of a row, of a state that has not finished or was never met
+  shared-longer : (h h′ : Graph) (x y : ℕ) → h′ .successors x ≡ h .successors x ++ (y ∷ []) → h′ .accepting x ≡ h .accepting x
+      → finished g (budget t) x ≡ false → Shared g h c x → Shared g h′ c x
+  shared-longer h h′ x y e a f s = by-state (elem x (discoveredOf c)) (onPath x (unfinishedPath c)) refl refl
     where
-      open-still : On (e .0) (unfinishedPath c) → Shared g (searched (apply (add e) t)) c (e .0)
-      open-still o =
-          let w = on-untaken (e .0) (unfinishedPath c) o in
-          let s = row-splits g (budget t) (e .0) (w .0) (w .1) in
-          shared-left (searched (apply (add e) t)) (e .0) (s .0) (w .0) (w .0 ++ (e .1 ∷ [])) (w .1) (s .1)
-          (row-add (t .edges) e ∙ ap (λ (l : List ℕ). l ++ (e .1 ∷ [])) (s .1) ∙ append-assoc (s .0) (w .0) (e .1 ∷ [])) refl
+      longer : Open h x → Open h′ x
+      longer o = record {
+        front = o .front;
+        left = o .left;
+        right = o .right ++ (y ∷ []);
+        here = o .here;
+        there = e ∙ ap (λ (l : List ℕ). l ++ (y ∷ [])) (o .there) ∙ append-assoc (o .front) (o .right) (y ∷ []);
+        untaken = o .untaken;
+        acceptance = a ∙ o .acceptance;
+      }
 
-      by-state : (a b : Bool) → elem (e .0) (discoveredOf c) ≡ a → onPath (e .0) (unfinishedPath c) ≡ b → Shared g (searched (apply (add e) t)) c (e .0)
-      by-state false b p q = shared-unmet g (searched (apply (add e) t)) c (e .0) p
-      by-state true true p q = open-still q
-      by-state true false p q = absurd (true≢false (sym (rw (p, q) at u)))
+      by-state : (met on : Bool) → elem x (discoveredOf c) ≡ met → onPath x (unfinishedPath c) ≡ on → Shared g h′ c x
+      by-state false on p q = shared-unmet g h′ c x p
+      by-state true true p q = open-shared h′ x (longer (shared-open h x q s))
+      by-state true false p q = absurd (contra (finished-is g (budget t) x ∙ rw (p, q)) f)
 
-  shared-cut : (e : Edge) → (Has (probesOf c) e → ⊥) → Shared g (searched (apply (cut e) t)) c (e .0)
-  unfolding apply
-  shared-cut e n = ⊎-elim
-      (λ i. ⊎-elim (λ j. there i j) (λ f. shared-equal g (searched (apply (cut e) t)) c (e .0) (row-cut (t .edges) e ∙ but-none (e .1) (g .successors (e .0)) f) refl)
-      (either (elem (e .1) (g .successors (e .0)))))
-      (λ f. shared-unmet g (searched (apply (cut e) t)) c (e .0) f) (either (elem (e .0) (discoveredOf c)))
+  -- a target taken out that was not looked at
+  shared-shorter : (h h′ : Graph) (x y : ℕ) → h′ .successors x ≡ but y (h .successors x) → h′ .accepting x ≡ h .accepting x
+      → (Has (probesOf c) (x, y) → ⊥) → Shared g h c x → Shared g h′ c x
+  shared-shorter h h′ x y e a n s = by-state (elem x (discoveredOf c)) (onPath x (unfinishedPath c)) refl refl
     where
-      there : In (e .0) (discoveredOf c) → In (e .1) (g .successors (e .0)) → Shared g (searched (apply (cut e) t)) c (e .0)
-      there i j = ⊎-elim
-          (λ h. absurd (n h))
-          (λ p. let w = pending-untaken (e .0) (e .1) (unfinishedPath c) p in
-          let s = row-splits g (budget t) (e .0) (w .0) (w .1) in
-          shared-left (searched (apply (cut e) t)) (e .0) (s .0) (w .0) (but (e .1) (w .0)) (w .1) (s .1)
-          (row-cut (t .edges) e ∙ ap (but (e .1)) (s .1)
-          ∙ but-front (e .1) (s .0) (w .0) (not-in (e .1) (s .0) (λ k. n (front-looked g once (budget t) (e .0) (e .1) (s .0) (w .0) i (w .1) (s .1) k)))) refl)
-          (looked-or-pending g once (budget t) (e .0) (e .1) i j)
+      shorter : In x (discoveredOf c) → Open h x → Open h′ x
+      shorter i o = record {
+        front = o .front;
+        left = o .left;
+        right = but y (o .right);
+        here = o .here;
+        there = e ∙ ap (but y) (o .there)
+            ∙ but-front y (o .front) (o .right) (not-in y (o .front) (λ j. n (front-looked g once (budget t) x y (o .front) (o .left) i (o .untaken) (o .here) j)));
+        untaken = o .untaken;
+        acceptance = a ∙ o .acceptance;
+      }
 
-  -- each named state has not come past what its rows have in common
-  pub unexplored-shared : (b : Change) → unexplored b t ≡ true → (x : ℕ) → In x (named b) → Shared g (searched (apply b t)) c x
-  unfolding unexplored named final
-  unexplored-shared (add e) h x i = rw (in-one x (e .0) i) (shared-add e (ap not (sym (finished-is g (budget t) (e .0))) ∙ h))
-  unexplored-shared (cut e) h x i = rw (in-one x (e .0) i) (shared-cut e (λ j. contra j (not-not (present (probesOf c) e) h)))
-  unexplored-shared (mark s) h x i = absurd (true≢false (sym h))
-  unexplored-shared (unmark s) h x i = absurd (true≢false (sym h))
+      -- all its moves were looked at: the target is none of them
+      gone : In x (discoveredOf c) → Off x (unfinishedPath c) → h′ .successors x ≡ g .successors x
+      gone i f = e ∙ ap (but y) (shared-finished h x i f s) ∙ but-none y (g .successors x) (not-in y (g .successors x) (λ j. n (finished-looked g once (budget t) x y i f j)))
+
+      by-state : (met on : Bool) → elem x (discoveredOf c) ≡ met → onPath x (unfinishedPath c) ≡ on → Shared g h′ c x
+      by-state false on p q = shared-unmet g h′ c x p
+      by-state true true p q = open-shared h′ x (shorter p (shared-open h x q s))
+      by-state true false p q = shared-equal g h′ c x (gone p q) (a ∙ s .acceptance p)
+
+  -- a state that the change leaves as it was
+  shared-other : (h h′ : Graph) (x : ℕ) → h .successors x ≡ h′ .successors x → h .accepting x ≡ h′ .accepting x → Shared g h c x → Shared g h′ c x
+  shared-other h h′ x e a s = record {
+    common = s .common;
+    left = s .left;
+    right = s .right;
+    here = s .here;
+    there = sym e ∙ s .there;
+    untaken = s .untaken;
+    acceptance = λ i. sym a ∙ s .acceptance i;
+  }
+
+  -- A change that the run on t had not come to, made on any table u whose rows begin with what that run has taken: so do the rows behind it.
+  pub unexplored-step : (b : Change) (u : Table) → unexplored b t ≡ true → ((x : ℕ) → Shared g (searched u) c x) → (x : ℕ) → Shared g (searched (apply b u)) c x
+  unfolding unexplored named apply final
+  unexplored-step b u e s x = ⊎-elim
+      (λ i. named-step b e i)
+      (λ f. shared-other (searched u) (searched (apply b u)) x (agree b u .edges x f) (agree b u .acceptance x f) (s x)) (either (elem x (named b)))
+    where
+      named-step : (b : Change) → unexplored b t ≡ true → In x (named b) → Shared g (searched (apply b u)) c x
+      named-step (add e) h i =
+          let z : x ≡ e .0 = in-one x (e .0) i in
+          rw z (shared-longer (searched u) (searched (apply (add e) u)) (e .0) (e .1) (row-add (u .edges) e) refl (untrue (finished g (budget t) (e .0)) h) (s (e .0)))
+      named-step (cut e) h i =
+          let z : x ≡ e .0 = in-one x (e .0) i in
+          rw z (shared-shorter (searched u) (searched (apply (cut e) u)) (e .0) (e .1) (row-cut (u .edges) e) refl (λ j. contra j (untrue (present (probesOf c) e) h)) (s (e .0)))
+      named-step (mark s) h i = absurd (true≢false (sym h))
+      named-step (unmark s) h i = absurd (true≢false (sym h))
+
+  -- of one change
+  pub unexplored-shared : (b : Change) → unexplored b t ≡ true → (x : ℕ) → Shared g (searched (apply b t)) c x
+  unexplored-shared b e = unexplored-step b t e (λ x. shared-equal g g c x refl refl)
+
+  -- "A state never met has not finished", and none of its moves was looked at.
+  pub unmet-unexplored : (e : Edge) → elem (e .0) (discoveredOf (final t)) ≡ false → (unexplored (add e) t ≡ true) × (unexplored (cut e) t ≡ true)
+  unfolding unexplored final
+  unmet-unexplored e f = (
+    ap not (finished-is g (budget t) (e .0) ∙ ap (λ (b : Bool). b && not (onPath (e .0) (unfinishedPath c))) f),
+    ap not (not-true (present (probesOf c) e) (λ h. contra (looked-known g once (budget t) (e .0) (e .1) h) f)),
+  )

@@ -5,7 +5,7 @@ use mathlib.Core.Bool.{Bool, true, false, cond, _&&_, _||_, not}
 use mathlib.Core.List.{List, [], _∷_, _++_, append-assoc}
 use Prim.Native.Nat.{ℕ, suc, _+_, _-_, _≤_, _<_}
 use native.Mathlib.Omega.{arith}
-use lib.Dec.{eqb, ltb}
+use lib.Dec.{ltb}
 use lib.ListN.{length, getD, take, drop, length-append, take-append-drop, length-take, length-drop, List·getD-append}
 use lib.Seq.{ext-getD, getD-at}
 use borrow.Author.Tests.{eq-eqb, ne-eqb, lt-ltb, le-ltb, ltb-true, not-false}
@@ -15,8 +15,8 @@ use Rattle.plain.specs.Unexplored.{unfinishedPath, Untaken}
 use Rattle.plain.specs.Table.{Table, row, searched, budget, final}
 use Rattle.plain.specs.Refusals.{accepted, present}
 use Rattle.plain.specs.Machine.{add, cut, conditions, changeTrial, unexplored}
-use Rattle.plain.specs.Notes.{Note, Notes, notes, Below}
-use Rattle.plain.proofs.Tests.{contra, either, not-true, same, in-nil, in-one, in-append, in-cases}
+use Rattle.plain.specs.Notes.{Notes, notes, Below}
+use Rattle.plain.proofs.Tests.{contra, either, not-true, same, in-nil, in-one, in-append}
 use Rattle.plain.proofs.Paths.{On, on-head, on-tail}
 use Rattle.plain.proofs.Invariant.{Inv, inv-run}
 use Rattle.plain.proofs.Lassos.{before-from, on-states, states-on}
@@ -40,7 +40,6 @@ use Rattle.table.specs.declared.Subject.the-variants as Subject
 use Rattle.table.specs.Trials.{switching}
 use Rattle.table.specs.Filing.{changeOf, namedBy}
 use Rattle.table.proofs.Places.{found as has-place, place-hit, place-front, place-behind, same-test}
-use Rattle.session.specs.declared.Resumption.{Resumption}
 use Rattle.session.specs.declared.Resumption.the-variants.{Nowhere, At}
 use Rattle.session.specs.declared.Session.{Session}
 use Rattle.session.specs.Model.{arraysHeld, unexploredEdge, unexploredIn, resumptionOf}

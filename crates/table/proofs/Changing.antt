@@ -8,12 +8,12 @@ use native.Mathlib.Omega.{arith}
 use lib.Dec.{eqb, leb}
 use lib.ListN.{length, take, drop}
 use borrow.Author.Tests.{ltb-true, leb-false, eqb-true, eqb-false, not-false}
-use Rattle.plain.specs.Lists.{filter, elem, Once}
+use Rattle.plain.specs.Lists.{Once}
 use Rattle.plain.specs.Search.{Edge}
 use Rattle.plain.specs.Table.{Table, accepts, row, withMark, withoutMark}
 use Rattle.plain.specs.Refusals.{accepted, firstHeld, present, outside, beyond, full, roomCondition}
 use Rattle.plain.specs.Machine.{without, withWords, apply, conditions, changeTrial}
-use Rattle.plain.proofs.Tests.{either, or-false}
+use Rattle.plain.proofs.Tests.{either}
 use Rattle.plain.proofs.Rows.{row-once, row-cut, row-cut-other, without-length, but, but-yes, but-no, but-none}
 use Rattle.plain.proofs.Trials.{unheld}
 use Rattle.plain.proofs.Tables.{Valid, inside-both}

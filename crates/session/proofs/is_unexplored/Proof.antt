@@ -9,7 +9,7 @@ use lib.Dec.{ltb}
 use lib.ListN.{getD}
 use borrow.Author.Tests.{lt-ltb, le-ltb}
 use borrow.Author.Needs.{needs}
-use Rattle.rows.specs.Rows.{entries, rowAt, placeOf}
+use Rattle.rows.specs.Rows.{entries, placeOf}
 use Rattle.rows.specs.Change.{rowsOf}
 use Rattle.session.specs.Model.{unexploredEdge}
 use Rattle.session.proofs.Resuming.{edge-off, edge-comes, edge-goes}
