@@ -19,7 +19,8 @@ KINDS = {
     "far": "at states that the search meets late",
     "start": "at the start state",
     "random": "at states drawn at random",
-    "stem": "at states of a long stem, of moves that the search had not come to",
+    "stem": "at a long stem, moves not come to",
+    "mark": "the start state's pay is switched",
 }
 
 
@@ -31,7 +32,7 @@ class Game:
         self.order, self.ring = order[:-ring], order[-ring:]
         self.place = {s: i for i, s in enumerate(self.order)}
         pays = rng.sample(self.order[1:], max(2, size // 8)) + [self.ring[0]]
-        moves = self.first_moves(list(zip(self.ring, self.ring[1:] + self.ring[:1])), 4 * size - 32)        # room for moves that come
+        moves = self.first_moves(list(zip(self.ring, self.ring[1:] + self.ring[:1])), 4 * size - 32)     # room for moves that come
         self.text = Text(size, self.order[0], pays, moves)
         self.run = plain_search(size, self.order[0], [s in pays for s in range(size)], moves)
         self.closed = []                        # the moves that may have closed a round; few stand at a time
@@ -72,6 +73,8 @@ class Game:
     def change(self, kind):
         """One accepted change."""
         rng, text, closed = self.rng, self.text, self.closed
+        if kind == "mark":
+            return text.turn(self.order[0])
         state = self.state(kind)
         last = self.order[-1]
         if closed and rng.random() < 0.35:
