@@ -25,10 +25,10 @@ use Rattle.plain.proofs.Bounds.{left, left-add, left-const, left-alone,
 use Rattle.plain.proofs.Prefix.{FirstMeeting, first-meeting}
 use Rattle.plain.proofs.Resume.{one-end, one-until, met-at-end, until-end, until-at, probes-grow, holds-notes, resumed}
 use Rattle.plain.proofs.Edges.{Has, has-cases, has-nil}
-use Rattle.plain.proofs.Rows.{row-nil, row-length, row-has, row-once, agree}
+use Rattle.plain.proofs.Rows.{row-nil, row-length, row-has, agree}
 use Rattle.plain.proofs.Tables.{Valid, valid, inside-both}
 use Rattle.plain.proofs.SameRun.{shared-unmet, same-run, same-faithful, alike-discovered, alike-probes, alike-verdict}
-use Rattle.plain.proofs.Unexplored.{unexplored-shared}
+use Rattle.plain.proofs.Unexplored.{rows-once, unexplored-shared}
 
 -- ---- the states of a table
 
@@ -116,9 +116,6 @@ module _ (t : Table) (v : Valid t) where
 
   edges-few : left (λ x. length (searched t .successors x)) [] (states t) ≤ length (t .edges)
   edges-few = total-le (t .edges) (states t) (states-once t)
-
-  rows-once : (x : ℕ) → Once (searched t .successors x)
-  rows-once x = row-once (t .edges) x (v .once)
 
 -- ---- demand 2
 

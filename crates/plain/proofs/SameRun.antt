@@ -287,23 +287,11 @@ unfolding statesOf
 bare-states [] = refl
 bare-states (frame s ts ∷ p) = ap (λ (l : List ℕ). l ++ (s ∷ [])) (bare-states p)
 
-bare-discovered : (c : Config) → discoveredOf (bare c) ≡ discoveredOf c
-bare-discovered (outer p d k l) = refl
-bare-discovered (nested s p q d k l) = refl
-bare-discovered (exhausted d k l) = refl
-bare-discovered (found h p q d k l) = refl
-
-bare-marked : (c : Config) → markedOf (bare c) ≡ markedOf c
-bare-marked (outer p d k l) = refl
-bare-marked (nested s p q d k l) = refl
-bare-marked (exhausted d k l) = refl
-bare-marked (found h p q d k l) = refl
-
-bare-probes : (c : Config) → probesOf (bare c) ≡ probesOf c
-bare-probes (outer p d k l) = refl
-bare-probes (nested s p q d k l) = refl
-bare-probes (exhausted d k l) = refl
-bare-probes (found h p q d k l) = refl
+bare-lists : (c : Config) → (discoveredOf (bare c) ≡ discoveredOf c) × (markedOf (bare c) ≡ markedOf c) × (probesOf (bare c) ≡ probesOf c)
+bare-lists (outer p d k l) = (refl, refl, refl)
+bare-lists (nested s p q d k l) = (refl, refl, refl)
+bare-lists (exhausted d k l) = (refl, refl, refl)
+bare-lists (found h p q d k l) = (refl, refl, refl)
 
 bare-verdict : (c : Config) → verdict (bare c) ≡ verdict c
 unfolding verdict stemOf cycleOf
@@ -317,13 +305,13 @@ pub alike : {A : Type 0} (of : Config → A) → ((c : Config) → of (bare c) �
 alike of e c c′ z = sym (e c′) ∙ ap of z ∙ e c
 
 pub alike-discovered : (c c′ : Config) → bare c′ ≡ bare c → discoveredOf c′ ≡ discoveredOf c
-alike-discovered = alike discoveredOf bare-discovered
+alike-discovered = alike discoveredOf (λ c. bare-lists c .0)
 
 pub alike-marked : (c c′ : Config) → bare c′ ≡ bare c → markedOf c′ ≡ markedOf c
-alike-marked = alike markedOf bare-marked
+alike-marked = alike markedOf (λ c. bare-lists c .1)
 
 pub alike-probes : (c c′ : Config) → bare c′ ≡ bare c → probesOf c′ ≡ probesOf c
-alike-probes = alike probesOf bare-probes
+alike-probes = alike probesOf (λ c. bare-lists c .2)
 
 pub alike-verdict : (c c′ : Config) → bare c′ ≡ bare c → verdict c′ ≡ verdict c
 alike-verdict = alike verdict bare-verdict

@@ -28,8 +28,8 @@ module _ (t : Table) (v : Valid t) where
   abbrev c : Config
   c = run g (budget t)
 
-  once : (x : ℕ) → Once (g .successors x)
-  once x = row-once (t .edges) x (v .once)
+  pub rows-once : (x : ℕ) → Once (g .successors x)
+  rows-once x = row-once (t .edges) x (v .once)
 
   -- nothing stands behind the common part in either: the rows are equal
   flat-row : (h : Graph) (x : ℕ) (s : Shared g h c x) → (s .left ≡ []) × (s .right ≡ []) → h .successors x ≡ g .successors x
@@ -116,14 +116,14 @@ module _ (t : Table) (v : Valid t) where
         right = but y (o .right);
         here = o .here;
         there = e ∙ ap (but y) (o .there)
-            ∙ but-front y (o .front) (o .right) (not-in y (o .front) (λ j. n (front-looked g once (budget t) x y (o .front) (o .left) i (o .untaken) (o .here) j)));
+            ∙ but-front y (o .front) (o .right) (not-in y (o .front) (λ j. n (front-looked g rows-once (budget t) x y (o .front) (o .left) i (o .untaken) (o .here) j)));
         untaken = o .untaken;
         acceptance = a ∙ o .acceptance;
       }
 
       -- all its moves were looked at: the target is none of them
       gone : In x (discoveredOf c) → Off x (unfinishedPath c) → h′ .successors x ≡ g .successors x
-      gone i f = e ∙ ap (but y) (shared-finished h x i f s) ∙ but-none y (g .successors x) (not-in y (g .successors x) (λ j. n (finished-looked g once (budget t) x y i f j)))
+      gone i f = e ∙ ap (but y) (shared-finished h x i f s) ∙ but-none y (g .successors x) (not-in y (g .successors x) (λ j. n (finished-looked g rows-once (budget t) x y i f j)))
 
       by-state : (met on : Bool) → elem x (discoveredOf c) ≡ met → onPath x (unfinishedPath c) ≡ on → Shared g h′ c x
       by-state false on p q = shared-unmet g h′ c x p
@@ -168,5 +168,5 @@ module _ (t : Table) (v : Valid t) where
   unfolding unexplored final
   unmet-unexplored e f = (
     ap not (finished-is g (budget t) (e .0) ∙ ap (λ (b : Bool). b && not (onPath (e .0) (unfinishedPath c))) f),
-    ap not (not-true (present (probesOf c) e) (λ h. contra (looked-known g once (budget t) (e .0) (e .1) h) f)),
+    ap not (not-true (present (probesOf c) e) (λ h. contra (looked-known g rows-once (budget t) (e .0) (e .1) h) f)),
   )

@@ -9,7 +9,7 @@ use lib.Dec.{ltb}
 use lib.ListN.{length, getD, take, drop, length-append, take-append-drop, length-take, length-drop, List·getD-append}
 use lib.Seq.{ext-getD, getD-at}
 use borrow.Author.Tests.{eq-eqb, ne-eqb, lt-ltb, le-ltb, ltb-true, not-false}
-use Rattle.plain.specs.Lists.{elem, In, Once, before, from}
+use Rattle.plain.specs.Lists.{elem, In, before, from}
 use Rattle.plain.specs.Search.{Graph, Edge, Frame, frame, onPath, Config, outer, nested, exhausted, found, discoveredOf, probesOf, run, finished, statesOf, stemOf, cycleOf, verdict}
 use Rattle.plain.specs.Unexplored.{unfinishedPath, Untaken}
 use Rattle.plain.specs.Table.{Table, row, searched, budget, final}
@@ -22,10 +22,11 @@ use Rattle.plain.proofs.Invariant.{Inv, inv-run}
 use Rattle.plain.proofs.Lassos.{before-from, on-states, states-on}
 use Rattle.plain.proofs.Restore.{ShapeOf, below-same, noted-run}
 use Rattle.plain.proofs.Edges.{Has}
-use Rattle.plain.proofs.Rows.{row-once, has-row}
+use Rattle.plain.proofs.Rows.{has-row}
 use Rattle.plain.proofs.Trials.{unheld}
 use Rattle.plain.proofs.Tables.{Valid}
 use Rattle.plain.proofs.Demands.{run-final}
+use Rattle.plain.proofs.Unexplored.{rows-once}
 use Rattle.plain.proofs.Explored.{finished-is, left-unlooked, front-looked, finished-looked}
 use Rattle.rows.specs.Rows.{entries, rowAt, placeOf}
 use Rattle.rows.specs.Change.{Rows}
@@ -175,9 +176,6 @@ module _ (t : Table) (v : Valid t) (r : Notes) (rows : Rows) (index walk : List 
   abbrev targets : List ℕ
   targets = searched t .successors from
 
-  once : (x : ℕ) → Once (searched t .successors x)
-  once x = row-once (t .edges) x (v .once)
-
   -- below the tip: not finished
   placed-open : ltb (placeOf from (entries tip 0 walk)) tip ≡ onPath from path
   placed-open =
@@ -227,7 +225,7 @@ module _ (t : Table) (v : Valid t) (r : Notes) (rows : Rows) (index walk : List 
       taken j =
           let short : placeOf to (front ++ left) ≤ last = omega (arith, place-front to front left j, ltb-true (placeOf to front) (length front) (has-place to front ∙ j), length-take (suc last) targets) in
           le-ltb last (placeOf to (front ++ left)) short
-          ∙ sym (looked-cut (front-looked (searched t) once (budget t) from to front left met w (sym (take-append-drop (suc last) targets)) j))
+          ∙ sym (looked-cut (front-looked (searched t) (rows-once t v) (budget t) from to front left met w (sym (take-append-drop (suc last) targets)) j))
 
       untaken : elem to front ≡ false → ltb last (placeOf to (front ++ left)) ≡ unexplored (cut (from, to)) t
       untaken f =
@@ -235,14 +233,14 @@ module _ (t : Table) (v : Valid t) (r : Notes) (rows : Rows) (index walk : List 
           let some = ltb-true (placeOf to left) (length left) (has-place to left ∙ j) in
           let far : last < placeOf to (front ++ left) = omega (arith, place-behind to front left f, some, length-drop (suc last) targets, length-take (suc last) targets) in
           lt-ltb last (placeOf to (front ++ left)) far
-          ∙ sym (unlooked-cut (left-unlooked (searched t) once (budget t) from to left w j))
+          ∙ sym (unlooked-cut (left-unlooked (searched t) (rows-once t v) (budget t) from to left w j))
 
   cut-decided : In to targets → unexploredEdge false from to rows index walk tip ≡ unexplored (cut (from, to)) t
   cut-decided i = by-path (onPath from path) refl
     where
       by-path : (b : Bool) → onPath from path ≡ b → unexploredEdge false from to rows index walk tip ≡ unexplored (cut (from, to)) t
       by-path true e = edge-goes from to rows index walk tip (placed-open ∙ e) ∙ cut-open e i
-      by-path false e = edge-off from to rows index walk tip false (placed-open ∙ e) ∙ sym (looked-cut (finished-looked (searched t) once (budget t) from to met e i))
+      by-path false e = edge-off from to rows index walk tip false (placed-open ∙ e) ∙ sym (looked-cut (finished-looked (searched t) (rows-once t v) (budget t) from to met e i))
 
 -- ---- of a session
 
