@@ -334,8 +334,7 @@ module _ (c : Change) (t : Table) (v : Valid t) (v′ : Valid (apply c t)) where
   unfolding final firstMeeting
   goes-on = ⊎-elim
       (λ u. ([], ap probesOf (sym (kept-unexplored c t u))))
-      (λ e. let t′ = apply c t in
-      let u = until-at (searched (apply c t)) (named c) (budget (apply c t)) in
+      (λ e. let u = until-at (searched (apply c t)) (named c) (budget (apply c t)) in
       let p = probes-grow (searched (apply c t)) (u .0) (budget (apply c t)) (u .1) in
       (p .0, p .1 ∙ ap (λ (x : Config). p .0 ++ probesOf x) (sym (kept-explored c t e ∙ u .2)))) (either (unexplored c t))
 

@@ -2,7 +2,7 @@
 use mathlib.Core.Path.{_≡_, refl, sym, ap, _∙_}
 use mathlib.Core.Logic.{_≢_, ⊎-elim}
 use mathlib.Core.Bool.{true, false, not}
-use mathlib.Core.List.{List, [], _∷_, _++_}
+use mathlib.Core.List.{List, [], _∷_, _++_, append-nil}
 use Prim.Native.Nat.{ℕ, suc, _+_, _≤_}
 use native.Mathlib.Omega.{arith}
 use lib.Dec.{eqb}
@@ -126,11 +126,8 @@ but-front y (x ∷ xs) ys f =
     but-no y x (xs ++ ys) (w .0) ∙ ap (λ (l : List ℕ). x ∷ l) (but-front y xs ys (w .1))
 
 pub but-none : (y : ℕ) (xs : List ℕ) → elem y xs ≡ false → but y xs ≡ xs
-unfolding elem filter
-but-none y [] f = refl
-but-none y (x ∷ xs) f =
-    let w = or-false (eqb y x) (elem y xs) f in
-    but-no y x xs (w .0) ∙ ap (λ (l : List ℕ). x ∷ l) (but-none y xs (w .1))
+unfolding filter
+but-none y xs f = ap (but y) (sym (append-nil xs)) ∙ but-front y xs [] f ∙ append-nil xs
 
 cut-gone : (es : List Edge) (e f : Edge) → sameEdge e f ≡ true → row (without e es) (e .0) ≡ but (e .1) (row es (e .0))
     → row (without e (f ∷ es)) (e .0) ≡ but (e .1) (row (f ∷ es) (e .0))

@@ -66,15 +66,16 @@ module _ (t : Table) (v : Valid t) where
       met : In x (discoveredOf c)
       met = path-known g c (inv-run g (budget t)) x o
 
-  open-shared : (h : Graph) (x : ℕ) → Open h x → Shared g h c x
-  open-shared h x o = record {
+  -- in a third graph something else may stand there
+  open-shared : (h h′ : Graph) (x : ℕ) (o : Open h x) (right : List ℕ) → h′ .successors x ≡ o .front ++ right → h′ .accepting x ≡ h .accepting x → Shared g h′ c x
+  open-shared h h′ x o right e a = record {
     common = o .front;
     left = o .left;
-    right = o .right;
+    right = right;
     here = o .here;
-    there = o .there;
+    there = e;
     untaken = inr (inr (o .untaken));
-    acceptance = λ i. o .acceptance;
+    acceptance = λ i. a ∙ o .acceptance;
   }
 
   -- a state that has finished has the same row in both
@@ -88,20 +89,12 @@ module _ (t : Table) (v : Valid t) where
       → finished g (budget t) x ≡ false → Shared g h c x → Shared g h′ c x
   shared-longer h h′ x y e a f s = by-state (elem x (discoveredOf c)) (onPath x (unfinishedPath c)) refl refl
     where
-      longer : Open h x → Open h′ x
-      longer o = record {
-        front = o .front;
-        left = o .left;
-        right = o .right ++ (y ∷ []);
-        here = o .here;
-        there = e ∙ ap (λ (l : List ℕ). l ++ (y ∷ [])) (o .there) ∙ append-assoc (o .front) (o .right) (y ∷ []);
-        untaken = o .untaken;
-        acceptance = a ∙ o .acceptance;
-      }
+      longer : Open h x → Shared g h′ c x
+      longer o = open-shared h h′ x o (o .right ++ (y ∷ [])) (e ∙ ap (λ (l : List ℕ). l ++ (y ∷ [])) (o .there) ∙ append-assoc (o .front) (o .right) (y ∷ [])) a
 
       by-state : (met on : Bool) → elem x (discoveredOf c) ≡ met → onPath x (unfinishedPath c) ≡ on → Shared g h′ c x
       by-state false on p q = shared-unmet g h′ c x p
-      by-state true true p q = open-shared h′ x (longer (shared-open h x q s))
+      by-state true true p q = longer (shared-open h x q s)
       by-state true false p q = absurd (contra (finished-is g (budget t) x ∙ rw (p, q)) f)
 
   -- a target taken out that was not looked at
@@ -109,17 +102,10 @@ module _ (t : Table) (v : Valid t) where
       → (Has (probesOf c) (x, y) → ⊥) → Shared g h c x → Shared g h′ c x
   shared-shorter h h′ x y e a n s = by-state (elem x (discoveredOf c)) (onPath x (unfinishedPath c)) refl refl
     where
-      shorter : In x (discoveredOf c) → Open h x → Open h′ x
-      shorter i o = record {
-        front = o .front;
-        left = o .left;
-        right = but y (o .right);
-        here = o .here;
-        there = e ∙ ap (but y) (o .there)
-            ∙ but-front y (o .front) (o .right) (not-in y (o .front) (λ j. n (front-looked g rows-once (budget t) x y (o .front) (o .left) i (o .untaken) (o .here) j)));
-        untaken = o .untaken;
-        acceptance = a ∙ o .acceptance;
-      }
+      shorter : In x (discoveredOf c) → Open h x → Shared g h′ c x
+      shorter i o =
+          let unlooked : elem y (o .front) ≡ false = not-in y (o .front) (λ j. n (front-looked g rows-once (budget t) x y (o .front) (o .left) i (o .untaken) (o .here) j)) in
+          open-shared h h′ x o (but y (o .right)) (e ∙ ap (but y) (o .there) ∙ but-front y (o .front) (o .right) unlooked) a
 
       -- all its moves were looked at: the target is none of them
       gone : In x (discoveredOf c) → Off x (unfinishedPath c) → h′ .successors x ≡ g .successors x
@@ -127,7 +113,7 @@ module _ (t : Table) (v : Valid t) where
 
       by-state : (met on : Bool) → elem x (discoveredOf c) ≡ met → onPath x (unfinishedPath c) ≡ on → Shared g h′ c x
       by-state false on p q = shared-unmet g h′ c x p
-      by-state true true p q = open-shared h′ x (shorter p (shared-open h x q s))
+      by-state true true p q = shorter p (shared-open h x q s)
       by-state true false p q = shared-equal g h′ c x (gone p q) (a ∙ s .acceptance p)
 
   -- a state that the change leaves as it was
