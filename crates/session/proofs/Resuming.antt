@@ -40,7 +40,7 @@ use Rattle.table.specs.declared.Subject.{Subject}
 use Rattle.table.specs.declared.Subject.the-variants as Subject
 use Rattle.table.specs.Trials.{switching}
 use Rattle.table.specs.Filing.{changeOf, namedBy}
-use Rattle.table.proofs.Places.{found as has-place, place-hit, place-front, place-behind, same-test}
+use Rattle.table.proofs.Places.{has-place, place-hit, place-front, place-behind, same-test}
 use Rattle.session.specs.declared.Resumption.the-variants.{Nowhere, At}
 use Rattle.session.specs.declared.Session.{Session}
 use Rattle.session.specs.Model.{arraysHeld, unexploredEdge, unexploredIn, resumptionOf}
@@ -130,23 +130,23 @@ module _ (g : Graph) where
           inl (e, (λ k. drop (suc (r .of (is k) .index)) (g .successors (e k))) ∙ sym (b .1))
 
   -- what the walk and the height of the open path tell of a search that is over, and stands at c
-  pub record Opened (r : Notes) (c : Config) (tip : ℕ) (walk : List ℕ) : Type 0 where
+  pub record PathTold (r : Notes) (c : Config) (tip : ℕ) (walk : List ℕ) : Type 0 where
     pub unfinished-are : entries tip 0 walk ≡ statesOf (unfinishedPath c)
     pub tip-is : tip ≡ length (statesOf (unfinishedPath c))
     pub left-is : (x : ℕ) → In x (statesOf (unfinishedPath c))
         → Untaken x (drop (suc (r .of (getD walk (suc (placeOf x (statesOf (unfinishedPath c)))) 0) .index)) (g .successors x)) (unfinishedPath c)
 
-  pub opened : (c : Config) (r r′ : Notes) (stem length height : ℕ) (walk : List ℕ) → Inv g c → ShapeOf g r′ c → ((x : ℕ) → In x (discoveredOf c) → r .of x ≡ r′ .of x)
-      → Tells stem length walk (verdict c) → height ≡ heightOf c → Opened r c (height - 1) walk
+  pub path-told : (c : Config) (r r′ : Notes) (stem length height : ℕ) (walk : List ℕ) → Inv g c → ShapeOf g r′ c → ((x : ℕ) → In x (discoveredOf c) → r .of x ≡ r′ .of x)
+      → Tells stem length walk (verdict c) → height ≡ heightOf c → PathTold r c (height - 1) walk
   unfolding verdict statesOf entries stemOf cycleOf onPath
-  opened (outer p d k l) r r′ stem n height walk v h same t e = absurd t
-  opened (nested s p q d k l) r r′ stem n height walk v h same t e = absurd t
-  opened (exhausted d k l) r r′ stem n height walk v h same t e =
+  path-told (outer p d k l) r r′ stem n height walk v h same t e = absurd t
+  path-told (nested s p q d k l) r r′ stem n height walk v h same t e = absurd t
+  path-told (exhausted d k l) r r′ stem n height walk v h same t e =
       let z : height - 1 ≡ 0 = omega (arith, e) in
       record { unfinished-are = ap (λ (k : ℕ). entries k 0 walk) z; tip-is = z; left-is = λ x i. absurd (in-nil x i) }
-  opened (found y [] q d k l) r r′ stem n height walk v h same t e = absurd v
-  opened (found y (frame s us ∷ p) [] d k l) r r′ stem n height walk v h same t e = absurd v
-  opened (found y (frame s us ∷ p) (frame x ts ∷ q) d k l) r r′ stem n height walk v h same t e =
+  path-told (found y [] q d k l) r r′ stem n height walk v h same t e = absurd v
+  path-told (found y (frame s us ∷ p) [] d k l) r r′ stem n height walk v h same t e = absurd v
+  path-told (found y (frame s us ∷ p) (frame x ts ∷ q) d k l) r r′ stem n height walk v h same t e =
       let states = statesOf p ++ (s ∷ []) in
       let behind = drop 1 (statesOf q ++ (x ∷ [])) in
       let high : height - 1 ≡ length (statesOf p) = omega (arith, e, states-length p) in
@@ -166,7 +166,7 @@ module _ (g : Graph) where
 
 module _ (t : Table) (v : Valid t) (r : Notes) (rows : Rows) (index walk : List ℕ) (tip from to : ℕ)
     (rows-are : rowAt (rows .targets) (rows .starts) from ≡ row (t .edges) from) (index-is : (x : ℕ) → r .of x .index ≡ getD index x 0)
-    (o : Opened (searched t) r (run (searched t) (budget t)) tip walk) (met : In from (discoveredOf (run (searched t) (budget t)))) where
+    (o : PathTold (searched t) r (run (searched t) (budget t)) tip walk) (met : In from (discoveredOf (run (searched t) (budget t)))) where
   abbrev c : Config
   c = run (searched t) (budget t)
 
@@ -249,21 +249,21 @@ module _ (s : Session) (t : Table) (h : Holds s t) (v : Valid t) where
   abbrev held : Notes
   held = notesOf (run (searched t) (h .steps)) (s .number) (s .parent) (s .index) (s .probes) (s .stamp)
 
-  opened-held : Opened (searched t) held (run (searched t) (budget t)) (s .height - 1) (s .walk)
+  path-held : PathTold (searched t) held (run (searched t) (budget t)) (s .height - 1) (s .walk)
   unfolding final
-  opened-held =
+  path-held =
       let e : run (searched t) (h .steps) ≡ run (searched t) (budget t) = run-final t v (h .steps) (h .ended) in
-      opened (searched t) (run (searched t) (budget t)) held (notes (searched t) (h .steps)) (s .stem) (s .length) (s .height) (s .walk)
+      path-told (searched t) (run (searched t) (budget t)) held (notes (searched t) (h .steps)) (s .stem) (s .length) (s .height) (s .walk)
       (inv-run (searched t) (budget t)) (rw e at (noted-run (searched t) (h .steps) .shape)) (λ x i. h .archived .holds .notes-right x (rw e i)) (h .told) (h .height-is)
 
   pub decided : (op : Op) (room : ℕ) → changeTrial (changeOf op) t room ≡ accepted → In (namedBy op) (discoveredOf (run (searched t) (h .steps)))
       → unexploredIn op (arraysHeld s .rows) (s .index) (s .walk) (s .height - 1) ≡ unexplored (changeOf op) t
   unfolding changeTrial conditions unexplored final
   decided (Add from to) room e i =
-      add-decided t v held (arraysHeld s .rows) (s .index) (s .walk) (s .height - 1) from to (h .stored .filed .rows-are from) (λ x. refl) opened-held
+      add-decided t v held (arraysHeld s .rows) (s .index) (s .walk) (s .height - 1) from to (h .stored .filed .rows-are from) (λ x. refl) path-held
       (rw (← run-final t v (h .steps) (h .ended)) i)
   decided (Cut from to) room e i =
-      cut-decided t v held (arraysHeld s .rows) (s .index) (s .walk) (s .height - 1) from to (h .stored .filed .rows-are from) (λ x. refl) opened-held
+      cut-decided t v held (arraysHeld s .rows) (s .index) (s .walk) (s .height - 1) from to (h .stored .filed .rows-are from) (λ x. refl) path-held
       (rw (← run-final t v (h .steps) (h .ended)) i) (has-row (t .edges) from to (not-false (present (t .edges) (from, to)) (unheld 10 _ e)))
   decided (Mark state) room e i = refl
   decided (Unmark state) room e i = refl

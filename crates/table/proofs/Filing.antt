@@ -26,7 +26,7 @@ use Rattle.table.specs.declared.Trial.{Trial}
 use Rattle.table.specs.declared.Trial.the-variants.{Accepted, Refused}
 use Rattle.table.specs.Trials.{tried, earlyTrial, there}
 use Rattle.table.specs.Filing.{Filed, Empty, Limits, FiledAll, Tried}
-use Rattle.table.proofs.Places.{found, same-test}
+use Rattle.table.proofs.Places.{has-place, same-test}
 use Rattle.table.proofs.Pairs.{moveAt, pairs-more, pairs-end}
 use Rattle.table.proofs.Trying.{stop, skip, early-held, Early, early-free}
 
@@ -35,7 +35,7 @@ use Rattle.table.proofs.Trying.{stop, skip, early-held, Early, early-fr
 pub there-present : (targets starts : List ℕ) (es : List Edge) (v t : ℕ) → rowAt targets starts v ≡ row es v → there targets starts v t ≡ present es (v, t)
 there-present targets starts es v t e =
     ap (ltb (placeOf t (rowAt targets starts v))) (sym (row-length targets starts v))
-    ∙ found t (rowAt targets starts v)
+    ∙ has-place t (rowAt targets starts v)
     ∙ ap (elem t) e
     ∙ same-test (elem t (row es v)) (present es (v, t)) (row-has es v t) (has-row es v t)
 

@@ -20,15 +20,15 @@ pub place-miss : (y x : ℕ) (xs : List ℕ) → eqb y x ≡ false → placeOf y
 unfolding placeOf
 place-miss y x xs e = rw (e, placeOf)
 
-found-by : (b : Bool) (p n : ℕ) (e : Bool) → ltb p n ≡ e → ltb (elim b [ true ↦ 0 | false ↦ suc p ]) (suc n) ≡ b || e
-found-by true p n e h = lt-ltb 0 (suc n) (omega arith)
-found-by false p n e h = leb·suc-suc (suc p) n ∙ h
+placed-by : (b : Bool) (p n : ℕ) (e : Bool) → ltb p n ≡ e → ltb (elim b [ true ↦ 0 | false ↦ suc p ]) (suc n) ≡ b || e
+placed-by true p n e h = lt-ltb 0 (suc n) (omega arith)
+placed-by false p n e h = leb·suc-suc (suc p) n ∙ h
 
 -- an entry has a place in the list exactly when it is there
-pub found : (t : ℕ) (xs : List ℕ) → ltb (placeOf t xs) (length xs) ≡ elem t xs
+pub has-place : (t : ℕ) (xs : List ℕ) → ltb (placeOf t xs) (length xs) ≡ elem t xs
 unfolding placeOf elem
-found t [] = refl
-found t (x ∷ xs) = found-by (eqb t x) (placeOf t xs) (length xs) (elem t xs) (found t xs)
+has-place t [] = refl
+has-place t (x ∷ xs) = placed-by (eqb t x) (placeOf t xs) (length xs) (elem t xs) (has-place t xs)
 
 -- in the first of two lists, one behind the other, or in the second
 pub place-front : (y : ℕ) (xs ys : List ℕ) → In y xs → placeOf y (xs ++ ys) ≡ placeOf y xs
