@@ -2,16 +2,16 @@
 -- here first. Assumes nothing.
 use mathlib.Core.Path.{_≡_, refl, ap₂}
 use mathlib.Core.List.{List, [], _∷_, map}
-use Rattle.plain.specs.Lists.{any, filter, anyBelow, elem, before, from}
+use Rattle.plain.specs.Lists.{any, all, filter, anyBelow, elem, before, from}
 use Rattle.plain.specs.Search.{onPath, finishes, step, steps, finished, until, statesOf, stemOf, cycleOf, verdict}
 use Rattle.plain.specs.Table.{bit, accepts, withBit, withMark, withoutBit, withoutMark, countBelow, acceptingCount, row, budget, final, firstMeeting}
 use Rattle.plain.specs.Refusals.{firstHeld, pairs, sameEdge, present, badSize, badStart, badMarks, badCount, outside, repeated, beyond, full, shortRoom, loadTrial}
-use Rattle.plain.specs.Machine.{named, tableOf, without, apply, conditions, changeTrial, unexplored, keptPart, kept, loadAnswer, changeAnswer, trialOf, answerTo, tableAfter, answers, answerLine, answerLines, Line, gameLine, noneLine, transcript}
-use Rattle.plain.specs.Games.{Known, wordOf, known, lent, returning, games}
+use Rattle.plain.specs.Machine.{named, tableOf, without, apply, conditions, changeTrial, itemConditions, changesIn, applyAll, namedAll, linesTrial, batchTrial, applied, namedBy, updateTrial, positionIn, unexplored, passedOver, keepsAll, keptPart, kept, loadAnswer, trialOf, updateAnswer, answerTo, tableAfter, answers, answerLine, answerLines, Line, gameLine, noneLine, transcript}
+use Rattle.plain.specs.Games.{Known, wordOf, knownBy, known, lent, returning, games}
 
 -- the lines printed for a game
 abbrev printed : Known → List Line
-printed k = transcript (k .load) 512 (map lent (k .changes))
+printed k = transcript (k .load) 512 (map lent (k .updates))
 
 -- of each game they are the known ones
 abbrev AsKnown : List Known → Type 0
@@ -24,12 +24,12 @@ two-payers = known 4 (0 ∷ 1 ∷ []) (0 ∷ 1 ∷ 1 ∷ 2 ∷ []) [] (gameLine 
 
 -- that one, and the known ones
 as-known : AsKnown (two-payers ∷ games)
-unfolding any filter anyBelow elem before from onPath finishes step steps finished until statesOf stemOf cycleOf verdict bit accepts withBit withMark withoutBit withoutMark countBelow acceptingCount row budget final firstMeeting firstHeld pairs sameEdge present badSize badStart badMarks badCount outside repeated beyond full shortRoom loadTrial named tableOf without apply conditions changeTrial unexplored keptPart kept loadAnswer changeAnswer trialOf answerTo tableAfter answers answerLine answerLines transcript wordOf known lent returning games two-payers
+unfolding any all filter anyBelow elem before from onPath finishes step steps finished until statesOf stemOf cycleOf verdict bit accepts withBit withMark withoutBit withoutMark countBelow acceptingCount row budget final firstMeeting firstHeld pairs sameEdge present badSize badStart badMarks badCount outside repeated beyond full shortRoom loadTrial named tableOf without apply conditions changeTrial itemConditions changesIn applyAll namedAll linesTrial batchTrial applied namedBy updateTrial positionIn unexplored passedOver keepsAll keptPart kept loadAnswer trialOf updateAnswer answerTo tableAfter answers answerLine answerLines transcript wordOf knownBy known lent returning games two-payers
 as-known = (refl, (refl, (refl, (refl, (refl, (refl, (refl, (refl, (refl, (refl, (refl, (refl, (refl, (refl, (refl, (refl, (refl, (refl, (refl, (refl, (refl, tt)))))))))))))))))))))
 
 all-of : (ks : List Known) → AsKnown ks → map printed ks ≡ map (λ (k : Known). k .lines) ks
 all-of [] h = refl
 all-of (k ∷ ks) h = ap₂ (λ (ls : List Line) (lss : List (List Line)). ls ∷ lss) (h .0) (all-of ks (h .1))
 
-pub all-games : map (λ (k : Known). transcript (k .load) 512 (map lent (k .changes))) games ≡ map (λ (k : Known). k .lines) games
+pub all-games : map (λ (k : Known). transcript (k .load) 512 (map lent (k .updates))) games ≡ map (λ (k : Known). k .lines) games
 all-games = all-of games (as-known .1)

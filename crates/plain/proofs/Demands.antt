@@ -15,9 +15,9 @@ use Rattle.plain.specs.Cycles.{FreeRound, Lasso}
 use Rattle.plain.specs.Table.{Table, one, row, graphOf, searched, budget, final, firstMeeting}
 use Rattle.plain.specs.Refusals.{badStart, outside, accepted}
 use Rattle.plain.specs.Unexplored.{Shared, bare}
-use Rattle.plain.specs.Machine.{Change, named, apply, unexplored, keptPart, kept, Call, trialOf}
+use Rattle.plain.specs.Machine.{Update, applied, namedBy, keepsAll, keptPart, kept, Call, trialOf}
 use Rattle.plain.specs.Notes.{Notes, notes, Faithful}
-use Rattle.plain.specs.Claims.{Arises, changed, times, VerdictRight, clear, round, reportOf, ReportRight, KeptRight}
+use Rattle.plain.specs.Claims.{Arises, times, VerdictRight, clear, round, reportOf, ReportRight, KeptRight}
 use Rattle.plain.proofs.Tests.{contra, either, not-in, in-nil, in-head, in-tail, in-cases, or-first, one-le, none-cons, any-in}
 use Rattle.plain.proofs.Runs.{lasso-free, lasso-inside}
 use Rattle.plain.proofs.Lassos.{sound, none-right}
@@ -25,10 +25,11 @@ use Rattle.plain.proofs.Bounds.{left, left-add, left-const, left-alone,
 use Rattle.plain.proofs.Prefix.{FirstMeeting, first-meeting}
 use Rattle.plain.proofs.Resume.{one-end, one-until, met-at-end, until-end, until-at, probes-grow, holds-notes, resumed}
 use Rattle.plain.proofs.Edges.{Has, has-cases, has-nil}
-use Rattle.plain.proofs.Rows.{row-nil, row-length, row-has, agree}
+use Rattle.plain.proofs.Rows.{row-nil, row-length, row-has}
 use Rattle.plain.proofs.Tables.{Valid, valid, inside-both}
 use Rattle.plain.proofs.SameRun.{shared-unmet, same-run, same-faithful, alike-discovered, alike-probes, alike-verdict}
-use Rattle.plain.proofs.Unexplored.{rows-once, unexplored-shared}
+use Rattle.plain.proofs.Unexplored.{rows-once}
+use Rattle.plain.proofs.Batches.{update-valid, update-agree, keeps-shared}
 
 -- ---- the states of a table
 
@@ -218,20 +219,20 @@ unfolding final
 run-final t v n h = one-end (searched t) n (budget t) h (ends t v)
 
 -- which part of the new search is kept
-pub kept-unexplored : (c : Change) (t : Table) → unexplored c t ≡ true → keptPart c t ≡ final (apply c t)
+pub kept-all : (u : Update) (t : Table) → keepsAll u t ≡ true → keptPart u t ≡ final (applied u t)
 unfolding keptPart
-kept-unexplored c t u = rw (u, keptPart)
+kept-all u t k = rw (k, keptPart)
 
-pub kept-explored : (c : Change) (t : Table) → unexplored c t ≡ false → keptPart c t ≡ firstMeeting (named c) (apply c t)
+pub kept-meeting : (u : Update) (t : Table) → keepsAll u t ≡ false → keptPart u t ≡ firstMeeting (namedBy u) (applied u t)
 unfolding keptPart
-kept-explored c t u = rw (u, keptPart)
+kept-meeting u t k = rw (k, keptPart)
 
-module _ (c : Change) (t : Table) (v : Valid t) (v′ : Valid (apply c t)) (n : ℕ) (ended : verdict (run (searched t) n) ≢ unfinished) where
+module _ (u : Update) (t : Table) (v : Valid t) (v′ : Valid (applied u t)) (n : ℕ) (ended : verdict (run (searched t) n) ≢ unfinished) where
   abbrev g : Graph
   g = searched t
 
   abbrev h : Graph
-  h = searched (apply c t)
+  h = searched (applied u t)
 
   -- No named state has come past what its rows have in common: the search on the changed table is the one before, to its end, and the notes stay right; every
   -- look is kept.
@@ -239,56 +240,56 @@ module _ (c : Change) (t : Table) (v : Valid t) (v′ : Valid (apply c t)) (n : 
     pub same-steps : bare (run h n) ≡ bare (run g n)
     pub still-ended : verdict (run h n) ≢ unfinished
     pub holds : Faithful h r n
-    pub same-final : bare (final (apply c t)) ≡ bare (final t)
-    pub all-kept : keptPart c t ≡ final (apply c t)
+    pub same-final : bare (final (applied u t)) ≡ bare (final t)
+    pub all-kept : keptPart u t ≡ final (applied u t)
 
-  -- the search had not come to the move, or has met no named state
+  -- the search had not come to what is changed, or has met no named state
   abbrev pub Untouched : Type 0
-  Untouched = (unexplored c t ≡ true) ⊎ (meets (named c) (run g n) ≡ false)
+  Untouched = (keepsAll u t ≡ true) ⊎ (meets (namedBy u) (run g n) ≡ false)
 
-  untouched-shared : Untouched → (x : ℕ) → In x (named c) → Shared g h (run g n) x
+  untouched-shared : Untouched → (x : ℕ) → In x (namedBy u) → Shared g h (run g n) x
   unfolding final
-  untouched-shared (inl u) x i = rw (run-final t v n ended) (unexplored-shared t v c u x)
+  untouched-shared (inl k) x i = rw (run-final t v n ended) (keeps-shared u t v k x)
   untouched-shared (inr f) x i =
-      shared-unmet g h (run g n) x (not-in x (discoveredOf (run g n)) (λ j. contra (any-in (λ s. elem s (discoveredOf (run g n))) x (named c) i j) f))
+      shared-unmet g h (run g n) x (not-in x (discoveredOf (run g n)) (λ j. contra (any-in (λ s. elem s (discoveredOf (run g n))) x (namedBy u) i j) f))
 
-  pub change-same : (r : Notes) → Untouched → Faithful g r n → Same r
+  pub update-same : (r : Notes) → Untouched → Faithful g r n → Same r
   unfolding final firstMeeting
-  change-same r o w =
+  update-same r o w =
       let each = untouched-shared o in
-      let e : bare (run h n) ≡ bare (run g n) = same-run (named c) g h (agree c t) n each n (omega arith) in
+      let e : bare (run h n) ≡ bare (run g n) = same-run (namedBy u) g h (update-agree u t) n each n (omega arith) in
       let ended′ : verdict (run h n) ≢ unfinished = rw (alike-verdict (run g n) (run h n) e) ended in
-      let same : bare (final (apply c t)) ≡ bare (final t) = rw (← run-final (apply c t) v′ n ended′, ← run-final t v n ended) e in
+      let same : bare (final (applied u t)) ≡ bare (final t) = rw (← run-final (applied u t) v′ n ended′, ← run-final t v n ended) e in
       record {
         same-steps = e;
         still-ended = ended′;
-        holds = same-faithful (named c) g h (agree c t) n each r w;
+        holds = same-faithful (namedBy u) g h (update-agree u t) n each r w;
         same-final = same;
-        all-kept = ⊎-elim (kept-unexplored c t) (λ f. kept-explored c t f ∙ until-end h (named c) (budget (apply c t)) (unmet o f same)) (either (unexplored c t));
+        all-kept = ⊎-elim (kept-all u t) (λ f. kept-meeting u t f ∙ until-end h (namedBy u) (budget (applied u t)) (unmet o f same)) (either (keepsAll u t));
       }
     where
-      -- a change that the search had come to has met no named state in the new search either
-      unmet : Untouched → unexplored c t ≡ false → bare (final (apply c t)) ≡ bare (final t) → meets (named c) (run h (budget (apply c t))) ≡ false
-      unmet (inl u) f same = absurd (contra u f)
+      -- where the search had come to what is changed, it has met no named state in the new search either
+      unmet : Untouched → keepsAll u t ≡ false → bare (final (applied u t)) ≡ bare (final t) → meets (namedBy u) (run h (budget (applied u t))) ≡ false
+      unmet (inl k) f same = absurd (contra k f)
       unmet (inr m) f same =
-          ap (λ (d : List ℕ). any (λ s. elem s d) (named c)) (alike-discovered (final t) (final (apply c t)) same ∙ ap discoveredOf (sym (run-final t v n ended))) ∙ m
+          ap (λ (d : List ℕ). any (λ s. elem s d) (namedBy u)) (alike-discovered (final t) (final (applied u t)) same ∙ ap discoveredOf (sym (run-final t v n ended))) ∙ m
 
   -- A named state is met: the search on the changed table, at its first meeting, stands where the one before stood at its own, and the notes are right there.
   pub record Met (r : Notes) : Type 0 where
-    pub meeting : FirstMeeting (named c) g h (agree c t) n
+    pub meeting : FirstMeeting (namedBy u) g h (update-agree u t) n
     pub holds : Faithful h r (meeting .at)
-    pub kept-here : firstMeeting (named c) (apply c t) ≡ run h (meeting .at)
+    pub kept-here : firstMeeting (namedBy u) (applied u t) ≡ run h (meeting .at)
 
-  pub change-met : (r : Notes) → meets (named c) (run g n) ≡ true → Faithful g r n → Met r
+  pub update-met : (r : Notes) → meets (namedBy u) (run g n) ≡ true → Faithful g r n → Met r
   unfolding final firstMeeting
-  change-met r m held =
-      let f = first-meeting (named c) g h (agree c t) n m in
+  update-met r m held =
+      let f = first-meeting (namedBy u) g h (update-agree u t) n m in
       let w = f .meeting in
-      let k : meets (named c) (run h (f .at)) ≡ true = rw (w .there) (any-in (λ s. elem s (w .state ∷ w .earlier)) (w .state) (named c) (w .is-named) (in-head (w .state) (w .earlier))) in
+      let k : meets (namedBy u) (run h (f .at)) ≡ true = rw (w .there) (any-in (λ s. elem s (w .state ∷ w .earlier)) (w .state) (namedBy u) (w .is-named) (in-head (w .state) (w .earlier))) in
       record {
         meeting = f;
-        holds = resumed (named c) g h (agree c t) r n held f;
-        kept-here = one-until h (named c) (budget (apply c t)) (f .at) (met-at-end h (named c) (f .at) (budget (apply c t)) (ends (apply c t) v′) k) k ∙ f .there-stops;
+        holds = resumed (namedBy u) g h (update-agree u t) r n held f;
+        kept-here = one-until h (namedBy u) (budget (applied u t)) (f .at) (met-at-end h (namedBy u) (f .at) (budget (applied u t)) (ends (applied u t) v′) k) k ∙ f .there-stops;
       }
 
 -- ---- "the run before began with these looks, move for move"
@@ -304,55 +305,56 @@ taken-first c e (new, p) =
 abbrev GoesOn : Config → Config → Type 0
 GoesOn part whole = (new : List Edge) × (probesOf whole ≡ new ++ probesOf part)
 
-module _ (c : Change) (t : Table) (v : Valid t) (v′ : Valid (apply c t)) where
+module _ (u : Update) (t : Table) (v : Valid t) (v′ : Valid (applied u t)) where
   stops : verdict (run (searched t) (budget t)) ≢ unfinished
   stops = ended-within t v (budget t) (omega arith)
 
-  untouched : Untouched c t v v′ (budget t) stops → Same c t v v′ (budget t) stops (notes (searched t) (budget t))
-  untouched o = change-same c t v v′ (budget t) stops (notes (searched t) (budget t)) o (holds-notes (searched t) (budget t))
+  untouched : Untouched u t v v′ (budget t) stops → Same u t v v′ (budget t) stops (notes (searched t) (budget t))
+  untouched o = update-same u t v v′ (budget t) stops (notes (searched t) (budget t)) o (holds-notes (searched t) (budget t))
 
   -- the search before goes on from the part of the new search that is kept
-  began : GoesOn (keptPart c t) (final t)
+  began : GoesOn (keptPart u t) (final t)
   unfolding final
-  began = ⊎-elim (λ u. all-of-it (inl u)) (λ e. ⊎-elim (met e) (λ f. all-of-it (inr f)) (either (meets (named c) (run (searched t) (budget t))))) (either (unexplored c t))
+  began = ⊎-elim (λ k. all-of-it (inl k)) (λ e. ⊎-elim (met e) (λ f. all-of-it (inr f)) (either (meets (namedBy u) (run (searched t) (budget t))))) (either (keepsAll u t))
     where
-      all-of-it : Untouched c t v v′ (budget t) stops → GoesOn (keptPart c t) (final t)
+      all-of-it : Untouched u t v v′ (budget t) stops → GoesOn (keptPart u t) (final t)
       all-of-it o =
           let w = untouched o in
-          ([], sym (ap probesOf (w .all-kept) ∙ alike-probes (final t) (final (apply c t)) (w .same-final)))
+          ([], sym (ap probesOf (w .all-kept) ∙ alike-probes (final t) (final (applied u t)) (w .same-final)))
 
-      met : unexplored c t ≡ false → meets (named c) (run (searched t) (budget t)) ≡ true → GoesOn (keptPart c t) (final t)
-      met u m =
-          let w = change-met c t v v′ (budget t) stops (notes (searched t) (budget t)) m (holds-notes (searched t) (budget t)) in
+      met : keepsAll u t ≡ false → meets (namedBy u) (run (searched t) (budget t)) ≡ true → GoesOn (keptPart u t) (final t)
+      met k m =
+          let w = update-met u t v v′ (budget t) stops (notes (searched t) (budget t)) m (holds-notes (searched t) (budget t)) in
           let f = w .meeting in
-          let e : probesOf (run (searched t) (f .at)) ≡ probesOf (keptPart c t) = ap probesOf (f .meeting .here) ∙ sym (ap probesOf (kept-explored c t u ∙ w .kept-here ∙ f .meeting .there)) in
+          let e : probesOf (run (searched t) (f .at)) ≡ probesOf (keptPart u t) = ap probesOf (f .meeting .here) ∙ sym (ap probesOf (kept-meeting u t k ∙ w .kept-here ∙ f .meeting .there)) in
           let p = probes-grow (searched t) (f .at) (budget t) (f .in-time) in
           (p .0, p .1 ∙ ap (λ (l : List Edge). p .0 ++ l) e)
 
   -- and so does the new one
-  goes-on : GoesOn (keptPart c t) (final (apply c t))
+  goes-on : GoesOn (keptPart u t) (final (applied u t))
   unfolding final firstMeeting
   goes-on = ⊎-elim
-      (λ u. ([], ap probesOf (sym (kept-unexplored c t u))))
-      (λ e. let u = until-at (searched (apply c t)) (named c) (budget (apply c t)) in
-      let p = probes-grow (searched (apply c t)) (u .0) (budget (apply c t)) (u .1) in
-      (p .0, p .1 ∙ ap (λ (x : Config). p .0 ++ probesOf x) (sym (kept-explored c t e ∙ u .2)))) (either (unexplored c t))
+      (λ k. ([], ap probesOf (sym (kept-all u t k))))
+      (λ e. let w = until-at (searched (applied u t)) (namedBy u) (budget (applied u t)) in
+      let p = probes-grow (searched (applied u t)) (w .0) (budget (applied u t)) (w .1) in
+      (p .0, p .1 ∙ ap (λ (x : Config). p .0 ++ probesOf x) (sym (kept-meeting u t e ∙ w .2)))) (either (keepsAll u t))
 
-  pub kept-right : KeptRight c t (count (final (apply c t)) - kept c t) (kept c t)
+  pub kept-right : KeptRight u t (count (final (applied u t)) - kept u t) (kept u t)
   unfolding kept taken
   kept-right =
       let p = goes-on in
       record {
-        same-run = λ u. let w = untouched (inl u) in
-            (ap reverse (alike-probes (final t) (final (apply c t)) (w .same-final)), alike-verdict (final t) (final (apply c t)) (w .same-final));
-        all-kept = λ u. let e = ap count (kept-unexplored c t u) in (omega (arith, e), e);
-        kept-is = λ u. ap count (kept-explored c t u);
-        new-run = taken-first (keptPart c t) (final (apply c t)) p;
-        run-before = taken-first (keptPart c t) (final t) began;
-        adds-up = omega (arith, ap length (p .1), length-append (p .0) (probesOf (keptPart c t)));
+        same-run = λ k. let w = untouched (inl k) in
+            (ap reverse (alike-probes (final t) (final (applied u t)) (w .same-final)), alike-verdict (final t) (final (applied u t)) (w .same-final));
+        all-kept = λ k. let e = ap count (kept-all u t k) in (omega (arith, e), e);
+        kept-is = λ k. ap count (kept-meeting u t k);
+        new-run = taken-first (keptPart u t) (final (applied u t)) p;
+        run-before = taken-first (keptPart u t) (final t) began;
+        adds-up = omega (arith, ap length (p .1), length-append (p .0) (probesOf (keptPart u t)));
       }
 
--- what demand 3 says of "kept", for every accepted change of a table that a session can hold
+-- what demand 3 says of "kept", for every accepted call on a table that a session can hold
 pub demand-3-kept : (c : Call) (t : Table) → Arises t → trialOf c t ≡ accepted
-    → KeptRight (c .change) t (count (final (apply (c .change) t)) - kept (c .change) t) (kept (c .change) t)
-demand-3-kept c t a e = kept-right (c .change) t (valid t a) (valid (apply (c .change) t) (changed t c a e))
+    → KeptRight (c .update) t (count (final (applied (c .update) t)) - kept (c .update) t) (kept (c .update) t)
+unfolding trialOf
+demand-3-kept c t a e = kept-right (c .update) t (valid t a) (update-valid (c .update) t (c .room) (valid t a) e)

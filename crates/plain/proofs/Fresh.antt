@@ -1,4 +1,4 @@
--- A fresh load of a table as it stands is accepted, sets that table, and answers as the change that led to it. Assumes nothing.
+-- A fresh load of a table as it stands is accepted, sets that table, and answers as the call that led to it. Assumes nothing.
 use mathlib.Core.Path.{_≡_, refl, sym, ap, _∙_}
 use mathlib.Core.Bool.{false}
 use mathlib.Core.List.{List, [], _∷_}
@@ -10,10 +10,11 @@ use Rattle.plain.specs.Lists.{any}
 use Rattle.plain.specs.Search.{Edge, Verdict, verdict, count}
 use Rattle.plain.specs.Table.{Table, final}
 use Rattle.plain.specs.Refusals.{Trial, accepted, refused, pairs, flat, badCount, outside, repeated, shortRoom, loadTrial}
-use Rattle.plain.specs.Machine.{apply, answer, tableOf, loadAnswer, changeAnswer, after, Call, trialOf, answerTo, tableAfter}
-use Rattle.plain.specs.Claims.{Arises, changed, loadFrom, AsFresh}
+use Rattle.plain.specs.Machine.{applied, answer, tableOf, loadAnswer, updateAnswer, after, Call, trialOf, answerTo, tableAfter}
+use Rattle.plain.specs.Claims.{Arises, loadFrom, AsFresh}
 use Rattle.plain.proofs.Trials.{held-later, accepted-when}
-use Rattle.plain.proofs.Tables.{Valid, valid, count-fine, room-enough, changed-size}
+use Rattle.plain.proofs.Tables.{Valid, valid, count-fine}
+use Rattle.plain.proofs.Batches.{update-arises, update-size, update-room}
 use Rattle.plain.proofs.Demands.{demand-3-kept}
 
 -- ---- the numbers of moves
@@ -49,24 +50,24 @@ fresh-answer : (t : Table) → Valid t → (room : ℕ) → t .size ≤ room →
 unfolding loadAnswer
 fresh-answer t v room h = (λ i. loadAnswer (fresh-accepted t v room h i) (fresh-table t i))
 
--- ---- a change is answered as a fresh load of the table that it leaves
+-- ---- a call is answered as a fresh load of the table that it leaves
 
 answer-parts : (v w : Verdict) (a b m n : ℕ) → answer v a m ≡ answer w b n → (v ≡ w) × (a ≡ b) × (m ≡ n)
 answer-parts v w a b m n e = ((cc), (cc), (cc))
 
 pub as-fresh : (c : Call) (t : Table) → Arises t → AsFresh c t
-unfolding answerTo tableAfter changeAnswer trialOf
+unfolding answerTo tableAfter updateAnswer trialOf
 as-fresh c t a v spent kept-looks e = by-trial (trialOf c t) refl e
   where
     Fresh : Table → Type 0
     Fresh u = loadAnswer (loadTrial (loadFrom u) (c .room)) (tableOf (loadFrom u)) ≡ answer v (kept-looks + spent) 0
 
-    by-trial : (x : Trial) → trialOf c t ≡ x → changeAnswer x (c .change) t ≡ answer v spent kept-looks → Fresh (after x (apply (c .change) t) t)
+    by-trial : (x : Trial) → trialOf c t ≡ x → updateAnswer x c t ≡ answer v spent kept-looks → Fresh (after x (applied (c .update) t) t)
     by-trial (refused n) k f = absurd (let z : _≡_ {A = ℕ} 0 1 = cc in omega arith)
     by-trial accepted k f =
-        let t′ = apply (c .change) t in
-        let ok = valid t′ (changed t c a k) in
-        let room : t′ .size ≤ c .room = omega (arith, room-enough (c .change) t (c .room) k, changed-size (c .change) t) in
+        let t′ = applied (c .update) t in
+        let ok = valid t′ (update-arises (c .update) t (c .room) a k) in
+        let room : t′ .size ≤ c .room = omega (arith, update-room (c .update) t (c .room) k, update-size (c .update) t) in
         let p = answer-parts _ _ _ _ _ _ f in
         let sum : count (final t′) ≡ kept-looks + spent = sym (demand-3-kept c t a k .adds-up) ∙ (λ i. p .2 i + p .1 i) in
         fresh-answer t′ ok (c .room) room ∙ (λ i. answer (p .0 i) (sum i) 0)

@@ -18,6 +18,7 @@ pub mod Rows
 pub mod Trials
 pub mod Tables
 pub mod Unexplored
+pub mod Batches
 pub mod Demands
 pub mod Answers
 pub mod Loops

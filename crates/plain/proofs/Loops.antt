@@ -11,7 +11,7 @@ use Rattle.plain.specs.Table.{Table, bit, accepts, row, graphOf, budget,
 use Rattle.plain.specs.Refusals.{firstHeld, pairs, sameEdge, present, badSize, badStart, badMarks, badCount, outside, repeated, shortRoom, loadTrial}
 use Rattle.plain.specs.Machine.{tableOf, Line, gameLine, roundLine, noneLine, noLine}
 use Rattle.plain.specs.Claims.{Arises, loaded, LineTrue, LoopTold}
-use Rattle.plain.specs.Games.{wordOf, known, returning}
+use Rattle.plain.specs.Games.{wordOf, knownBy, known, returning}
 use Rattle.plain.proofs.Tests.{in-head}
 use Rattle.plain.proofs.Demands.{demand-2}
 
@@ -41,7 +41,7 @@ loop-told (noLine r) t h s = tt
 -- "though the search may answer another": here one of two moves
 pub another-round : (s : AcceptingLoop (graphOf (tableOf (returning .load)))) × Arises (tableOf (returning .load))
     × (stem : List ℕ) × (cycle : List ℕ) × (verdict (final (tableOf (returning .load))) ≡ lasso stem cycle) × (length cycle ≡ 2)
-unfolding any anyBelow filter elem before from onPath step steps statesOf stemOf cycleOf verdict bit accepts row budget final firstHeld pairs sameEdge present badSize badStart badMarks badCount outside repeated shortRoom loadTrial tableOf wordOf known returning
+unfolding any anyBelow filter elem before from onPath step steps statesOf stemOf cycleOf verdict bit accepts row budget final firstHeld pairs sameEdge present badSize badStart badMarks badCount outside repeated shortRoom loadTrial tableOf wordOf knownBy known returning
 another-round = (
   record { state = 1; loops = refl; pays = refl; way = 1 ∷ []; leads = (refl, refl) },
   loaded (returning .load) 512 refl,

@@ -12,7 +12,7 @@ use Rattle.plain.specs.Lists.{any, anyBelow, filter}
 use Rattle.plain.specs.Search.{Edge}
 use Rattle.plain.specs.Table.{Table, accepts, withMark, withoutMark}
 use Rattle.plain.specs.Refusals.{accepted, pairs, sameEdge, present, badSize, badStart, badMarks, badCount, outside, repeated, beyond, full, shortRoom, Load, loadTrial}
-use Rattle.plain.specs.Machine.{Change, add, cut, mark, unmark, tableOf, without, withWords, conditions, apply, changeTrial, trialOf}
+use Rattle.plain.specs.Machine.{Change, add, cut, mark, unmark, tableOf, without, withWords, conditions, apply, changeTrial}
 use Rattle.plain.specs.Claims.{Arises, loaded, changed}
 use Rattle.plain.proofs.Tests.{contra, either, not-true, same, or-false, or-neither, any-cases, none-cons, filter-yes, filter-no}
 use Rattle.plain.proofs.Trials.{unheld, passed-behind}
@@ -172,6 +172,5 @@ valid-change (mark s) t room v a = valid-switch t s (withMark (t .words) s) v (u
 valid-change (unmark s) t room v a = valid-switch t s (withoutMark (t .words) s) v (unheld 6 _ a) (accepts-unmarked-other (t .words) s)
 
 pub valid : (t : Table) → Arises t → Valid t
-unfolding trialOf
 valid t (loaded l room e) = valid-load l room e
-valid t (changed u c a e) = valid-change (c .change) u (c .room) (valid u a) e
+valid t (changed u c room a e) = valid-change c u room (valid u a) e

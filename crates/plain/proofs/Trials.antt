@@ -34,7 +34,7 @@ refused-not : (n : ℕ) → refused n ≡ accepted → ⊥
 refused-not n e = let z : _≡_ {A = ℕ} 0 1 = cc in omega arith
 
 -- where a call is accepted, no condition holds
-passed : (n : ℕ) (b : Bool) (cs : List Condition) → firstHeld ((n, b) ∷ cs) ≡ accepted → (b ≡ false) × (firstHeld cs ≡ accepted)
+pub passed : (n : ℕ) (b : Bool) (cs : List Condition) → firstHeld ((n, b) ∷ cs) ≡ accepted → (b ≡ false) × (firstHeld cs ≡ accepted)
 passed n b cs e = ⊎-elim
     (λ h. absurd (refused-not n (sym (held-first (n, b) cs h) ∙ e)))
     (λ h. (h, sym (held-later (n, b) cs h) ∙ e)) (either b)
@@ -59,6 +59,11 @@ unheld n (c ∷ cs) e =
 pub passed-behind : (cs ds : List Condition) → firstHeld (cs ++ ds) ≡ accepted → firstHeld ds ≡ accepted
 passed-behind [] ds e = e
 passed-behind (c ∷ cs) ds e = passed-behind cs ds (passed (c .0) (c .1) (cs ++ ds) e .1)
+
+-- where none of some and none of others holds, none of all does
+pub passed-both : (cs ds : List Condition) → firstHeld cs ≡ accepted → firstHeld ds ≡ accepted → firstHeld (cs ++ ds) ≡ accepted
+passed-both [] ds e f = f
+passed-both (c ∷ cs) ds e f = let p = passed (c .0) (c .1) cs e in held-later c (cs ++ ds) (p .0) ∙ passed-both cs ds (p .1) f
 
 -- "a number is handed back when its condition holds and no earlier one .. does"
 pub handed-when : (n : ℕ) (cs : List Condition) → Handed n cs → firstHeld cs ≡ refused n
@@ -107,7 +112,7 @@ accepted-only (c ∷ cs) e = let v = passed (c .0) (c .1) cs e in or-neither (c 
 -- ---- "refusal 7 no longer occurs"
 
 -- a number that stands with no condition is never handed back
-never-handed : (n : ℕ) (cs : List Condition) → elem n (map (λ (c : Condition). c .0) cs) ≡ false → firstHeld cs ≢ refused n
+pub never-handed : (n : ℕ) (cs : List Condition) → elem n (map (λ (c : Condition). c .0) cs) ≡ false → firstHeld cs ≢ refused n
 unfolding elem firstHeld
 never-handed n [] f e = refused-not n (sym e)
 never-handed n (c ∷ cs) f e =

@@ -128,12 +128,14 @@ module _ (t : Table) (v : Valid t) where
     acceptance = λ i. sym a ∙ s .acceptance i;
   }
 
-  -- A change that the run on t had not come to, made on any table u whose rows begin with what that run has taken: so do the rows behind it.
+  -- A change made on any table u whose rows begin with what the run on t has taken: so do the rows of the states that it does not name.
+  pub other-step : (b : Change) (u : Table) (x : ℕ) → elem x (named b) ≡ false → Shared g (searched u) c x → Shared g (searched (apply b u)) c x
+  other-step b u x f s = shared-other (searched u) (searched (apply b u)) x (agree b u .edges x f) (agree b u .acceptance x f) s
+
+  -- And of a change that the run had not come to, so do those of all.
   pub unexplored-step : (b : Change) (u : Table) → unexplored b t ≡ true → ((x : ℕ) → Shared g (searched u) c x) → (x : ℕ) → Shared g (searched (apply b u)) c x
   unfolding unexplored named apply final
-  unexplored-step b u e s x = ⊎-elim
-      (λ i. named-step b e i)
-      (λ f. shared-other (searched u) (searched (apply b u)) x (agree b u .edges x f) (agree b u .acceptance x f) (s x)) (either (elem x (named b)))
+  unexplored-step b u e s x = ⊎-elim (named-step b e) (λ f. other-step b u x f (s x)) (either (elem x (named b)))
     where
       named-step : (b : Change) → unexplored b t ≡ true → In x (named b) → Shared g (searched (apply b u)) c x
       named-step (add e) h i =

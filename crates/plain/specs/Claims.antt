@@ -10,12 +10,12 @@ use Rattle.plain.specs.Search.{Edge, Verdict, none, lasso, unfinished, v
 use Rattle.plain.specs.Cycles.{FreeRound, AcceptingLoop, Lasso}
 use Rattle.plain.specs.Table.{Table, graphOf, final, firstMeeting}
 use Rattle.plain.specs.Refusals.{accepted, flat, Load, loadTrial, sameEdge}
-use Rattle.plain.specs.Machine.{Change, named, apply, unexplored, keptPart, answer, tableOf, loadAnswer, Call, trialOf, answerTo, tableAfter, Line, gameLine, roundLine, noneLine, noLine}
+use Rattle.plain.specs.Machine.{Change, apply, changeTrial, Update, applied, namedBy, keepsAll, keptPart, answer, tableOf, loadAnswer, Call, answerTo, tableAfter, Line, gameLine, roundLine, noneLine, noLine}
 
 -- the tables that a session can hold: those that a load accepts, and those to which accepted changes lead
 pub data Arises : Table → Type 0 where
   loaded : (l : Load) (room : ℕ) → loadTrial l room ≡ accepted → Arises (tableOf l)
-  changed : (t : Table) (c : Call) → Arises t → trialOf c t ≡ accepted → Arises (apply (c .change) t)
+  changed : (t : Table) (c : Change) (room : ℕ) → Arises t → changeTrial c t room ≡ accepted → Arises (apply c t)
 
 -- how often a move stands among looks
 unfoldable pub times : Edge → List Edge → ℕ
@@ -53,28 +53,33 @@ pub record ReportRight (r : Report) (t : Table) : Type 0 where
   pub lengths : (stem cycle : ℕ) (walk : List ℕ) → r ≡ round stem cycle walk → length walk ≡ stem + cycle
   pub lasso-there : (stem cycle : ℕ) (walk : List ℕ) → r ≡ round stem cycle walk → Lasso (graphOf t) (take stem walk) (drop stem walk)
 
--- Of a change that is answered with so many looks spent and kept; t is the table as the change finds it.
-pub record KeptRight (c : Change) (t : Table) (spent kept : ℕ) : Type 0 where
-  -- Ticket 4, of moves that the search had not come to: "the new run is the old one", the same looks, move for move, and the same verdict and walk.
-  -- "Spent is then 0 and kept is the full count."
-  pub same-run : unexplored c t ≡ true → (taken (final (apply c t)) ≡ taken (final t)) × (verdict (final (apply c t)) ≡ verdict (final t))
-  pub all-kept : unexplored c t ≡ true → (spent ≡ 0) × (kept ≡ count (final (apply c t)))
+-- the changes are accepted one by one, each on the table that those before it leave
+abbrev pub AllAccepted : ℕ → List Change → Table → Type 0
+AllAccepted room [] t = Unit {0}
+AllAccepted room (c ∷ cs) t = (changeTrial c t room ≡ accepted) × AllAccepted room cs (apply c t)
+
+-- Of a call that is answered with so many looks spent and kept; t is the table as the call finds it.
+pub record KeptRight (u : Update) (t : Table) (spent kept : ℕ) : Type 0 where
+  -- Ticket 4, of moves that the search had not come to, and ticket 5 of a batch of such: "the new run is the old one", the same looks, move for move, and the same
+  -- verdict and walk. "Spent is then 0 and kept is the full count."
+  pub same-run : keepsAll u t ≡ true → (taken (final (applied u t)) ≡ taken (final t)) × (verdict (final (applied u t)) ≡ verdict (final t))
+  pub all-kept : keepsAll u t ≡ true → (spent ≡ 0) × (kept ≡ count (final (applied u t)))
   -- "In all other cases kept is counted as before": "Kept is the looks which that search makes before it first meets the state that the changed move leaves (all if
-  -- never)", or the state marked or unmarked
-  pub kept-is : unexplored c t ≡ false → kept ≡ count (firstMeeting (named c) (apply c t))
+  -- never)", or the state marked or unmarked; of a batch, "a state that any of them names"
+  pub kept-is : keepsAll u t ≡ false → kept ≡ count (firstMeeting (namedBy u) (applied u t))
   -- either way they are the first looks of that search
-  pub new-run : take kept (taken (final (apply c t))) ≡ taken (keptPart c t)
+  pub new-run : take kept (taken (final (applied u t))) ≡ taken (keptPart u t)
   -- "the run before began with these looks, move for move"
-  pub run-before : take kept (taken (final t)) ≡ taken (keptPart c t)
+  pub run-before : take kept (taken (final t)) ≡ taken (keptPart u t)
   -- "Kept + spent = that search's full count"
-  pub adds-up : kept + spent ≡ count (final (apply c t))
+  pub adds-up : kept + spent ≡ count (final (applied u t))
 
 -- the load of a table as it stands: its marks and its moves are those of that moment
 unfoldable pub loadFrom : Table → Load
 loadFrom t = record { size = t .size; start = t .start; words = t .words; numbers = flat (t .edges) }
 
--- Of an accepted change, and the table t that it finds: "Anyone comparing with a fresh load uses the marks of that moment" (document 02, ticket 2). A load of the
--- table as the change leaves it answers with the same verdict and walk; its looks, all spent, are those kept and those spent.
+-- Of an accepted call, and the table t that it finds: "Anyone comparing with a fresh load uses the marks of that moment" (document 02, ticket 2). A load of the
+-- table as the call leaves it answers with the same verdict and walk; its looks, all spent, are those kept and those spent.
 abbrev pub AsFresh : Call → Table → Type 0
 AsFresh c t = (v : Verdict) (spent kept : ℕ) → answerTo c t ≡ answer v spent kept
     → loadAnswer (loadTrial (loadFrom (tableAfter c t)) (c .room)) (tableOf (loadFrom (tableAfter c t))) ≡ answer v (kept + spent) 0
@@ -97,12 +102,12 @@ NotNone (noLine r) = Unit {0}
 abbrev pub LoopTold : Line → Table → Type 0
 LoopTold l t = AcceptingLoop (graphOf t) → NotNone l
 
--- The looks that the line of an accepted change tells are right; t is the table as the change finds it.
-abbrev pub LineCounted : Line → Change → Table → Type 0
-LineCounted (gameLine size moves paying) c t = Unit {0}
-LineCounted (roundLine spent kept stem cycle walk) c t = KeptRight c t spent kept
-LineCounted (noneLine spent kept) c t = KeptRight c t spent kept
-LineCounted (noLine r) c t = Unit {0}
+-- The looks that the line of an accepted call tells are right; t is the table as the call finds it.
+abbrev pub LineCounted : Line → Update → Table → Type 0
+LineCounted (gameLine size moves paying) u t = Unit {0}
+LineCounted (roundLine spent kept stem cycle walk) u t = KeptRight u t spent kept
+LineCounted (noneLine spent kept) u t = KeptRight u t spent kept
+LineCounted (noLine r) u t = Unit {0}
 
 -- "a number is handed back when its condition holds and no earlier one that is tried there does, and only then": cs are the conditions, in the
 -- order tried, each with its number

@@ -1,15 +1,15 @@
 -- Document 01, "Games with known results": games A to I, the changes made to them, and the lines printed. Behind them games that tickets of document 02
 -- bring, worked by hand. Assumes nothing.
 use Prim.Native.Nat.{ℕ, _+_, _^_}
-use mathlib.Core.List.{List, [], _∷_}
+use mathlib.Core.List.{List, [], _∷_, map}
 use lib.ListN.{replicate}
 use Rattle.plain.specs.Refusals.{Load}
-use Rattle.plain.specs.Machine.{Change, add, cut, mark, unmark, Call, numbered, Line, gameLine, roundLine, noneLine, noLine}
+use Rattle.plain.specs.Machine.{Change, add, cut, mark, unmark, Update, single, Call, numbered, Line, gameLine, roundLine, noneLine, noLine}
 
--- a game, the changes made to it in turn, and the lines printed
+-- a game, what is asked of it in turn, and the lines printed
 pub record Known : Type 0 where
   pub load : Load
-  pub changes : List Change
+  pub updates : List Update
   pub lines : List Line
 
 -- the word that marks the states of the list, each below 64
@@ -18,16 +18,20 @@ wordOf [] = 0
 wordOf (s ∷ ss) = 2 ^ s + wordOf ss
 
 -- N states, start 0, the paying states, the moves as numbers
-unfoldable pub known : ℕ → List ℕ → List ℕ → List Change → List Line → Known
-known n paying numbers cs ls = record {
+unfoldable pub knownBy : ℕ → List ℕ → List ℕ → List Update → List Line → Known
+knownBy n paying numbers us ls = record {
   load = record { size = n; start = 0; words = wordOf paying ∷ replicate 7 0; numbers = numbers };
-  changes = cs;
+  updates = us;
   lines = ls;
 }
 
+-- the same with changes, each a call of its own
+unfoldable pub known : ℕ → List ℕ → List ℕ → List Change → List Line → Known
+known n paying numbers cs ls = knownBy n paying numbers (map single cs) ls
+
 -- the list lent for the walk is the box's own
-unfoldable pub lent : Change → Call
-lent c = record { change = c; room = 512 }
+unfoldable pub lent : Update → Call
+lent u = record { update = u; room = 512 }
 
 -- Ticket 1, "though the search may answer another": state 1 pays and returns to itself, and the older way back to 0 is found first
 unfoldable pub returning : Known

@@ -1,11 +1,12 @@
 -- Document 01, "The plain table" and "Load, add, cut": what each call answers, and what it leaves. Document 02, ticket 2: the paying marks can be switched too;
--- ticket 4: what is kept of moves that the search had not come to. Assumes nothing.
-use Prim.Native.Nat.{ℕ, _+_, _-_}
-use mathlib.Core.Bool.{Bool, true, false, not}
+-- ticket 4: what is kept of moves that the search had not come to; ticket 5: batches of changes. Assumes nothing.
+use Prim.Native.Nat.{ℕ, suc, _+_, _-_}
+use mathlib.Core.Bool.{Bool, true, false, _||_, not}
 use mathlib.Core.List.{List, [], _∷_, _++_}
+use lib.Dec.{ltb}
 use lib.ListN.{length, drop}
-use Rattle.plain.specs.Lists.{filter}
-use Rattle.plain.specs.Search.{Edge, Config, probesOf, finished, Verdict, none, lasso, unfinished, verdict, count}
+use Rattle.plain.specs.Lists.{all, filter}
+use Rattle.plain.specs.Search.{Edge, Config, probesOf, meets, finished, Verdict, none, lasso, unfinished, verdict, count}
 use Rattle.plain.specs.Table.{Table, accepts, withMark, withoutMark, searched, budget, final, firstMeeting, acceptingCount}
 use Rattle.plain.specs.Refusals.{Trial, accepted, refused, firstHeld, pairs, sameEdge, present, outside, beyond, full, roomCondition, Load, loadTrial}
 
@@ -56,12 +57,92 @@ conditions (unmark s) t = (6, beyond (t .size) s) ∷ (14, not (accepts (t .word
 unfoldable pub changeTrial : Change → Table → ℕ → Trial
 changeTrial c t room = firstHeld (conditions c t ++ roomCondition (t .size) room)
 
--- "A refused call's answer is its number, with what a ticket adds to it."
+-- ---- ticket 5
+
+-- A line of a batch: one that makes a change, or "Any other line inside".
+pub data Item : Type 0 where
+  makes : Change → Item
+  other : Item
+
+-- The conditions of the i-th line of a batch, in the order tried: "Any other line inside gets 1"; "15, a 65th change stands in a batch; it is tried after 1 and before
+-- that change's other refusals". The lines before it are changes, since none of them is refused: the 65th line is the 65th change.
+unfoldable pub itemConditions : ℕ → Item → Table → List (ℕ × Bool)
+itemConditions i (makes c) t = (15, ltb 64 i) ∷ conditions c t
+itemConditions i other t = (1, true) ∷ []
+
+-- what trying a batch comes to, and the position of the line with which it ends
+pub record BatchTrial : Type 0 where
+  pub trial : Trial
+  pub position : ℕ
+
+-- the changes that lines make
+unfoldable pub changesIn : List Item → List Change
+changesIn [] = []
+changesIn (makes c ∷ xs) = c ∷ changesIn xs
+changesIn (other ∷ xs) = changesIn xs
+
+-- changes, one after the other
+unfoldable pub applyAll : List Change → Table → Table
+applyAll [] t = t
+applyAll (c ∷ cs) t = applyAll cs (apply c t)
+
+-- the states "that any of them names as left, marked or unmarked"
+unfoldable pub namedAll : List Change → List ℕ
+namedAll [] = []
+namedAll (c ∷ cs) = named c ++ namedAll cs
+
+-- The lines from the i-th on: "Each is tried against the table as the earlier ones leave it". "On a refusal the rest up to `end` is passed over".
+unfoldable pub linesTrial : ℕ → List Item → Table → BatchTrial
+linesTrial i [] t = record { trial = accepted; position = i }
+linesTrial i (x ∷ xs) t = elim (firstHeld (itemConditions i x t)) [
+  | accepted ↦ linesTrial (suc i) xs (applyAll (changesIn (x ∷ [])) t)
+  | refused n ↦ record { trial = refused n; position = i }
+]
+
+-- "Refusal 11 is tried once, ahead of the changes, with position 0"; "the line's position from 1"
+unfoldable pub batchTrial : List Item → Table → ℕ → BatchTrial
+batchTrial xs t room = elim (firstHeld (roomCondition (t .size) room)) [
+  | accepted ↦ linesTrial 1 xs t
+  | refused n ↦ record { trial = refused n; position = 0 }
+]
+
+-- ---- calls
+
+-- What a call on a session asks for: one change, or a batch of lines.
+pub data Update : Type 0 where
+  single : Change → Update
+  batch : List Item → Update
+
+-- the table that it leaves where it is accepted; of a batch "all are done or none"
+unfoldable pub applied : Update → Table → Table
+applied (single c) t = apply c t
+applied (batch xs) t = applyAll (changesIn xs) t
+
+-- the states that it names
+unfoldable pub namedBy : Update → List ℕ
+namedBy (single c) = named c
+namedBy (batch xs) = namedAll (changesIn xs)
+
+unfoldable pub updateTrial : Update → Table → ℕ → Trial
+updateTrial (single c) t room = changeTrial c t room
+updateTrial (batch xs) t room = batchTrial xs t room .trial
+
+-- where a refusal stands: it is that of the call, or that of a line of a batch, with its position
+pub data Position : Type 0 where
+  alone : Position
+  atLine : ℕ → Position
+
+unfoldable pub positionIn : Update → Table → ℕ → Position
+positionIn (single c) t room = alone
+positionIn (batch xs) t room = atLine (batchTrial xs t room .position)
+
+-- "A refused call's answer is its number, with what a ticket adds to it": of a batch "the number and the line's position".
 pub record Refusal : Type 0 where
   pub number : ℕ
+  pub position : Position
 
 abbrev pub numbered : ℕ → Refusal
-numbered n = record { number = n }
+numbered n = record { number = n; position = alone }
 
 -- "Each answers with a verdict, the looks spent and the looks kept"; a refused call with its refusal.
 pub data Answer : Type 0 where
@@ -76,43 +157,60 @@ unexplored (cut e) t = not (present (probesOf (final t)) e)
 unexplored (mark s) t = false
 unexplored (unmark s) t = false
 
+-- Ticket 5, of a change in a batch: it "falls under Ticket 4, or marks or unmarks a state never met, by the run before the batch". Moves of a state never met fall
+-- under Ticket 4. t is the table as the batch finds it.
+unfoldable pub passedOver : Change → Table → Bool
+passedOver c t = unexplored c t || not (meets (named c) (final t))
+
+-- Does the call keep every look by ticket 4, or as a batch by ticket 5? "An empty batch keeps every look, and so does one whose every change .."
+unfoldable pub keepsAll : Update → Table → Bool
+keepsAll (single c) t = unexplored c t
+keepsAll (batch xs) t = all (λ c. passedOver c t) (changesIn xs)
+
 -- The plain search on the new table, as far as it is kept. "the new run is the old one .. kept is the full count. In all other cases kept is counted as before":
--- up to where that search "first meets the state that the move leaves", or the state of a mark, "or all .. if it never meets it". t is the table as the change finds it.
-unfoldable pub keptPart : Change → Table → Config
-keptPart c t = elim (unexplored c t) [ true ↦ final (apply c t) | false ↦ firstMeeting (named c) (apply c t) ]
+-- up to where that search "first meets the state that the move leaves", or the state of a mark, "or all .. if it never meets it"; of a batch "where it first meets a
+-- state that any of them names". t is the table as the call finds it.
+unfoldable pub keptPart : Update → Table → Config
+keptPart u t = elim (keepsAll u t) [ true ↦ final (applied u t) | false ↦ firstMeeting (namedBy u) (applied u t) ]
 
 -- "kept is the looks of the plain search on the new table" as far as it is kept
-unfoldable pub kept : Change → Table → ℕ
-kept c t = count (keptPart c t)
+unfoldable pub kept : Update → Table → ℕ
+kept u t = count (keptPart u t)
 
 -- "After a load, kept is 0."
 unfoldable pub loadAnswer : Trial → Table → Answer
 loadAnswer accepted t = answer (verdict (final t)) (count (final t)) 0
 loadAnswer (refused n) t = refusal (numbered n)
 
--- "spent is the rest": t is the table as the change finds it
-unfoldable pub changeAnswer : Trial → Change → Table → Answer
-changeAnswer accepted c t = answer (verdict (final (apply c t))) (count (final (apply c t)) - kept c t) (kept c t)
-changeAnswer (refused n) c t = refusal (numbered n)
-
 -- "a refused call leaves it as it was"
 abbrev pub after : Trial → Table → Table → Table
 after accepted new old = new
 after (refused n) new old = old
 
--- A call on a session: the change, and "of the list lent for the walk the length alone".
+-- A call on a session: what it asks for, and "of the list lent for the walk the length alone".
 pub record Call : Type 0 where
-  pub change : Change
+  pub update : Update
   pub room : ℕ
 
+-- a call that makes one change
+abbrev pub callFor : ℕ → Change → Call
+callFor room c = record { update = single c; room = room }
+
 unfoldable pub trialOf : Call → Table → Trial
-trialOf c t = changeTrial (c .change) t (c .room)
+trialOf c t = updateTrial (c .update) t (c .room)
+
+-- "spent is the rest": t is the table as the call finds it
+unfoldable pub updateAnswer : Trial → Call → Table → Answer
+updateAnswer accepted c t =
+    let u = c .update in
+    answer (verdict (final (applied u t))) (count (final (applied u t)) - kept u t) (kept u t)
+updateAnswer (refused n) c t = refusal (record { number = n; position = positionIn (c .update) t (c .room) })
 
 unfoldable pub answerTo : Call → Table → Answer
-answerTo c t = changeAnswer (trialOf c t) (c .change) t
+answerTo c t = updateAnswer (trialOf c t) c t
 
 unfoldable pub tableAfter : Call → Table → Table
-tableAfter c t = after (trialOf c t) (apply (c .change) t) t
+tableAfter c t = after (trialOf c t) (applied (c .update) t) t
 
 -- a list of calls, any number of them
 unfoldable pub answers : List Call → Table → List Answer
@@ -135,7 +233,7 @@ pub data Line : Type 0 where
   roundLine : ℕ → ℕ → ℕ → ℕ → List ℕ → Line
   -- spent, kept
   noneLine : ℕ → ℕ → Line
-  -- the refusal's number
+  -- the refusal's number, and of a batch the line's position
   noLine : Refusal → Line
 
 unfoldable pub answerLine : Answer → List Line

@@ -1,0 +1,218 @@
+-- Ticket 5: a batch that is accepted makes its changes one by one, and what holds of each holds of all. Then the same for every call, be it one change or a batch.
+-- Assumes nothing.
+use mathlib.Core.Path.{_≡_, refl, sym, ap, subst, _∙_}
+use mathlib.Core.Logic.{_≢_, inl, inr, ⊎-elim}
+use mathlib.Core.Bool.{Bool, true, false, not}
+use mathlib.Core.List.{List, [], _∷_, _++_, map}
+use Prim.Native.Nat.{ℕ, suc, _≤_}
+use native.Mathlib.Omega.{arith}
+use borrow.Author.Tests.{ltb-false, not-true as untrue}
+use Rattle.plain.specs.Lists.{any, all, elem, In}
+use Rattle.plain.specs.Search.{Graph, Config, discoveredOf, meets, run}
+use Rattle.plain.specs.Unexplored.{Shared}
+use Rattle.plain.specs.Table.{Table, searched, budget, final}
+use Rattle.plain.specs.Refusals.{Trial, accepted, refused, firstHeld, shortRoom, roomCondition}
+use Rattle.plain.specs.Machine.{Change, add, cut, mark, unmark, named, apply, conditions, changeTrial, Item, makes, other, itemConditions, BatchTrial, changesIn, applyAll, namedAll, linesTrial, batchTrial, Update, single, batch, applied, namedBy, updateTrial, unexplored, passedOver, keepsAll}
+use Rattle.plain.specs.Claims.{Arises, changed, AllAccepted}
+use Rattle.plain.proofs.Tests.{contra, either, or-true, and-true, not-in, in-append, in-left, in-right, any-in}
+use Rattle.plain.proofs.Trials.{passed, passed-both, unheld, never-handed, change-never-7}
+use Rattle.plain.proofs.Prefix.{Agree}
+use Rattle.plain.proofs.Rows.{agree}
+use Rattle.plain.proofs.Tables.{Valid, valid-change, room-enough, changed-size, changed-start}
+use Rattle.plain.proofs.SameRun.{shared-equal, shared-unmet}
+use Rattle.plain.proofs.Unexplored.{unexplored-step, unexplored-shared, other-step}
+
+-- ---- the lines of a batch
+
+-- what a line's trial comes to decides the rest
+pub line-accepted : (i : ℕ) (x : Item) (xs : List Item) (t : Table) → firstHeld (itemConditions i x t) ≡ accepted
+    → linesTrial i (x ∷ xs) t ≡ linesTrial (suc i) xs (applyAll (changesIn (x ∷ [])) t)
+unfolding linesTrial
+line-accepted i x xs t e = rw (e, linesTrial)
+
+pub line-refused : (i : ℕ) (x : Item) (xs : List Item) (t : Table) (n : ℕ) → firstHeld (itemConditions i x t) ≡ refused n
+    → linesTrial i (x ∷ xs) t ≡ record { trial = refused n; position = i }
+unfolding linesTrial
+line-refused i x xs t n e = rw (e, linesTrial)
+
+accepted-not : (n : ℕ) → refused n ≡ accepted → ⊥
+accepted-not n e = let z : _≡_ {A = ℕ} 0 1 = cc in omega arith
+
+-- the trial of one line, either way
+line-cases : (i : ℕ) (x : Item) (xs : List Item) (t : Table) → linesTrial i (x ∷ xs) t .trial ≡ accepted
+    → (firstHeld (itemConditions i x t) ≡ accepted) × (linesTrial (suc i) xs (applyAll (changesIn (x ∷ [])) t) .trial ≡ accepted)
+line-cases i x xs t e = by-trial (firstHeld (itemConditions i x t)) refl
+  where
+    by-trial : (w : Trial) → firstHeld (itemConditions i x t) ≡ w → (firstHeld (itemConditions i x t) ≡ accepted) × (linesTrial (suc i) xs (applyAll (changesIn (x ∷ [])) t) .trial ≡ accepted)
+    by-trial accepted k = (k, ap (λ (b : BatchTrial). b .trial) (sym (line-accepted i x xs t k)) ∙ e)
+    by-trial (refused n) k = absurd (accepted-not n (ap (λ (b : BatchTrial). b .trial) (sym (line-refused i x xs t n k)) ∙ e))
+
+-- all that is tried ahead of the lines
+abbrev Roomy : ℕ → Table → Type 0
+Roomy room t = firstHeld (roomCondition (t .size) room) ≡ accepted
+
+-- the lines of an accepted batch are changes, each accepted as it is made
+lines-made : (room i : ℕ) (xs : List Item) (t : Table) → Roomy room t → linesTrial i xs t .trial ≡ accepted → (map makes (changesIn xs) ≡ xs) × AllAccepted room (changesIn xs) t
+unfolding changesIn applyAll itemConditions changeTrial
+lines-made room i [] t f e = (refl, tt)
+lines-made room i (other ∷ xs) t f e = absurd (true-not (unheld 1 ((1, true) ∷ []) (line-cases i other xs t e .0)))
+  where
+    true-not : true ≡ false → ⊥
+    true-not z = contra refl z
+lines-made room i (makes c ∷ xs) t f e =
+    let k = line-cases i (makes c) xs t e in
+    let w = lines-made room (suc i) xs (apply c t) (rw (changed-size c t) f) (k .1) in
+    (ap (λ (l : List Item). makes c ∷ l) (w .0), (passed-both (conditions c t) (roomCondition (t .size) room) (passed 15 _ (conditions c t) (k .0) .1) f, w .1))
+
+pub batch-tried : (xs : List Item) (t : Table) (room : ℕ) → Roomy room t → batchTrial xs t room ≡ linesTrial 1 xs t
+unfolding batchTrial
+batch-tried xs t room e = rw (e, batchTrial)
+
+pub batch-short : (xs : List Item) (t : Table) (room n : ℕ) → firstHeld (roomCondition (t .size) room) ≡ refused n → batchTrial xs t room ≡ record { trial = refused n; position = 0 }
+unfolding batchTrial
+batch-short xs t room n e = rw (e, batchTrial)
+
+batch-roomy : (xs : List Item) (t : Table) (room : ℕ) → batchTrial xs t room .trial ≡ accepted → Roomy room t × (linesTrial 1 xs t .trial ≡ accepted)
+batch-roomy xs t room e = by-trial (firstHeld (roomCondition (t .size) room)) refl
+  where
+    by-trial : (w : Trial) → firstHeld (roomCondition (t .size) room) ≡ w → Roomy room t × (linesTrial 1 xs t .trial ≡ accepted)
+    by-trial accepted k = (k, ap (λ (b : BatchTrial). b .trial) (sym (batch-tried xs t room k)) ∙ e)
+    by-trial (refused n) k = absurd (accepted-not n (ap (λ (b : BatchTrial). b .trial) (sym (batch-short xs t room n k)) ∙ e))
+
+pub batch-made : (xs : List Item) (t : Table) (room : ℕ) → batchTrial xs t room .trial ≡ accepted → (map makes (changesIn xs) ≡ xs) × AllAccepted room (changesIn xs) t
+batch-made xs t room e = let w = batch-roomy xs t room e in lines-made room 1 xs t (w .0) (w .1)
+
+-- ---- what holds of each change holds of all
+
+pub valid-all : (room : ℕ) (cs : List Change) (t : Table) → Valid t → AllAccepted room cs t → Valid (applyAll cs t)
+unfolding applyAll
+valid-all room [] t v a = v
+valid-all room (c ∷ cs) t v a = valid-all room cs (apply c t) (valid-change c t room v (a .0)) (a .1)
+
+arises-all : (room : ℕ) (cs : List Change) (t : Table) → Arises t → AllAccepted room cs t → Arises (applyAll cs t)
+unfolding applyAll
+arises-all room [] t v a = v
+arises-all room (c ∷ cs) t v a = arises-all room cs (apply c t) (changed t c room v (a .0)) (a .1)
+
+size-all : (cs : List Change) (t : Table) → applyAll cs t .size ≡ t .size
+unfolding applyAll
+size-all [] t = refl
+size-all (c ∷ cs) t = size-all cs (apply c t) ∙ changed-size c t
+
+start-all : (cs : List Change) (t : Table) → applyAll cs t .start ≡ t .start
+unfolding applyAll
+start-all [] t = refl
+start-all (c ∷ cs) t = start-all cs (apply c t) ∙ changed-start c t
+
+agree-all : (cs : List Change) (t : Table) → Agree (namedAll cs) (searched t) (searched (applyAll cs t))
+unfolding applyAll namedAll
+agree-all [] t = record { start = refl; edges = λ x o. refl; acceptance = λ x o. refl }
+agree-all (c ∷ cs) t =
+    let a = agree c t in
+    let b = agree-all cs (apply c t) in
+    record {
+      start = a .start ∙ b .start;
+      edges = λ x o. a .edges x (first x o) ∙ b .edges x (second x o);
+      acceptance = λ x o. a .acceptance x (first x o) ∙ b .acceptance x (second x o);
+    }
+  where
+    first : (x : ℕ) → elem x (named c ++ namedAll cs) ≡ false → elem x (named c) ≡ false
+    first x o = not-in x (named c) (λ i. contra (in-left x (named c) (namedAll cs) i) o)
+
+    second : (x : ℕ) → elem x (named c ++ namedAll cs) ≡ false → elem x (namedAll cs) ≡ false
+    second x o = not-in x (namedAll cs) (λ i. contra (in-right x (named c) (namedAll cs) i) o)
+
+-- A change that is passed over leaves the rows as far as the run on t has taken them, whatever table it is made on.
+module _ (t : Table) (v : Valid t) where
+  abbrev Taken : Table → Type 0
+  Taken u = (x : ℕ) → Shared (searched t) (searched u) (run (searched t) (budget t)) x
+
+  pub passed-step : (b : Change) (u : Table) → passedOver b t ≡ true → Taken u → Taken (apply b u)
+  unfolding passedOver final
+  passed-step b u e s x = ⊎-elim
+      (λ k. unexplored-step t v b u k s x)
+      (λ k. unmet (untrue (meets (named b) (final t)) k)) (or-true (unexplored b t) (not (meets (named b) (final t))) e)
+    where
+      unmet : meets (named b) (run (searched t) (budget t)) ≡ false → Shared (searched t) (searched (apply b u)) (run (searched t) (budget t)) x
+      unmet f = ⊎-elim
+          (λ i. shared-unmet (searched t) (searched (apply b u)) (run (searched t) (budget t)) x
+          (not-in x (discoveredOf (run (searched t) (budget t))) (λ j. contra (any-in (λ s. elem s (discoveredOf (run (searched t) (budget t)))) x (named b) i j) f)))
+          (λ o. other-step t v b u x o (s x)) (either (elem x (named b)))
+
+  pub passed-all : (cs : List Change) (u : Table) → all (λ c. passedOver c t) cs ≡ true → Taken u → Taken (applyAll cs u)
+  unfolding all applyAll
+  passed-all [] u e s = s
+  passed-all (c ∷ cs) u e s =
+      let k = and-true (passedOver c t) (all (λ c. passedOver c t) cs) e in
+      passed-all cs (apply c u) (k .1) (passed-step c u (k .0) s)
+
+-- ---- of every call
+
+pub update-valid : (u : Update) (t : Table) (room : ℕ) → Valid t → updateTrial u t room ≡ accepted → Valid (applied u t)
+unfolding updateTrial applied
+update-valid (single c) t room v e = valid-change c t room v e
+update-valid (batch xs) t room v e = valid-all room (changesIn xs) t v (batch-made xs t room e .1)
+
+pub update-arises : (u : Update) (t : Table) (room : ℕ) → Arises t → updateTrial u t room ≡ accepted → Arises (applied u t)
+unfolding updateTrial applied
+update-arises (single c) t room a e = changed t c room a e
+update-arises (batch xs) t room a e = arises-all room (changesIn xs) t a (batch-made xs t room e .1)
+
+pub update-size : (u : Update) (t : Table) → applied u t .size ≡ t .size
+unfolding applied
+update-size (single c) t = changed-size c t
+update-size (batch xs) t = size-all (changesIn xs) t
+
+pub update-start : (u : Update) (t : Table) → applied u t .start ≡ t .start
+unfolding applied
+update-start (single c) t = changed-start c t
+update-start (batch xs) t = start-all (changesIn xs) t
+
+pub update-agree : (u : Update) (t : Table) → Agree (namedBy u) (searched t) (searched (applied u t))
+unfolding applied namedBy
+update-agree (single c) t = agree c t
+update-agree (batch xs) t = agree-all (changesIn xs) t
+
+-- an accepted call's list has room for the walk
+pub update-room : (u : Update) (t : Table) (room : ℕ) → updateTrial u t room ≡ accepted → t .size ≤ room
+unfolding updateTrial shortRoom
+update-room (single c) t room e = room-enough c t room e
+update-room (batch xs) t room e = ltb-false room (t .size) (unheld 11 _ (batch-roomy xs t room e .0))
+
+-- where a call keeps every look by ticket 4 or 5, the rows are the same as far as they were taken
+pub keeps-shared : (u : Update) (t : Table) → Valid t → keepsAll u t ≡ true → (x : ℕ) → Shared (searched t) (searched (applied u t)) (run (searched t) (budget t)) x
+unfolding keepsAll applied
+keeps-shared (single c) t v e = unexplored-shared t v c e
+keeps-shared (batch xs) t v e = passed-all t v (changesIn xs) t e (λ x. shared-equal (searched t) (searched t) (run (searched t) (budget t)) x refl refl)
+
+-- ---- "refusal 7 no longer occurs"
+
+item-never-7 : (i : ℕ) (x : Item) (t : Table) → firstHeld (itemConditions i x t) ≢ refused 7
+unfolding itemConditions conditions elem
+item-never-7 i (makes (add e)) t = never-handed 7 _ refl
+item-never-7 i (makes (cut e)) t = never-handed 7 _ refl
+item-never-7 i (makes (mark s)) t = never-handed 7 _ refl
+item-never-7 i (makes (unmark s)) t = never-handed 7 _ refl
+item-never-7 i other t = never-handed 7 _ refl
+
+lines-never-7 : (i : ℕ) (xs : List Item) (t : Table) → linesTrial i xs t .trial ≢ refused 7
+unfolding linesTrial
+lines-never-7 i [] t e = accepted-not 7 (sym e)
+lines-never-7 i (x ∷ xs) t e = by-trial (firstHeld (itemConditions i x t)) refl (lines-never-7 (suc i) xs (applyAll (changesIn (x ∷ [])) t))
+  where
+    by-trial : (w : Trial) → firstHeld (itemConditions i x t) ≡ w → linesTrial (suc i) xs (applyAll (changesIn (x ∷ [])) t) .trial ≢ refused 7 → ⊥
+    by-trial accepted k below = below (ap (λ (b : BatchTrial). b .trial) (sym (line-accepted i x xs t k)) ∙ e)
+    by-trial (refused n) k below = item-never-7 i x t (k ∙ ap (λ (b : BatchTrial). b .trial) (sym (line-refused i x xs t n k)) ∙ e)
+
+batch-never-7 : (xs : List Item) (t : Table) (room : ℕ) → batchTrial xs t room .trial ≢ refused 7
+unfolding elem
+batch-never-7 xs t room e = by-trial (firstHeld (roomCondition (t .size) room)) refl
+  where
+    by-trial : (w : Trial) → firstHeld (roomCondition (t .size) room) ≡ w → ⊥
+    by-trial accepted k = lines-never-7 1 xs t (ap (λ (b : BatchTrial). b .trial) (sym (batch-tried xs t room k)) ∙ e)
+    by-trial (refused n) k = never-handed 7 (roomCondition (t .size) room) refl (k ∙ ap (λ (b : BatchTrial). b .trial) (sym (batch-short xs t room n k)) ∙ e)
+
+pub update-never-7 : (u : Update) (t : Table) (room : ℕ) → updateTrial u t room ≢ refused 7
+unfolding updateTrial
+update-never-7 (single c) t room = change-never-7 c t room
+update-never-7 (batch xs) t room = batch-never-7 xs t room
