@@ -3,7 +3,7 @@ use Prim.Native.Nat.{ℕ, zero, suc, _+_, _/_, _%_}
 use mathlib.Core.Bool.{cond}
 use mathlib.Core.List.{List, [], _∷_, _++_}
 use lib.Dec.{ltb}
-use Rattle.plain.specs.Machine.{Line, gameLine, roundLine, noneLine, noLine}
+use Rattle.plain.specs.Machine.{Position, alone, atLine, Line, gameLine, roundLine, noneLine, noLine}
 use Rattle.line.specs.Fields.{bytes, tab, newline}
 
 -- the decimal digits of n, the most significant first; the first argument is above n
@@ -26,13 +26,18 @@ fieldsOf (n ∷ ns) = fieldOf n ++ fieldsOf ns
 unfoldable pub lineOf : List ℕ → List ℕ → List ℕ
 lineOf word ns = word ++ (fieldsOf ns ++ (newline ∷ []))
 
+-- what a refusal's position adds to its line: nothing, or, of a batch, "the line's position from 1"
+abbrev pub positionFields : Position → List ℕ
+positionFields alone = []
+positionFields (atLine i) = i ∷ []
+
 -- "`game`, N, the count of moves and the count of paying states"; "`round`, spent, kept, stem length, round length and the walk; or `none`, spent,
--- kept; or `no` and the refusal number"
+-- kept; or `no` and the refusal number"; of a batch "one `no` line gives the number and the line's position"
 unfoldable pub render : Line → List ℕ
 render (gameLine size moves paying) = lineOf (bytes "game") (size ∷ moves ∷ paying ∷ [])
 render (roundLine spent kept stem cycle walk) = lineOf (bytes "round") (spent ∷ kept ∷ stem ∷ cycle ∷ walk)
 render (noneLine spent kept) = lineOf (bytes "none") (spent ∷ kept ∷ [])
-render (noLine r) = lineOf (bytes "no") (r .number ∷ [])
+render (noLine r) = lineOf (bytes "no") (r .number ∷ positionFields (r .position))
 
 -- the bytes of some lines, one behind the other
 unfoldable pub rendered : List Line → List ℕ

@@ -2,7 +2,7 @@
 ghost use mathlib.Core.List.{_∷_, [], _++_};
 ghost use Prim.Native.Nat.{_+_, _≤_, _<_};
 ghost use lib.ListN.{length};
-ghost use Rattle.plain.specs.Machine.{numbered, gameLine, roundLine, noneLine, noLine};
+ghost use Rattle.plain.specs.Machine.{numbered, atLine, gameLine, roundLine, noneLine, noLine};
 ghost use Rattle.answer.specs.Bytes.{Put};
 ghost use Rattle.answer.specs.Rendering.{decimal, fieldOf, fieldsOf, lineOf, render};
 
@@ -125,5 +125,14 @@ pub fn put_no(out: &mut [u8], at: usize, number: u16) -> usize
     ensures { λ r. ⌜ Put (now (out .entry)) at (render (noLine (numbered number))) (now (out .exit)) r ⌝ }
 {
     let head: [u16; 1] = [number];
+    put_line(out, at, &NO_WORD, &head, &EMPTY)
+}
+
+// A refused batch: the number, and the position of its line.
+pub fn put_no_at(out: &mut [u8], at: usize, number: u16, position: u16) -> usize
+    requires { ⌜ at + length (render (noLine (record { number = number; position = atLine position }))) ≤ length (now out) ⌝ }
+    ensures { λ r. ⌜ Put (now (out .entry)) at (render (noLine (record { number = number; position = atLine position }))) (now (out .exit)) r ⌝ }
+{
+    let head: [u16; 2] = [number, position];
     put_line(out, at, &NO_WORD, &head, &EMPTY)
 }

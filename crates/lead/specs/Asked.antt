@@ -3,7 +3,7 @@
 use Prim.Native.Nat.{ℕ, _+_}
 use mathlib.Core.Bool.{Bool, true, false, _&&_, not, cond}
 use mathlib.Core.List.{List, [], _∷_}
-use lib.Dec.{eqb, leb}
+use lib.Dec.{eqb, ltb, leb}
 use lib.ListN.{length, replicate}
 use Rattle.plain.specs.Table.{withMark}
 use Rattle.line.specs.Words.{isWord}
@@ -13,10 +13,14 @@ use Rattle.line.specs.declared.Record.{Record}
 use Rattle.answer.specs.Bytes.{overwritten}
 use Rattle.table.specs.declared.Op.{Op}
 use Rattle.table.specs.declared.Op.the-variants.{Add, Cut, Mark, Unmark}
+use Rattle.table.specs.declared.Update.the-variants.{Change, Batch}
+use Rattle.table.specs.declared.Position.the-variants.{Alone}
+use Rattle.table.specs.declared.BatchLine.{BatchLine}
+use Rattle.table.specs.Batches.{lineFor, lineTo}
 use Rattle.lead.specs.declared.Stage.{Stage}
-use Rattle.lead.specs.declared.Stage.the-variants.{Waiting, Gathering, Playing, Over}
+use Rattle.lead.specs.declared.Stage.the-variants.{Waiting, Gathering, Playing, Batching, Over}
 use Rattle.lead.specs.declared.Lead.{Lead}
-use Rattle.lead.specs.declared.Ask.the-variants.{Load as AskLoad, Change}
+use Rattle.lead.specs.declared.Ask.the-variants.{Load as AskLoad, Update as AskUpdate}
 use Rattle.lead.specs.declared.Request.{Request}
 use Rattle.lead.specs.declared.Request.the-variants as R
 use Rattle.lead.specs.declared.Task.the-variants.{Nothing, Refuse, Ask as Asks}
@@ -38,7 +42,7 @@ noTask l = record { lead = l; task = Nothing }
 
 -- the line is refused
 abbrev pub refusing : Stage → Lead → ℕ → Plan
-refusing stage l n = record { lead = staged stage l; task = Refuse (record { number = n }) }
+refusing stage l n = record { lead = staged stage l; task = Refuse (record { number = n; position = Alone }) }
 
 -- what was gathered is to be loaded
 abbrev pub loading : Lead → Plan
@@ -46,7 +50,15 @@ loading l = record { lead = l; task = Asks AskLoad }
 
 -- a change is asked of the session
 abbrev pub changing : Op → Lead → Plan
-changing op l = record { lead = l; task = Asks (Change op) }
+changing op l = record { lead = l; task = Asks (AskUpdate (Change op)) }
+
+-- the batch that is held is asked of it
+abbrev pub ending : Lead → Plan
+ending l = record { lead = staged Playing l; task = Asks (AskUpdate Batch) }
+
+-- inside a batch, with so many numbers of its lines
+abbrev pub batching : Lead → ℕ → Lead
+batching l count = record { stage = Batching; size = l .size; start = l .start; words = l .words; count = count }
 
 -- "Order: one `game`"
 unfoldable pub askedFirst : Lead → Record → Plan
@@ -76,26 +88,44 @@ askedBefore l r =
     (cond (isWord (r .word) Go) (loading l)
     (refusing Over l 1)))
 
--- ".. then `add` and `cut`"; ticket 2: "Lines `mark` and `unmark` name a state"
+-- ".. then `add` and `cut`"; ticket 2: "Lines `mark` and `unmark` name a state"; ticket 5: `begin` and `end`
 unfoldable pub requestOf : Record → Request
 requestOf r =
     cond (isWord (r .word) Word.Add) (R.Change (Add (r .first) (r .second)))
     (cond (isWord (r .word) Word.Cut) (R.Change (Cut (r .first) (r .second)))
     (cond (isWord (r .word) Word.Mark) (R.Change (Mark (r .first)))
     (cond (isWord (r .word) Word.Unmark) (R.Change (Unmark (r .first)))
-    R.Unknown)))
+    (cond (isWord (r .word) Word.Begin) R.Begin
+    (cond (isWord (r .word) Word.End) R.End
+    R.Unknown)))))
 
+-- outside a batch an `end` is misplaced
 abbrev pub planFor : Request → Lead → Plan
 planFor (R.Change op) l = changing op l
+planFor R.Begin l = noTask (batching l 0)
+planFor R.End l = refusing Playing l 1
 planFor R.Unknown l = refusing Playing l 1
 
 unfoldable pub askedAfter : Lead → Record → Plan
 askedAfter l r = planFor (requestOf r) l
 
+-- the numbers of 65 lines, three for each; lines behind these are not held
+abbrev pub heldMost : ℕ
+heldMost = 195
+
+-- a line of a batch is held, where there is a place for it
+unfoldable pub holding : Lead → Plan
+holding l = cond (ltb (l .count) heldMost) (noTask (batching l (l .count + 3))) (noTask l)
+
+-- "Lines between `begin` and `end` form a batch"
+unfoldable pub askedInside : Lead → Record → Plan
+askedInside l r = cond (isWord (r .word) Word.End) (ending l) (holding l)
+
 abbrev pub askedAt : Stage → Lead → Record → Plan
 askedAt Waiting l r = askedFirst l r
 askedAt Gathering l r = askedBefore l r
 askedAt Playing l r = askedAfter l r
+askedAt Batching l r = askedInside l r
 askedAt Over l r = noTask l
 
 unfoldable pub asked : Lead → Record → Plan
@@ -108,6 +138,7 @@ abbrev pub gathersMove : Stage → Record → Bool
 gathersMove Waiting r = false
 gathersMove Gathering r = isWord (r .word) Move
 gathersMove Playing r = false
+gathersMove Batching r = false
 gathersMove Over r = false
 
 -- is it one that is taken: are there fewer than 2,048 so far?
@@ -119,10 +150,45 @@ takesMove l r = not (isFull l) && gathersMove (l .stage) r
 unfoldable pub filedMove : Lead → Record → List ℕ → List ℕ
 filedMove l r ns = cond (takesMove l r && leb (l .count + 2) (length ns)) (overwritten ns (l .count) (r .first ∷ r .second ∷ [])) ns
 
+-- ---- the numbers of a batch's lines
+
+-- is the line one of a batch, other than its `end`?
+abbrev pub insideLine : Stage → Record → Bool
+insideLine Waiting r = false
+insideLine Gathering r = false
+insideLine Playing r = false
+insideLine Batching r = not (isWord (r .word) Word.End)
+insideLine Over r = false
+
+-- is it one that is held?
+unfoldable pub takesLine : Lead → Record → Bool
+takesLine l r = ltb (l .count) heldMost && insideLine (l .stage) r
+
+-- the line as numbers: "adds, cuts and mark changes"; "Any other line inside" makes no change
+abbrev pub lineFrom : Request → BatchLine
+lineFrom (R.Change op) = lineTo op
+lineFrom R.Begin = lineFor 0 0 0
+lineFrom R.End = lineFor 0 0 0
+lineFrom R.Unknown = lineFor 0 0 0
+
+unfoldable pub lineRead : Record → BatchLine
+lineRead r = lineFrom (requestOf r)
+
+abbrev pub numbersOf : BatchLine → List ℕ
+numbersOf l = l .what ∷ l .first ∷ l .second ∷ []
+
+unfoldable pub filedLine : Lead → Record → List ℕ → List ℕ
+filedLine l r ns = cond (takesLine l r && leb (l .count + 3) (length ns)) (overwritten ns (l .count) (numbersOf (lineRead r))) ns
+
+-- the list behind a line
+unfoldable pub filed : Lead → Record → List ℕ → List ℕ
+filed l r ns = filedLine l r (filedMove l r ns)
+
 -- ---- is the run over?
 
 abbrev pub isOver : Stage → Bool
 isOver Waiting = false
 isOver Gathering = false
 isOver Playing = false
+isOver Batching = false
 isOver Over = true

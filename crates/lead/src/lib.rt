@@ -3,21 +3,26 @@ use line::Record;
 use line::Word;
 use line::is_word;
 use rows::wide;
+use table::BatchLine;
 use table::Op;
+use table::Position;
 use table::Refusal;
+use table::Update;
 ghost use mathlib.Core.Path.{_≡_};
 ghost use Rattle.line.specs.Records.{recordOf};
-ghost use Rattle.lead.specs.Asked.{firstLead, staged as Asked·staged, noTask, refusing as Asked·refusing, changing as Asked·changing, isFull, askedFirst, askedMove, askedBefore, requestOf, askedAfter, asked, takesMove, filedMove, isOver};
+ghost use Rattle.lead.specs.Asked.{firstLead, staged as Asked·staged, noTask, refusing as Asked·refusing, changing as Asked·changing, batching as Asked·batching, holding as Asked·holding, isFull, askedFirst, askedMove, askedBefore, requestOf, askedAfter, askedInside, asked, takesMove, filedMove, takesLine, lineRead, filedLine, filed, isOver};
 
-// How far the lead has come: no line yet, before `go`, after it, or past a refusal that ends the run.
+// How far the lead has come: no line yet, before `go`, after it, inside a batch, or past a refusal that ends the run.
 pub enum Stage {
     Waiting,
     Gathering,
     Playing,
+    Batching,
     Over,
 }
 
-// What is held from line to line beside the session. Before `go`: N, the start state, the marks, and how many numbers the moves have.
+// What is held from line to line beside the session and a list of numbers. Before `go`: N, the start state, the marks, and how many numbers of the list are the
+// moves'. Inside a batch: how many are its lines'.
 pub struct Lead {
     pub stage: Stage,
     pub size: u16,
@@ -26,16 +31,18 @@ pub struct Lead {
     pub count: u16,
 }
 
-// What a line after `go` requests: a change, or nothing that is known there.
+// What a line after `go` requests: a change, the begin or the end of a batch, or nothing that is known there.
 pub enum Request {
     Change(Op),
+    Begin,
+    End,
     Unknown,
 }
 
-// What a line asks of the session.
+// What a line asks of the session. The lines of a batch are those held.
 pub enum Ask {
     Load,
-    Change(Op),
+    Update(Update),
 }
 
 // What is to be done for a line. Only what asks something reaches the session.
@@ -50,6 +57,9 @@ pub struct Plan {
     pub lead: Lead,
     pub task: Task,
 }
+
+// The numbers of 65 lines of a batch. Lines behind these are not held: the 65th is refused, whatever it is.
+const HELD: u16 = 195;
 
 // What is held before the first line.
 pub fn first_lead() -> Lead
@@ -94,7 +104,10 @@ fn refusing(stage: Stage, lead: Lead, number: u16) -> Plan
 {
     Plan {
         lead: staged(stage, lead),
-        task: Task::Refuse(Refusal { number }),
+        task: Task::Refuse(Refusal {
+            number,
+            position: Position::Alone,
+        }),
     }
 }
 
@@ -175,11 +188,11 @@ fn changing(lead: Lead, op: Op) -> Plan
 {
     Plan {
         lead,
-        task: Task::Ask(Ask::Change(op)),
+        task: Task::Ask(Ask::Update(Update::Change(op))),
     }
 }
 
-// After `go`: `add` and `cut`, `mark` and `unmark`.
+// After `go`: `add` and `cut`, `mark` and `unmark`, `begin` and `end`.
 fn request_of(r: Record) -> Request
     ensures { λ q. ⌜ q ≡ requestOf r ⌝ }
 {
@@ -198,18 +211,64 @@ fn request_of(r: Record) -> Request
     if is_word(word, Word::Unmark) {
         return Request::Change(Op::Unmark { state: from });
     }
+    if is_word(word, Word::Begin) {
+        return Request::Begin;
+    }
+    if is_word(word, Word::End) {
+        return Request::End;
+    }
     Request::Unknown
 }
 
-// A line after `go`.
+// The lead inside a batch, with so many numbers of its lines.
+fn batching(lead: Lead, count: u16) -> Lead
+    ensures { λ r. ⌜ r ≡ Asked·batching lead count ⌝ }
+{
+    let words = lead.words;
+    Lead {
+        stage: Stage::Batching,
+        size: lead.size,
+        start: lead.start,
+        words,
+        count,
+    }
+}
+
+// A line after `go`, outside a batch.
 fn ask_after(lead: Lead, r: Record) -> Plan
     ensures { λ p. ⌜ p ≡ askedAfter lead r ⌝ }
 {
     let request = request_of(r);
     match request {
         Request::Change(op) => changing(lead, op),
+        Request::Begin => no_task(batching(lead, 0)),
+        Request::End => refusing(Stage::Playing, lead, 1),
         Request::Unknown => refusing(Stage::Playing, lead, 1),
     }
+}
+
+// A line inside a batch is held, where there is a place for it.
+fn holding(lead: Lead) -> Plan
+    ensures { λ p. ⌜ p ≡ Asked·holding lead ⌝ }
+{
+    if lead.count < HELD {
+        return no_task(batching(lead, lead.count + 3));
+    }
+    no_task(lead)
+}
+
+// A line inside a batch: `end`, or one that is held.
+fn ask_inside(lead: Lead, r: Record) -> Plan
+    ensures { λ p. ⌜ p ≡ askedInside lead r ⌝ }
+{
+    let word = r.word;
+    if is_word(word, Word::End) {
+        return Plan {
+            lead: staged(Stage::Playing, lead),
+            task: Task::Ask(Ask::Update(Update::Batch)),
+        };
+    }
+    holding(lead)
 }
 
 // Is the line a `move` that is taken?
@@ -225,6 +284,7 @@ fn takes_move(lead: Lead, r: Record) -> bool
         Stage::Waiting => false,
         Stage::Gathering => is_word(word, Word::Move),
         Stage::Playing => false,
+        Stage::Batching => false,
         Stage::Over => false,
     }
 }
@@ -242,18 +302,68 @@ fn file_move(lead: Lead, r: Record, numbers: &mut [u16])
     }
 }
 
-// What a line asks for, and the moves' numbers behind it.
+// Is the line one of a batch that is held?
+fn takes_line(lead: Lead, r: Record) -> bool
+    ensures { λ b. ⌜ b ≡ takesLine lead r ⌝ }
+{
+    if HELD <= lead.count {
+        return false;
+    }
+    let word = r.word;
+    let stage = lead.stage;
+    match stage {
+        Stage::Waiting => false,
+        Stage::Gathering => false,
+        Stage::Playing => false,
+        Stage::Batching => !is_word(word, Word::End),
+        Stage::Over => false,
+    }
+}
+
+// The numbers of a line of a batch: those of a change, or of a line that makes none.
+fn line_of(r: Record) -> BatchLine
+    ensures { λ l. ⌜ l ≡ lineRead r ⌝ }
+{
+    let request = request_of(r);
+    if let Request::Change(op) = request {
+        return table::line_of(op);
+    }
+    BatchLine {
+        what: 0,
+        first: 0,
+        second: 0,
+    }
+}
+
+// Files the numbers of a line that is held behind those of the lines before it, where the list has room.
+fn file_line(lead: Lead, r: Record, numbers: &mut [u16])
+    ensures { λ p. ⌜ now (numbers .exit) ≡ filedLine lead r (now (numbers .entry)) ⌝ }
+{
+    if takes_line(lead, r) {
+        let at = wide(lead.count);
+        if at + 2 < numbers.len() {
+            let l = line_of(r);
+            numbers[at] = l.what;
+            numbers[at + 1] = l.first;
+            numbers[at + 2] = l.second;
+        }
+    }
+}
+
+// What a line asks for, and the numbers behind it.
 pub fn read(lead: Lead, numbers: &mut [u16], bytes: &[u8]) -> Plan
     ensures { λ p. ⌜ p ≡ asked lead (recordOf (now (bytes .entry))) ⌝ }
-    ensures { λ p. ⌜ now (numbers .exit) ≡ filedMove lead (recordOf (now (bytes .entry))) (now (numbers .entry)) ⌝ }
+    ensures { λ p. ⌜ now (numbers .exit) ≡ filed lead (recordOf (now (bytes .entry))) (now (numbers .entry)) ⌝ }
 {
     let r = line::read_record(bytes);
     file_move(lead, r, numbers);
+    file_line(lead, r, numbers);
     let stage = lead.stage;
     match stage {
         Stage::Waiting => ask_first(lead, r),
         Stage::Gathering => ask_before(lead, r),
         Stage::Playing => ask_after(lead, r),
+        Stage::Batching => ask_inside(lead, r),
         Stage::Over => no_task(lead),
     }
 }
@@ -267,6 +377,7 @@ pub fn is_over(lead: Lead) -> bool
         Stage::Waiting => false,
         Stage::Gathering => false,
         Stage::Playing => false,
+        Stage::Batching => false,
         Stage::Over => true,
     }
 }

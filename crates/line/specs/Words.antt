@@ -3,14 +3,15 @@ use Prim.Native.Nat.{ℕ}
 use mathlib.Core.Bool.{Bool}
 use lib.Dec.{eqb}
 use Rattle.line.specs.declared.Word.{Word}
-use Rattle.line.specs.declared.Word.the-variants.{Game, Pay, Move, Go, Add, Cut, Mark, Unmark, Unreadable}
+use Rattle.line.specs.declared.Word.the-variants.{Game, Pay, Move, Go, Add, Cut, Mark, Unmark, Begin, End, Unreadable}
 use Rattle.line.specs.declared.Form.{Form}
 
 abbrev pub form : ℕ → ℕ → ℕ → Form
 form tag count limit = record { tag = tag; count = count; limit = limit }
 
 -- "`game` (N, start), `pay` (state), `move` (from, to), `go`, `add` (from, to) and `cut` (from, to)": a number for each word, how many numbers follow it, and
--- the largest that each may be: "at most 65,535; in `pay` at most 511". `mark` (state) and `unmark` (state) come with document 02, ticket 2.
+-- the largest that each may be: "at most 65,535; in `pay` at most 511". `mark` (state) and `unmark` (state) come with document 02, ticket 2, `begin`
+-- and `end` with ticket 5.
 abbrev pub formOf : Word → Form
 formOf Game = form 0 2 65535
 formOf Pay = form 1 1 511
@@ -20,7 +21,9 @@ formOf Add = form 4 2 65535
 formOf Cut = form 5 2 65535
 formOf Mark = form 6 1 65535
 formOf Unmark = form 7 1 65535
-formOf Unreadable = form 8 0 65535
+formOf Begin = form 8 0 65535
+formOf End = form 9 0 65535
+formOf Unreadable = form 10 0 65535
 
 abbrev pub countOf : Word → ℕ
 countOf w = formOf w .count

@@ -25,6 +25,10 @@ pub const MARK: [u8; 4] = *b"mark";
 
 pub const UNMARK: [u8; 6] = *b"unmark";
 
+pub const BEGIN: [u8; 5] = *b"begin";
+
+pub const END: [u8; 3] = *b"end";
+
 pub const TAB: u8 = 9;
 
 pub const NEWLINE: u8 = 10;
@@ -45,6 +49,8 @@ pub enum Word {
     Cut,
     Mark,
     Unmark,
+    Begin,
+    End,
     Unreadable,
 }
 
@@ -172,6 +178,12 @@ fn read_word(s: &[u8]) -> Word
     if same(s, &UNMARK) {
         return Word::Unmark;
     }
+    if same(s, &BEGIN) {
+        return Word::Begin;
+    }
+    if same(s, &END) {
+        return Word::End;
+    }
     Word::Unreadable
 }
 
@@ -194,7 +206,9 @@ fn form_of(word: Word) -> Form
         Word::Cut => row(5, 2, 65535),
         Word::Mark => row(6, 1, 65535),
         Word::Unmark => row(7, 1, 65535),
-        Word::Unreadable => row(8, 0, 65535),
+        Word::Begin => row(8, 0, 65535),
+        Word::End => row(9, 0, 65535),
+        Word::Unreadable => row(10, 0, 65535),
     }
 }
 

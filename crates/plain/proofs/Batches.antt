@@ -12,7 +12,7 @@ use Rattle.plain.specs.Search.{Graph, Config, discoveredOf, meets, run}
 use Rattle.plain.specs.Unexplored.{Shared}
 use Rattle.plain.specs.Table.{Table, searched, budget, final}
 use Rattle.plain.specs.Refusals.{Trial, accepted, refused, firstHeld, shortRoom, roomCondition}
-use Rattle.plain.specs.Machine.{Change, add, cut, mark, unmark, named, apply, conditions, changeTrial, Item, makes, other, itemConditions, BatchTrial, changesIn, applyAll, namedAll, linesTrial, batchTrial, Update, single, batch, applied, namedBy, updateTrial, unexplored, passedOver, keepsAll}
+use Rattle.plain.specs.Machine.{Change, add, cut, mark, unmark, named, apply, conditions, changeTrial, BatchLine, makes, other, lineConditions, BatchTrial, changesIn, applyAll, namedAll, linesTrial, batchTrial, Update, single, batch, applied, namedBy, updateTrial, unexplored, passedOver, keepsAll}
 use Rattle.plain.specs.Claims.{Arises, changed, AllAccepted}
 use Rattle.plain.proofs.Tests.{contra, either, or-true, and-true, not-in, in-append, in-left, in-right, any-in}
 use Rattle.plain.proofs.Trials.{passed, passed-both, unheld, never-handed, change-never-7}
@@ -25,12 +25,12 @@ use Rattle.plain.proofs.Unexplored.{unexplored-step, unexplored-shared,
 -- ---- the lines of a batch
 
 -- what a line's trial comes to decides the rest
-pub line-accepted : (i : ℕ) (x : Item) (xs : List Item) (t : Table) → firstHeld (itemConditions i x t) ≡ accepted
+pub line-accepted : (i : ℕ) (x : BatchLine) (xs : List BatchLine) (t : Table) → firstHeld (lineConditions i x t) ≡ accepted
     → linesTrial i (x ∷ xs) t ≡ linesTrial (suc i) xs (applyAll (changesIn (x ∷ [])) t)
 unfolding linesTrial
 line-accepted i x xs t e = rw (e, linesTrial)
 
-pub line-refused : (i : ℕ) (x : Item) (xs : List Item) (t : Table) (n : ℕ) → firstHeld (itemConditions i x t) ≡ refused n
+pub line-refused : (i : ℕ) (x : BatchLine) (xs : List BatchLine) (t : Table) (n : ℕ) → firstHeld (lineConditions i x t) ≡ refused n
     → linesTrial i (x ∷ xs) t ≡ record { trial = refused n; position = i }
 unfolding linesTrial
 line-refused i x xs t n e = rw (e, linesTrial)
@@ -39,11 +39,11 @@ accepted-not : (n : ℕ) → refused n ≡ accepted → ⊥
 accepted-not n e = let z : _≡_ {A = ℕ} 0 1 = cc in omega arith
 
 -- the trial of one line, either way
-line-cases : (i : ℕ) (x : Item) (xs : List Item) (t : Table) → linesTrial i (x ∷ xs) t .trial ≡ accepted
-    → (firstHeld (itemConditions i x t) ≡ accepted) × (linesTrial (suc i) xs (applyAll (changesIn (x ∷ [])) t) .trial ≡ accepted)
-line-cases i x xs t e = by-trial (firstHeld (itemConditions i x t)) refl
+line-cases : (i : ℕ) (x : BatchLine) (xs : List BatchLine) (t : Table) → linesTrial i (x ∷ xs) t .trial ≡ accepted
+    → (firstHeld (lineConditions i x t) ≡ accepted) × (linesTrial (suc i) xs (applyAll (changesIn (x ∷ [])) t) .trial ≡ accepted)
+line-cases i x xs t e = by-trial (firstHeld (lineConditions i x t)) refl
   where
-    by-trial : (w : Trial) → firstHeld (itemConditions i x t) ≡ w → (firstHeld (itemConditions i x t) ≡ accepted) × (linesTrial (suc i) xs (applyAll (changesIn (x ∷ [])) t) .trial ≡ accepted)
+    by-trial : (w : Trial) → firstHeld (lineConditions i x t) ≡ w → (firstHeld (lineConditions i x t) ≡ accepted) × (linesTrial (suc i) xs (applyAll (changesIn (x ∷ [])) t) .trial ≡ accepted)
     by-trial accepted k = (k, ap (λ (b : BatchTrial). b .trial) (sym (line-accepted i x xs t k)) ∙ e)
     by-trial (refused n) k = absurd (accepted-not n (ap (λ (b : BatchTrial). b .trial) (sym (line-refused i x xs t n k)) ∙ e))
 
@@ -52,8 +52,8 @@ abbrev Roomy : ℕ → Table → Type 0
 Roomy room t = firstHeld (roomCondition (t .size) room) ≡ accepted
 
 -- the lines of an accepted batch are changes, each accepted as it is made
-lines-made : (room i : ℕ) (xs : List Item) (t : Table) → Roomy room t → linesTrial i xs t .trial ≡ accepted → (map makes (changesIn xs) ≡ xs) × AllAccepted room (changesIn xs) t
-unfolding changesIn applyAll itemConditions changeTrial
+lines-made : (room i : ℕ) (xs : List BatchLine) (t : Table) → Roomy room t → linesTrial i xs t .trial ≡ accepted → (map makes (changesIn xs) ≡ xs) × AllAccepted room (changesIn xs) t
+unfolding changesIn applyAll lineConditions changeTrial
 lines-made room i [] t f e = (refl, tt)
 lines-made room i (other ∷ xs) t f e = absurd (true-not (unheld 1 ((1, true) ∷ []) (line-cases i other xs t e .0)))
   where
@@ -62,24 +62,24 @@ lines-made room i (other ∷ xs) t f e = absurd (true-not (unheld 1 ((1, true) �
 lines-made room i (makes c ∷ xs) t f e =
     let k = line-cases i (makes c) xs t e in
     let w = lines-made room (suc i) xs (apply c t) (rw (changed-size c t) f) (k .1) in
-    (ap (λ (l : List Item). makes c ∷ l) (w .0), (passed-both (conditions c t) (roomCondition (t .size) room) (passed 15 _ (conditions c t) (k .0) .1) f, w .1))
+    (ap (λ (l : List BatchLine). makes c ∷ l) (w .0), (passed-both (conditions c t) (roomCondition (t .size) room) (passed 15 _ (conditions c t) (k .0) .1) f, w .1))
 
-pub batch-tried : (xs : List Item) (t : Table) (room : ℕ) → Roomy room t → batchTrial xs t room ≡ linesTrial 1 xs t
+pub batch-tried : (xs : List BatchLine) (t : Table) (room : ℕ) → Roomy room t → batchTrial xs t room ≡ linesTrial 1 xs t
 unfolding batchTrial
 batch-tried xs t room e = rw (e, batchTrial)
 
-pub batch-short : (xs : List Item) (t : Table) (room n : ℕ) → firstHeld (roomCondition (t .size) room) ≡ refused n → batchTrial xs t room ≡ record { trial = refused n; position = 0 }
+pub batch-short : (xs : List BatchLine) (t : Table) (room n : ℕ) → firstHeld (roomCondition (t .size) room) ≡ refused n → batchTrial xs t room ≡ record { trial = refused n; position = 0 }
 unfolding batchTrial
 batch-short xs t room n e = rw (e, batchTrial)
 
-batch-roomy : (xs : List Item) (t : Table) (room : ℕ) → batchTrial xs t room .trial ≡ accepted → Roomy room t × (linesTrial 1 xs t .trial ≡ accepted)
+batch-roomy : (xs : List BatchLine) (t : Table) (room : ℕ) → batchTrial xs t room .trial ≡ accepted → Roomy room t × (linesTrial 1 xs t .trial ≡ accepted)
 batch-roomy xs t room e = by-trial (firstHeld (roomCondition (t .size) room)) refl
   where
     by-trial : (w : Trial) → firstHeld (roomCondition (t .size) room) ≡ w → Roomy room t × (linesTrial 1 xs t .trial ≡ accepted)
     by-trial accepted k = (k, ap (λ (b : BatchTrial). b .trial) (sym (batch-tried xs t room k)) ∙ e)
     by-trial (refused n) k = absurd (accepted-not n (ap (λ (b : BatchTrial). b .trial) (sym (batch-short xs t room n k)) ∙ e))
 
-pub batch-made : (xs : List Item) (t : Table) (room : ℕ) → batchTrial xs t room .trial ≡ accepted → (map makes (changesIn xs) ≡ xs) × AllAccepted room (changesIn xs) t
+pub batch-made : (xs : List BatchLine) (t : Table) (room : ℕ) → batchTrial xs t room .trial ≡ accepted → (map makes (changesIn xs) ≡ xs) × AllAccepted room (changesIn xs) t
 batch-made xs t room e = let w = batch-roomy xs t room e in lines-made room 1 xs t (w .0) (w .1)
 
 -- ---- what holds of each change holds of all
@@ -187,24 +187,24 @@ keeps-shared (batch xs) t v e = passed-all t v (changesIn xs) t e (λ x. shared-
 
 -- ---- "refusal 7 no longer occurs"
 
-item-never-7 : (i : ℕ) (x : Item) (t : Table) → firstHeld (itemConditions i x t) ≢ refused 7
-unfolding itemConditions conditions elem
-item-never-7 i (makes (add e)) t = never-handed 7 _ refl
-item-never-7 i (makes (cut e)) t = never-handed 7 _ refl
-item-never-7 i (makes (mark s)) t = never-handed 7 _ refl
-item-never-7 i (makes (unmark s)) t = never-handed 7 _ refl
-item-never-7 i other t = never-handed 7 _ refl
+line-never-7 : (i : ℕ) (x : BatchLine) (t : Table) → firstHeld (lineConditions i x t) ≢ refused 7
+unfolding lineConditions conditions elem
+line-never-7 i (makes (add e)) t = never-handed 7 _ refl
+line-never-7 i (makes (cut e)) t = never-handed 7 _ refl
+line-never-7 i (makes (mark s)) t = never-handed 7 _ refl
+line-never-7 i (makes (unmark s)) t = never-handed 7 _ refl
+line-never-7 i other t = never-handed 7 _ refl
 
-lines-never-7 : (i : ℕ) (xs : List Item) (t : Table) → linesTrial i xs t .trial ≢ refused 7
+lines-never-7 : (i : ℕ) (xs : List BatchLine) (t : Table) → linesTrial i xs t .trial ≢ refused 7
 unfolding linesTrial
 lines-never-7 i [] t e = accepted-not 7 (sym e)
-lines-never-7 i (x ∷ xs) t e = by-trial (firstHeld (itemConditions i x t)) refl (lines-never-7 (suc i) xs (applyAll (changesIn (x ∷ [])) t))
+lines-never-7 i (x ∷ xs) t e = by-trial (firstHeld (lineConditions i x t)) refl (lines-never-7 (suc i) xs (applyAll (changesIn (x ∷ [])) t))
   where
-    by-trial : (w : Trial) → firstHeld (itemConditions i x t) ≡ w → linesTrial (suc i) xs (applyAll (changesIn (x ∷ [])) t) .trial ≢ refused 7 → ⊥
+    by-trial : (w : Trial) → firstHeld (lineConditions i x t) ≡ w → linesTrial (suc i) xs (applyAll (changesIn (x ∷ [])) t) .trial ≢ refused 7 → ⊥
     by-trial accepted k below = below (ap (λ (b : BatchTrial). b .trial) (sym (line-accepted i x xs t k)) ∙ e)
-    by-trial (refused n) k below = item-never-7 i x t (k ∙ ap (λ (b : BatchTrial). b .trial) (sym (line-refused i x xs t n k)) ∙ e)
+    by-trial (refused n) k below = line-never-7 i x t (k ∙ ap (λ (b : BatchTrial). b .trial) (sym (line-refused i x xs t n k)) ∙ e)
 
-batch-never-7 : (xs : List Item) (t : Table) (room : ℕ) → batchTrial xs t room .trial ≢ refused 7
+batch-never-7 : (xs : List BatchLine) (t : Table) (room : ℕ) → batchTrial xs t room .trial ≢ refused 7
 unfolding elem
 batch-never-7 xs t room e = by-trial (firstHeld (roomCondition (t .size) room)) refl
   where

@@ -60,15 +60,15 @@ changeTrial c t room = firstHeld (conditions c t ++ roomCondition (t .size) room
 -- ---- ticket 5
 
 -- A line of a batch: one that makes a change, or "Any other line inside".
-pub data Item : Type 0 where
-  makes : Change → Item
-  other : Item
+pub data BatchLine : Type 0 where
+  makes : Change → BatchLine
+  other : BatchLine
 
 -- The conditions of the i-th line of a batch, in the order tried: "Any other line inside gets 1"; "15, a 65th change stands in a batch; it is tried after 1 and before
 -- that change's other refusals". The lines before it are changes, since none of them is refused: the 65th line is the 65th change.
-unfoldable pub itemConditions : ℕ → Item → Table → List (ℕ × Bool)
-itemConditions i (makes c) t = (15, ltb 64 i) ∷ conditions c t
-itemConditions i other t = (1, true) ∷ []
+unfoldable pub lineConditions : ℕ → BatchLine → Table → List (ℕ × Bool)
+lineConditions i (makes c) t = (15, ltb 64 i) ∷ conditions c t
+lineConditions i other t = (1, true) ∷ []
 
 -- what trying a batch comes to, and the position of the line with which it ends
 pub record BatchTrial : Type 0 where
@@ -76,7 +76,7 @@ pub record BatchTrial : Type 0 where
   pub position : ℕ
 
 -- the changes that lines make
-unfoldable pub changesIn : List Item → List Change
+unfoldable pub changesIn : List BatchLine → List Change
 changesIn [] = []
 changesIn (makes c ∷ xs) = c ∷ changesIn xs
 changesIn (other ∷ xs) = changesIn xs
@@ -92,15 +92,15 @@ namedAll [] = []
 namedAll (c ∷ cs) = named c ++ namedAll cs
 
 -- The lines from the i-th on: "Each is tried against the table as the earlier ones leave it". "On a refusal the rest up to `end` is passed over".
-unfoldable pub linesTrial : ℕ → List Item → Table → BatchTrial
+unfoldable pub linesTrial : ℕ → List BatchLine → Table → BatchTrial
 linesTrial i [] t = record { trial = accepted; position = i }
-linesTrial i (x ∷ xs) t = elim (firstHeld (itemConditions i x t)) [
+linesTrial i (x ∷ xs) t = elim (firstHeld (lineConditions i x t)) [
   | accepted ↦ linesTrial (suc i) xs (applyAll (changesIn (x ∷ [])) t)
   | refused n ↦ record { trial = refused n; position = i }
 ]
 
 -- "Refusal 11 is tried once, ahead of the changes, with position 0"; "the line's position from 1"
-unfoldable pub batchTrial : List Item → Table → ℕ → BatchTrial
+unfoldable pub batchTrial : List BatchLine → Table → ℕ → BatchTrial
 batchTrial xs t room = elim (firstHeld (roomCondition (t .size) room)) [
   | accepted ↦ linesTrial 1 xs t
   | refused n ↦ record { trial = refused n; position = 0 }
@@ -111,7 +111,7 @@ batchTrial xs t room = elim (firstHeld (roomCondition (t .size) room)) [
 -- What a call on a session asks for: one change, or a batch of lines.
 pub data Update : Type 0 where
   single : Change → Update
-  batch : List Item → Update
+  batch : List BatchLine → Update
 
 -- the table that it leaves where it is accepted; of a batch "all are done or none"
 unfoldable pub applied : Update → Table → Table

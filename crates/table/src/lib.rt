@@ -1,15 +1,25 @@
 // The game's table in its arrays: calls are tried on it, and accepted ones are filed in its rows and its marks. No search.
 use rows::wide;
 ghost use mathlib.Core.Path.{_≡_};
+ghost use Prim.Native.Nat.{_<_};
+ghost use lib.ListN.{length, drop};
 ghost use Rattle.plain.specs.Lists.{any};
 ghost use Rattle.plain.specs.Refusals.{firstHeld, badMarks, outside, roomCondition, pairs};
 ghost use Rattle.rows.specs.Rows.{Tabled};
 ghost use Rattle.table.specs.Trials.{arraysOf, opOf, stateOf, tried, earlyTrial, there, addConditions, cutConditions, markConditions, unmarkConditions, conditionsIn, trialIn};
+ghost use Rattle.table.specs.Batches.{lineFor, lineTo, isChange, subjectIn, switchIn, lineIn, numbersIn, endIn, headLine, linesIn, isRefused, positionAt, triedIn, aheadTrial, callTriedIn, AttemptedLine, AttemptedLines};
 ghost use Rattle.table.specs.Filing.{filedIn, Attempted, Empty, Limits, FiledAll, Tried};
 
-// A refusal: its number in document 01's list.
+// Where a refusal stands: it is that of the call, or that of a line of a batch, with its position.
+pub enum Position {
+    Alone,
+    Line(u16),
+}
+
+// A refusal: its number in the documents' lists, and where it stands.
 pub struct Refusal {
     pub number: u16,
+    pub position: Position,
 }
 
 // A change of the table: of its moves, or of its paying marks.
@@ -18,6 +28,19 @@ pub enum Op {
     Cut { from: u16, to: u16 },
     Mark { state: u16 },
     Unmark { state: u16 },
+}
+
+// What a call on a session asks for: one change, or a batch, whose lines a lent list holds.
+pub enum Update {
+    Change(Op),
+    Batch,
+}
+
+// A line of a batch: what it does, and its states. 1 adds a move, 2 cuts one, 3 marks a state, 4 unmarks one. With any other number it makes no change.
+pub struct BatchLine {
+    pub what: u16,
+    pub first: u16,
+    pub second: u16,
 }
 
 // What a change switches on or off: an edge (move), or a state's paying mark.
@@ -38,6 +61,18 @@ pub enum Trial {
     Accepted,
     Refused(u16),
 }
+
+// What trying a call comes to, and where it ends: at the call itself, or at a line of a batch.
+pub struct Attempt {
+    pub trial: Trial,
+    pub position: Position,
+}
+
+// A list of lines has so many numbers for each.
+pub const LINE: usize = 3;
+
+// The most changes of a batch.
+const CHANGES: u16 = 64;
 
 // The most moves of a game, and the numbers of so many moves.
 const MOVES: u16 = 2048;
@@ -238,16 +273,56 @@ fn switched(on: bool, subject: Subject) -> Switch
     Switch { on, subject }
 }
 
-// The change as what it switches, and which way.
-pub fn switch_of(op: Op) -> Switch
-    ensures { λ r. ⌜ opOf r ≡ op ⌝ }
+fn line(what: u16, first: u16, second: u16) -> BatchLine
+    ensures { λ r. ⌜ r ≡ lineFor what first second ⌝ }
+{
+    BatchLine {
+        what,
+        first,
+        second,
+    }
+}
+
+// The line of a batch that makes a change.
+pub fn line_of(op: Op) -> BatchLine
+    ensures { λ r. ⌜ r ≡ lineTo op ⌝ }
 {
     match op {
-        Op::Add { from, to } => switched(true, Subject::Edge { from, to }),
-        Op::Cut { from, to } => switched(false, Subject::Edge { from, to }),
-        Op::Mark { state } => switched(true, Subject::Mark { state }),
-        Op::Unmark { state } => switched(false, Subject::Mark { state }),
+        Op::Add { from, to } => line(1, from, to),
+        Op::Cut { from, to } => line(2, from, to),
+        Op::Mark { state } => line(3, state, 0),
+        Op::Unmark { state } => line(4, state, 0),
     }
+}
+
+// Does a line make a change?
+pub fn is_change(line: BatchLine) -> bool
+    ensures { λ r. ⌜ r ≡ isChange line ⌝ }
+{
+    if line.what == 0 {
+        return false;
+    }
+    line.what <= 4
+}
+
+// What a line switches that makes a change.
+fn subject_in(line: BatchLine) -> Subject
+    ensures { λ r. ⌜ r ≡ subjectIn line ⌝ }
+{
+    if line.what <= 2 {
+        return Subject::Edge {
+            from: line.first,
+            to: line.second,
+        };
+    }
+    Subject::Mark { state: line.first }
+}
+
+// The change that a line makes, as what it switches and which way.
+pub fn switch_in(line: BatchLine) -> Switch
+    ensures { λ r. ⌜ r ≡ switchIn line ⌝ }
+{
+    switched(line.what % 2 == 1, subject_in(line))
 }
 
 // The refusals of a change itself.
@@ -329,7 +404,7 @@ fn file_one(
 }
 
 // Tries a change, and makes it in the arrays where it is accepted.
-pub fn attempt(
+fn attempt_change(
     switch: Switch,
     size: u16,
     targets: &mut [u16; 2048],
@@ -357,4 +432,138 @@ pub fn named_by(switch: Switch) -> u16
         Subject::Edge { from, to } => from,
         Subject::Mark { state } => state,
     }
+}
+
+// The line at a place in the list of a call: a change alone is the only one.
+pub fn line_at(alone: bool, only: BatchLine, lines: &[u16], at: usize) -> BatchLine
+    requires { ⌜ at < length (numbersIn alone only (now lines)) ⌝ }
+    ensures { λ r. ⌜ r ≡ headLine (drop at (numbersIn alone only (now (lines .entry)))) ⌝ }
+{
+    if alone {
+        return only;
+    }
+    if lines.len() - at < LINE {
+        return line(0, 0, 0);
+    }
+    line(lines[at], lines[at + 1], lines[at + 2])
+}
+
+// Where the list of a call ends.
+pub fn lines_end(alone: bool, lines: &[u16]) -> usize
+    ensures { λ r. ⌜ r ≡ endIn alone (now (lines .entry)) ⌝ }
+{
+    if alone {
+        return LINE;
+    }
+    lines.len()
+}
+
+// Tries the line at a position, and makes its change in the arrays where it is accepted.
+fn attempt_line(
+    line: BatchLine,
+    position: u16,
+    size: u16,
+    targets: &mut [u16; 2048],
+    starts: &mut [u16; 513],
+    words: &mut [u64; 8],
+    room: usize,
+) -> Trial
+    requires { ⌜ Tabled (now targets) (now starts) ⌝ }
+    ensures { λ r. ⌜ AttemptedLine (lineIn line) position size room (arraysOf (now (targets .entry)) (now (starts .entry)) (now (words .entry))) r (arraysOf (now (targets .exit)) (now (starts .exit)) (now (words .exit))) ⌝ }
+{
+    if !is_change(line) {
+        return Trial::Refused(1);
+    }
+    if CHANGES < position {
+        return Trial::Refused(15);
+    }
+    attempt_change(switch_in(line), size, targets, starts, words, room)
+}
+
+fn is_refused(trial: Trial) -> bool
+    ensures { λ r. ⌜ r ≡ isRefused trial ⌝ }
+{
+    match trial {
+        Trial::Accepted => false,
+        Trial::Refused(n) => true,
+    }
+}
+
+// An attempt that ends with the line at a position, where it is one of a batch.
+fn ended(alone: bool, trial: Trial, position: u16) -> Attempt
+    ensures { λ r. ⌜ r ≡ record { trial = trial; position = positionAt alone position } ⌝ }
+{
+    if alone {
+        return Attempt {
+            trial,
+            position: Position::Alone,
+        };
+    }
+    Attempt {
+        trial,
+        position: Position::Line(position),
+    }
+}
+
+// Tries the lines of a call one after the other, each on the table as those before it leave it, up to the first that is refused.
+fn attempt_lines(
+    alone: bool,
+    only: BatchLine,
+    lines: &[u16],
+    size: u16,
+    targets: &mut [u16; 2048],
+    starts: &mut [u16; 513],
+    words: &mut [u64; 8],
+    room: usize,
+) -> Attempt
+    requires { ⌜ Tabled (now targets) (now starts) ⌝ }
+    ensures { λ r. ⌜ AttemptedLines alone (triedIn 1 (linesIn (numbersIn alone only (now (lines .entry)))) size (arraysOf (now (targets .entry)) (now (starts .entry)) (now (words .entry))) room) r (arraysOf (now (targets .exit)) (now (starts .exit)) (now (words .exit))) ⌝ }
+{
+    let end = lines_end(alone, lines);
+    let mut at: usize = 0;
+    let mut position: u16 = 1;
+    while at < end {
+        let line = line_at(alone, only, lines, at);
+        let trial = attempt_line(line, position, size, targets, starts, words, room);
+        if is_refused(trial) {
+            return ended(alone, trial, position);
+        }
+        at += LINE;
+        position += 1;
+    }
+    ended(alone, Trial::Accepted, position)
+}
+
+// What is tried ahead of a batch: that there is a game, and 11.
+fn ahead_trial(alone: bool, size: u16, room: usize) -> Trial
+    ensures { λ r. ⌜ r ≡ tried (aheadTrial alone size room) ⌝ }
+{
+    if alone {
+        return Trial::Accepted;
+    }
+    if size == 0 {
+        return Trial::Refused(2);
+    }
+    room_trial(size, room)
+}
+
+// Tries a call, and makes its changes in the arrays. Where a line is refused, those before it are made: the caller has to put the arrays back.
+pub fn attempt_call(
+    alone: bool,
+    only: BatchLine,
+    lines: &[u16],
+    size: u16,
+    targets: &mut [u16; 2048],
+    starts: &mut [u16; 513],
+    words: &mut [u64; 8],
+    room: usize,
+) -> Attempt
+    requires { ⌜ Tabled (now targets) (now starts) ⌝ }
+    ensures { λ r. ⌜ AttemptedLines alone (callTriedIn alone (linesIn (numbersIn alone only (now (lines .entry)))) size (arraysOf (now (targets .entry)) (now (starts .entry)) (now (words .entry))) room) r (arraysOf (now (targets .exit)) (now (starts .exit)) (now (words .exit))) ⌝ }
+{
+    let ahead = ahead_trial(alone, size, room);
+    if is_refused(ahead) {
+        return ended(alone, ahead, 0);
+    }
+    attempt_lines(alone, only, lines, size, targets, starts, words, room)
 }

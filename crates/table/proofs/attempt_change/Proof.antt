@@ -1,9 +1,9 @@
--- `attempt` meets its contract. Assumes nothing.
+-- `attempt_change` meets its contract. Assumes nothing.
 use mathlib.Core.Path.{sym, refl, _∙_}
 use Rattle.table.proofs.Filing.{not-accepted, not-refused}
 use borrow.Author.Needs.{needs}
-use Rattle.table.proofs.attempt.Statement.{statement}
-use Rattle.table.proofs.attempt.Tie as tie
+use Rattle.table.proofs.attempt_change.Statement.{statement}
+use Rattle.table.proofs.attempt_change.Tie as tie
 
 change-trial-requires : tie.Need-change-trial-requires
 change-trial-requires c κs = search needs
@@ -35,7 +35,7 @@ returns-2 c =
       unfiled = λ n z. absurd (not-refused z);
     }
 
-pub attempt-spec : {M : Type 1} → statement M
-attempt-spec =
+pub attempt-change-spec : {M : Type 1} → statement M
+attempt-change-spec =
     tie.close
     (tie.spec change-trial-requires enum-known-trial returns enum-told file-one-requires returns-2)
