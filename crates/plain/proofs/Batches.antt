@@ -4,9 +4,10 @@ use mathlib.Core.Path.{_≡_, refl, sym, ap, subst, _∙_}
 use mathlib.Core.Logic.{_≢_, inl, inr, ⊎-elim}
 use mathlib.Core.Bool.{Bool, true, false, not}
 use mathlib.Core.List.{List, [], _∷_, _++_, map}
-use Prim.Native.Nat.{ℕ, suc, _≤_}
+use Prim.Native.Nat.{ℕ, suc, _+_, _≤_}
 use native.Mathlib.Omega.{arith}
-use borrow.Author.Tests.{ltb-false, not-true as untrue}
+use lib.ListN.{length}
+use borrow.Author.Tests.{ltb-false, not-false, not-true as untrue}
 use Rattle.plain.specs.Lists.{any, all, elem, In}
 use Rattle.plain.specs.Search.{Graph, Config, discoveredOf, meets, run}
 use Rattle.plain.specs.Unexplored.{Shared}
@@ -14,7 +15,7 @@ use Rattle.plain.specs.Table.{Table, searched, budget, final}
 use Rattle.plain.specs.Refusals.{Trial, accepted, refused, firstHeld, shortRoom, roomCondition}
 use Rattle.plain.specs.Machine.{Change, add, cut, mark, unmark, named, apply, conditions, changeTrial, BatchLine, makes, other, lineConditions, BatchTrial, changesIn, applyAll, namedAll, linesTrial, batchTrial, Update, single, batch, applied, namedBy, updateTrial, unexplored, passedOver, keepsAll}
 use Rattle.plain.specs.Claims.{Arises, changed, AllAccepted}
-use Rattle.plain.proofs.Tests.{contra, either, or-true, and-true, not-in, in-append, in-left, in-right, any-in}
+use Rattle.plain.proofs.Tests.{contra, either, or-true, or-false, and-true, not-in, in-left, in-right, any-in, any-some}
 use Rattle.plain.proofs.Trials.{passed, passed-both, unheld, never-handed, change-never-7}
 use Rattle.plain.proofs.Prefix.{Agree}
 use Rattle.plain.proofs.Rows.{agree}
@@ -55,10 +56,7 @@ Roomy room t = firstHeld (roomCondition (t .size) room) ≡ accepted
 lines-made : (room i : ℕ) (xs : List BatchLine) (t : Table) → Roomy room t → linesTrial i xs t .trial ≡ accepted → (map makes (changesIn xs) ≡ xs) × AllAccepted room (changesIn xs) t
 unfolding changesIn applyAll lineConditions changeTrial
 lines-made room i [] t f e = (refl, tt)
-lines-made room i (other ∷ xs) t f e = absurd (true-not (unheld 1 ((1, true) ∷ []) (line-cases i other xs t e .0)))
-  where
-    true-not : true ≡ false → ⊥
-    true-not z = contra refl z
+lines-made room i (other ∷ xs) t f e = absurd (contra refl (unheld 1 ((1, true) ∷ []) (line-cases i other xs t e .0)))
 lines-made room i (makes c ∷ xs) t f e =
     let k = line-cases i (makes c) xs t e in
     let w = lines-made room (suc i) xs (apply c t) (rw (changed-size c t) f) (k .1) in
@@ -81,6 +79,31 @@ batch-roomy xs t room e = by-trial (firstHeld (roomCondition (t .size) room)) re
 
 pub batch-made : (xs : List BatchLine) (t : Table) (room : ℕ) → batchTrial xs t room .trial ≡ accepted → (map makes (changesIn xs) ≡ xs) × AllAccepted room (changesIn xs) t
 batch-made xs t room e = let w = batch-roomy xs t room e in lines-made room 1 xs t (w .0) (w .1)
+
+-- a batch that is accepted has at most 64 changes
+lines-few : (i : ℕ) (xs : List BatchLine) (t : Table) → i ≤ 65 → linesTrial i xs t .trial ≡ accepted → i + length (changesIn xs) ≤ 65
+unfolding changesIn applyAll lineConditions
+lines-few i [] t h e = omega arith
+lines-few i (other ∷ xs) t h e = absurd (contra refl (unheld 1 ((1, true) ∷ []) (line-cases i other xs t e .0)))
+lines-few i (makes c ∷ xs) t h e =
+    let k = line-cases i (makes c) xs t e in
+    let small : i ≤ 64 = ltb-false 64 i (passed 15 _ (conditions c t) (k .0) .0) in
+    omega (arith, lines-few (suc i) xs (apply c t) (omega arith) (k .1))
+
+pub batch-few : (xs : List BatchLine) (t : Table) (room : ℕ) → batchTrial xs t room .trial ≡ accepted → length (changesIn xs) ≤ 64
+batch-few xs t room e = omega (arith, lines-few 1 xs t (omega arith) (batch-roomy xs t room e .1))
+
+-- ---- states that are met
+
+meets-left : (xs ys : List ℕ) (c : Config) → meets xs c ≡ true → meets (xs ++ ys) c ≡ true
+meets-left xs ys c m =
+    let s = any-some (λ s. elem s (discoveredOf c)) xs m in
+    any-in (λ s. elem s (discoveredOf c)) (s .0) (xs ++ ys) (in-left (s .0) xs ys (s .1)) (s .2)
+
+meets-right : (xs ys : List ℕ) (c : Config) → meets ys c ≡ true → meets (xs ++ ys) c ≡ true
+meets-right xs ys c m =
+    let s = any-some (λ s. elem s (discoveredOf c)) ys m in
+    any-in (λ s. elem s (discoveredOf c)) (s .0) (xs ++ ys) (in-right (s .0) xs ys (s .1)) (s .2)
 
 -- ---- what holds of each change holds of all
 
@@ -145,6 +168,15 @@ module _ (t : Table) (v : Valid t) where
   passed-all (c ∷ cs) u e s =
       let k = and-true (passedOver c t) (all (λ c. passedOver c t) cs) e in
       passed-all cs (apply c u) (k .1) (passed-step c u (k .0) s)
+
+  -- where one is not passed over, the run has met a state that one names
+  pub reached-met : (cs : List Change) → all (λ c. passedOver c t) cs ≡ false → meets (namedAll cs) (final t) ≡ true
+  unfolding all namedAll passedOver
+  reached-met [] e = absurd (contra refl e)
+  reached-met (c ∷ cs) e = ⊎-elim
+      (λ k. meets-right (named c) (namedAll cs) (final t) (reached-met cs (rw k at e)))
+      (λ k. meets-left (named c) (namedAll cs) (final t) (not-false (meets (named c) (final t)) (or-false (unexplored c t) (not (meets (named c) (final t))) k .1)))
+      (either (passedOver c t))
 
 -- ---- of every call
 
