@@ -16,7 +16,7 @@ use Rattle.plain.specs.Refusals.{Trial, accepted, refused, firstHeld, sh
 use Rattle.plain.specs.Machine.{Change, add, cut, mark, unmark, named, apply, conditions, changeTrial, BatchLine, makes, other, lineConditions, BatchTrial, changesIn, applyAll, namedAll, linesTrial, batchTrial, Update, single, batch, applied, namedBy, updateTrial, unexplored, passedOver, keepsAll}
 use Rattle.plain.specs.Claims.{Arises, changed, AllAccepted}
 use Rattle.plain.proofs.Tests.{contra, either, or-true, or-false, and-true, not-in, in-left, in-right, any-in, any-some}
-use Rattle.plain.proofs.Trials.{passed, passed-both, unheld, never-handed, change-never-7}
+use Rattle.plain.proofs.Trials.{passed, last-free, unheld, never-handed, change-never-7}
 use Rattle.plain.proofs.Prefix.{Agree}
 use Rattle.plain.proofs.Rows.{agree}
 use Rattle.plain.proofs.Tables.{Valid, valid-change, room-enough, changed-size, changed-start}
@@ -36,7 +36,7 @@ pub line-refused : (i : ℕ) (x : BatchLine) (xs : List BatchLine) (t : Table) (
 unfolding linesTrial
 line-refused i x xs t n e = rw (e, linesTrial)
 
-accepted-not : (n : ℕ) → refused n ≡ accepted → ⊥
+pub accepted-not : (n : ℕ) → refused n ≡ accepted → ⊥
 accepted-not n e = let z : _≡_ {A = ℕ} 0 1 = cc in omega arith
 
 -- the trial of one line, either way
@@ -60,7 +60,7 @@ lines-made room i (other ∷ xs) t f e = absurd (contra refl (unheld 1 ((1, true
 lines-made room i (makes c ∷ xs) t f e =
     let k = line-cases i (makes c) xs t e in
     let w = lines-made room (suc i) xs (apply c t) (rw (changed-size c t) f) (k .1) in
-    (ap (λ (l : List BatchLine). makes c ∷ l) (w .0), (passed-both (conditions c t) (roomCondition (t .size) room) (passed 15 _ (conditions c t) (k .0) .1) f, w .1))
+    (ap (λ (l : List BatchLine). makes c ∷ l) (w .0), (last-free (conditions c t) (roomCondition (t .size) room) f ∙ passed 15 _ (conditions c t) (k .0) .1, w .1))
 
 pub batch-tried : (xs : List BatchLine) (t : Table) (room : ℕ) → Roomy room t → batchTrial xs t room ≡ linesTrial 1 xs t
 unfolding batchTrial

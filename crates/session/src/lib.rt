@@ -231,7 +231,15 @@ fn where_to_resume(
     ensures { λ r. ⌜ r ≡ resumptionOf (numbersIn alone only (now (lines .entry))) (rowsOf (now (targets .entry)) (now (starts .entry))) (now (number .entry)) (now (index .entry)) (now (walk .entry)) height ⌝ }
 {
     if all_passed_over(
-        alone, only, lines, targets, starts, number, index, walk, height,
+        alone,
+        only,
+        lines,
+        targets,
+        starts,
+        number,
+        index,
+        walk,
+        height,
     ) {
         return Resumption::Nowhere;
     }
@@ -565,18 +573,17 @@ fn update_in(
     ensures { λ r. ⌜ UpdatedIn alone (numbersIn alone only (now (lines .entry))) size start old (arraysOf (now (targets .entry)) (now (starts .entry)) (now (words .entry))) (recordsOf (now (number .entry)) (now (parent .entry)) (now (index .entry)) (now (probes .entry)) (now (stamp .entry)) (now (walk .entry))) (now (lent .entry)) r (arraysOf (now (targets .exit)) (now (starts .exit)) (now (words .exit))) (recordsOf (now (number .exit)) (now (parent .exit)) (now (index .exit)) (now (probes .exit)) (now (stamp .exit)) (now (walk .exit))) (now (lent .exit)) ⌝ }
 {
     let from = where_to_resume(
-        alone, only, lines, targets, starts, number, index, walk, old.height,
-    );
-    let attempt = table::attempt_call(
         alone,
         only,
         lines,
-        size,
         targets,
         starts,
-        words,
-        lent.len(),
+        number,
+        index,
+        walk,
+        old.height,
     );
+    let attempt = table::attempt_call(alone, only, lines, size, targets, starts, words, lent.len());
     let trial = attempt.trial;
     if let Trial::Refused(n) = trial {
         let position = attempt.position;
