@@ -48,6 +48,11 @@ line-cases i x xs t e = by-trial (firstHeld (lineConditions i x t)) refl
     by-trial accepted k = (k, ap (λ (b : BatchTrial). b .trial) (sym (line-accepted i x xs t k)) ∙ e)
     by-trial (refused n) k = absurd (accepted-not n (ap (λ (b : BatchTrial). b .trial) (sym (line-refused i x xs t n k)) ∙ e))
 
+-- a line that makes no change is not accepted
+not-other : (i : ℕ) (t : Table) → firstHeld (lineConditions i other t) ≡ accepted → ⊥
+unfolding lineConditions
+not-other i t e = contra refl (unheld 1 ((1, true) ∷ []) e)
+
 -- all that is tried ahead of the lines
 abbrev Roomy : ℕ → Table → Type 0
 Roomy room t = firstHeld (roomCondition (t .size) room) ≡ accepted
@@ -56,7 +61,7 @@ Roomy room t = firstHeld (roomCondition (t .size) room) ≡ accepted
 lines-made : (room i : ℕ) (xs : List BatchLine) (t : Table) → Roomy room t → linesTrial i xs t .trial ≡ accepted → (map makes (changesIn xs) ≡ xs) × AllAccepted room (changesIn xs) t
 unfolding changesIn applyAll lineConditions changeTrial
 lines-made room i [] t f e = (refl, tt)
-lines-made room i (other ∷ xs) t f e = absurd (contra refl (unheld 1 ((1, true) ∷ []) (line-cases i other xs t e .0)))
+lines-made room i (other ∷ xs) t f e = absurd (not-other i t (line-cases i other xs t e .0))
 lines-made room i (makes c ∷ xs) t f e =
     let k = line-cases i (makes c) xs t e in
     let w = lines-made room (suc i) xs (apply c t) (rw (changed-size c t) f) (k .1) in
@@ -80,15 +85,20 @@ batch-roomy xs t room e = by-trial (firstHeld (roomCondition (t .size) room)) re
 pub batch-made : (xs : List BatchLine) (t : Table) (room : ℕ) → batchTrial xs t room .trial ≡ accepted → (map makes (changesIn xs) ≡ xs) × AllAccepted room (changesIn xs) t
 batch-made xs t room e = let w = batch-roomy xs t room e in lines-made room 1 xs t (w .0) (w .1)
 
--- a batch that is accepted has at most 64 changes
+-- no line behind the 64th is accepted
+pub line-few : (i : ℕ) (x : BatchLine) (t : Table) → firstHeld (lineConditions i x t) ≡ accepted → i ≤ 64
+unfolding lineConditions
+line-few i (makes c) t e = ltb-false 64 i (passed 15 _ (conditions c t) e .0)
+line-few i other t e = absurd (not-other i t e)
+
+-- so an accepted batch has at most 64 changes
 lines-few : (i : ℕ) (xs : List BatchLine) (t : Table) → i ≤ 65 → linesTrial i xs t .trial ≡ accepted → i + length (changesIn xs) ≤ 65
-unfolding changesIn applyAll lineConditions
+unfolding changesIn applyAll
 lines-few i [] t h e = omega arith
-lines-few i (other ∷ xs) t h e = absurd (contra refl (unheld 1 ((1, true) ∷ []) (line-cases i other xs t e .0)))
+lines-few i (other ∷ xs) t h e = absurd (not-other i t (line-cases i other xs t e .0))
 lines-few i (makes c ∷ xs) t h e =
     let k = line-cases i (makes c) xs t e in
-    let small : i ≤ 64 = ltb-false 64 i (passed 15 _ (conditions c t) (k .0) .0) in
-    omega (arith, lines-few (suc i) xs (apply c t) (omega arith) (k .1))
+    omega (arith, line-few i (makes c) t (k .0), lines-few (suc i) xs (apply c t) (omega (arith, line-few i (makes c) t (k .0))) (k .1))
 
 pub batch-few : (xs : List BatchLine) (t : Table) (room : ℕ) → batchTrial xs t room .trial ≡ accepted → length (changesIn xs) ≤ 64
 batch-few xs t room e = omega (arith, lines-few 1 xs t (omega arith) (batch-roomy xs t room e .1))

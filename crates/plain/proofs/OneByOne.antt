@@ -3,8 +3,10 @@ use mathlib.Core.Path.{_≡_, refl, sym, ap, _∙_}
 use mathlib.Core.Logic.{inl, inr, ⊎-elim}
 use mathlib.Core.Bool.{Bool, true, false, _&&_, _||_, not}
 use mathlib.Core.List.{List, [], _∷_, _++_, append-nil, map}
-use Prim.Native.Nat.{ℕ, _+_, _-_, _≤_}
+use Prim.Native.Nat.{ℕ, zero, suc, _+_, _-_, _≤_}
 use native.Mathlib.Omega.{arith}
+use lib.ListN.{length, take, length-map}
+use lib.Seq.{take-all}
 use borrow.Author.Tests.{le-ltb, not-true as untrue}
 use Rattle.plain.specs.Lists.{any, all}
 use Rattle.plain.specs.Search.{meets, run, verdict, count}
@@ -17,7 +19,7 @@ use Rattle.plain.proofs.Tests.{either}
 use Rattle.plain.proofs.Trials.{held-later, accepted-when, passed-behind, last-free}
 use Rattle.plain.proofs.Tables.{Valid, valid, valid-change, room-enough}
 use Rattle.plain.proofs.Resume.{holds-notes}
-use Rattle.plain.proofs.Batches.{accepted-not, line-accepted, line-refused, batch-tried, batch-short, batch-made, update-valid}
+use Rattle.plain.proofs.Batches.{accepted-not, line-accepted, line-refused, line-few, batch-tried, batch-short, batch-few, batch-made, update-valid}
 use Rattle.plain.proofs.Demands.{ended-within, kept-all, kept-meeting, update-same, demand-3-kept}
 
 -- ---- one by one
@@ -192,3 +194,48 @@ module _ (c : Change) (t : Table) (room : ℕ) where
         ∙ sym (answer-accepted (callFor room c) t e);
     same-table = one-table (changeTrial c t room) refl;
   }
+
+-- ---- lines behind the 65th are not looked at
+
+lines-held : (k i : ℕ) (xs : List BatchLine) (t : Table) → i ≤ 65 → 66 ≤ i + k → linesTrial i (take k xs) t ≡ linesTrial i xs t
+lines-held zero i xs t h m = absurd (omega arith)
+lines-held (suc k) i [] t h m = refl
+lines-held (suc k) i (x ∷ xs) t h m = by-trial (firstHeld (lineConditions i x t)) refl (lines-held k (suc i) xs (applyAll (changesIn (x ∷ [])) t))
+  where
+    by-trial : (w : Trial) → firstHeld (lineConditions i x t) ≡ w
+        → (suc i ≤ 65 → 66 ≤ suc i + k → linesTrial (suc i) (take k xs) (applyAll (changesIn (x ∷ [])) t) ≡ linesTrial (suc i) xs (applyAll (changesIn (x ∷ [])) t))
+        → linesTrial i (x ∷ take k xs) t ≡ linesTrial i (x ∷ xs) t
+    by-trial accepted e below =
+        line-accepted i x (take k xs) t e ∙ below (omega (arith, line-few i x t e)) (omega arith) ∙ sym (line-accepted i x xs t e)
+    by-trial (refused n) e below = line-refused i x (take k xs) t n e ∙ sym (line-refused i x xs t n e)
+
+batch-held : (xs : List BatchLine) (t : Table) (room : ℕ) → batchTrial (take 65 xs) t room ≡ batchTrial xs t room
+batch-held xs t room = by-room (firstHeld (roomCondition (t .size) room)) refl
+  where
+    by-room : (w : Trial) → firstHeld (roomCondition (t .size) room) ≡ w → batchTrial (take 65 xs) t room ≡ batchTrial xs t room
+    by-room accepted k = batch-tried (take 65 xs) t room k ∙ lines-held 65 1 xs t (omega arith) (omega arith) ∙ sym (batch-tried xs t room k)
+    by-room (refused n) k = batch-short (take 65 xs) t room n k ∙ sym (batch-short xs t room n k)
+
+-- an accepted batch has no line there
+held-whole : (xs : List BatchLine) (t : Table) (room : ℕ) → batchTrial xs t room .trial ≡ accepted → take 65 xs ≡ xs
+held-whole xs t room e =
+    take-all 65 xs (omega (arith, ap length (batch-made xs t room e .0), length-map (changesIn xs) makes, batch-few xs t room e))
+
+-- so the first 65 are answered as the whole batch, and leave the same table
+pub held-call : (xs : List BatchLine) (t : Table) (room : ℕ)
+    → (answerTo (batchCall room (take 65 xs)) t ≡ answerTo (batchCall room xs) t) × (tableAfter (batchCall room (take 65 xs)) t ≡ tableAfter (batchCall room xs) t)
+unfolding trialOf updateTrial positionIn
+held-call xs t room = by-trial (batchTrial xs t room .trial) refl
+  where
+    first : batchTrial (take 65 xs) t room .trial ≡ batchTrial xs t room .trial
+    first = ap (λ (b : BatchTrial). b .trial) (batch-held xs t room)
+
+    by-trial : (w : Trial) → batchTrial xs t room .trial ≡ w
+        → (answerTo (batchCall room (take 65 xs)) t ≡ answerTo (batchCall room xs) t) × (tableAfter (batchCall room (take 65 xs)) t ≡ tableAfter (batchCall room xs) t)
+    by-trial accepted e = let z = held-whole xs t room e in (ap (λ (l : List BatchLine). answerTo (batchCall room l) t) z, ap (λ (l : List BatchLine). tableAfter (batchCall room l) t) z)
+    by-trial (refused n) e = (
+      answer-refused (batchCall room (take 65 xs)) t n (first ∙ e)
+          ∙ ap (λ (b : BatchTrial). refusal (record { number = n; position = atLine (b .position) })) (batch-held xs t room)
+          ∙ sym (answer-refused (batchCall room xs) t n e),
+      table-refused (batchCall room (take 65 xs)) t n (first ∙ e) ∙ sym (table-refused (batchCall room xs) t n e),
+    )
