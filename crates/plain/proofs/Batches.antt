@@ -1,9 +1,9 @@
 -- Ticket 5: a batch that is accepted makes its changes one by one, and what holds of each holds of all. Then the same for every call, be it one change or a batch.
 -- Assumes nothing.
 use mathlib.Core.Path.{_≡_, refl, sym, ap, subst, _∙_}
-use mathlib.Core.Logic.{_≢_, inl, inr, ⊎-elim}
-use mathlib.Core.Bool.{Bool, true, false, not}
-use mathlib.Core.List.{List, [], _∷_, _++_, map}
+use mathlib.Core.Logic.{_≢_, _⊎_, inl, inr, ⊎-elim}
+use mathlib.Core.Bool.{Bool, true, false, _&&_, not}
+use mathlib.Core.List.{List, [], _∷_, _++_, append-nil, map}
 use Prim.Native.Nat.{ℕ, suc, _+_, _≤_}
 use native.Mathlib.Omega.{arith}
 use lib.ListN.{length}
@@ -155,16 +155,26 @@ agree-all (c ∷ cs) t =
     second : (x : ℕ) → elem x (named c ++ namedAll cs) ≡ false → elem x (namedAll cs) ≡ false
     second x o = not-in x (namedAll cs) (λ i. contra (in-right x (named c) (namedAll cs) i) o)
 
+-- a change that is passed over: ticket 4, or its state was never met
+passed-cases : (c : Change) (t : Table) → passedOver c t ≡ true → (unexplored c t ≡ true) ⊎ (not (meets (named c) (final t)) ≡ true)
+unfolding passedOver
+passed-cases c t e = or-true (unexplored c t) (not (meets (named c) (final t))) e
+
+-- one that is not: neither
+reached-one : (c : Change) (t : Table) → passedOver c t ≡ false → (unexplored c t ≡ false) × (meets (named c) (final t) ≡ true)
+unfolding passedOver
+reached-one c t e =
+    let z = or-false (unexplored c t) (not (meets (named c) (final t))) e in
+    (z .0, not-false (meets (named c) (final t)) (z .1))
+
 -- A change that is passed over leaves the rows as far as the run on t has taken them, whatever table it is made on.
 module _ (t : Table) (v : Valid t) where
-  abbrev Taken : Table → Type 0
+  abbrev pub Taken : Table → Type 0
   Taken u = (x : ℕ) → Shared (searched t) (searched u) (run (searched t) (budget t)) x
 
   pub passed-step : (b : Change) (u : Table) → passedOver b t ≡ true → Taken u → Taken (apply b u)
-  unfolding passedOver final
-  passed-step b u e s x = ⊎-elim
-      (λ k. unexplored-step t v b u k s x)
-      (λ k. unmet (untrue (meets (named b) (final t)) k)) (or-true (unexplored b t) (not (meets (named b) (final t))) e)
+  unfolding final
+  passed-step b u e s x = ⊎-elim (λ k. unexplored-step t v b u k s x) (λ k. unmet (untrue (meets (named b) (final t)) k)) (passed-cases b t e)
     where
       unmet : meets (named b) (run (searched t) (budget t)) ≡ false → Shared (searched t) (searched (apply b u)) (run (searched t) (budget t)) x
       unmet f = ⊎-elim
@@ -179,16 +189,50 @@ module _ (t : Table) (v : Valid t) where
       let k = and-true (passedOver c t) (all (λ c. passedOver c t) cs) e in
       passed-all cs (apply c u) (k .1) (passed-step c u (k .0) s)
 
-  -- where one is not passed over, the run has met a state that one names
-  pub reached-met : (cs : List Change) → all (λ c. passedOver c t) cs ≡ false → meets (namedAll cs) (final t) ≡ true
-  unfolding all namedAll passedOver
-  reached-met [] e = absurd (contra refl e)
-  reached-met (c ∷ cs) e = ⊎-elim
-      (λ k. meets-right (named c) (namedAll cs) (final t) (reached-met cs (rw k at e)))
-      (λ k. meets-left (named c) (namedAll cs) (final t) (not-false (meets (named c) (final t)) (or-false (unexplored c t) (not (meets (named c) (final t))) k .1)))
-      (either (passedOver c t))
+and-false : (a : Bool) → (a && true) ≡ false → a ≡ false
+and-false true e = e
+and-false false e = refl
+
+-- where one of some is not, the run has met a state that one names
+reached-met : (t : Table) (cs : List Change) → all (λ c. passedOver c t) cs ≡ false → meets (namedAll cs) (final t) ≡ true
+unfolding all namedAll
+reached-met t [] e = absurd (contra refl e)
+reached-met t (c ∷ cs) e = ⊎-elim
+    (λ k. meets-right (named c) (namedAll cs) (final t) (reached-met t cs (rw k at e)))
+    (λ k. meets-left (named c) (namedAll cs) (final t) (reached-one c t k .1)) (either (passedOver c t))
 
 -- ---- of every call
+
+-- the changes that it makes
+unfoldable pub changesOf : Update → List Change
+changesOf (single c) = c ∷ []
+changesOf (batch xs) = changesIn xs
+
+-- an accepted call, as its changes
+pub record Made (u : Update) (t : Table) (room : ℕ) : Type 0 where
+  pub each-accepted : AllAccepted room (changesOf u) t
+  pub few : length (changesOf u) ≤ 64
+  pub named-are : namedBy u ≡ namedAll (changesOf u)
+  -- all of them are passed over, or one is not
+  pub passed : all (λ c. passedOver c t) (changesOf u) ≡ true → (keepsAll u t ≡ true) ⊎ (meets (namedBy u) (final t) ≡ false)
+  pub reached : all (λ c. passedOver c t) (changesOf u) ≡ false → (keepsAll u t ≡ false) × (meets (namedBy u) (final t) ≡ true)
+
+pub update-made : (u : Update) (t : Table) (room : ℕ) → updateTrial u t room ≡ accepted → Made u t room
+unfolding updateTrial changesOf namedBy namedAll keepsAll all
+update-made (single c) t room e = record {
+  each-accepted = (e, tt);
+  few = omega arith;
+  named-are = sym (append-nil (named c));
+  passed = λ k. ⊎-elim inl (λ m. inr (untrue (meets (named c) (final t)) m)) (passed-cases c t (and-true (passedOver c t) true k .0));
+  reached = λ k. let z = reached-one c t (and-false (passedOver c t) k) in (z .0, z .1);
+}
+update-made (batch xs) t room e = record {
+  each-accepted = batch-made xs t room e .1;
+  few = batch-few xs t room e;
+  named-are = refl;
+  passed = inl;
+  reached = λ k. (k, reached-met t (changesIn xs) k);
+}
 
 pub update-valid : (u : Update) (t : Table) (room : ℕ) → Valid t → updateTrial u t room ≡ accepted → Valid (applied u t)
 unfolding updateTrial applied
