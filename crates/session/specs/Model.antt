@@ -7,9 +7,11 @@ use lib.Dec.{eqb, ltb}
 use lib.ListN.{length, getD, take, drop, replicate}
 use Rattle.plain.specs.Lists.{all}
 use Rattle.plain.specs.Refusals.{accepted, refused}
-use Rattle.plain.specs.Machine.{Change, add, cut, mark, unmark, BatchLine as PlainLine, makes, other}
+use Rattle.plain.specs.Machine.{BatchLine as PlainLine, makes, other}
 use Rattle.rows.specs.Rows.{entries, rowAt, placeOf}
 use Rattle.rows.specs.Change.{Rows}
+use Rattle.table.specs.declared.Op.{Op}
+use Rattle.table.specs.declared.Op.the-variants.{Add, Cut, Mark, Unmark}
 use Rattle.table.specs.declared.Position.{Position}
 use Rattle.table.specs.declared.Update.{Update}
 use Rattle.table.specs.declared.Update.the-variants as Update
@@ -124,20 +126,16 @@ unexploredEdge on from to rows index walk tip =
     ltb i tip && (on || ltb (getD index (getD walk (suc i) 0) 0) (placeOf to (rowAt (rows .targets) (rows .starts) from)))
 
 -- of a change
-abbrev pub unexploredIn : Change → Rows → List ℕ → List ℕ → ℕ → Bool
-unexploredIn (add e) rows index walk tip = unexploredEdge true (e .0) (e .1) rows index walk tip
-unexploredIn (cut e) rows index walk tip = unexploredEdge false (e .0) (e .1) rows index walk tip
-unexploredIn (mark s) rows index walk tip = false
-unexploredIn (unmark s) rows index walk tip = false
-
--- the state that a change names
-abbrev pub stateIn : Change → ℕ
-stateIn c = namedBy (opFor c)
+abbrev pub unexploredIn : Op → Rows → List ℕ → List ℕ → ℕ → Bool
+unexploredIn (Add from to) rows index walk tip = unexploredEdge true from to rows index walk tip
+unexploredIn (Cut from to) rows index walk tip = unexploredEdge false from to rows index walk tip
+unexploredIn (Mark state) rows index walk tip = false
+unexploredIn (Unmark state) rows index walk tip = false
 
 -- Had the search not come to what a line changes: was the state that it names never discovered, or its edge not come to? The tip is the last state of the open
 -- path, which is so many states high. A line that makes no change is passed over.
 abbrev pub passedOverIn : PlainLine → Rows → List ℕ → List ℕ → List ℕ → ℕ → Bool
-passedOverIn (makes c) rows number index walk height = eqb (getD number (stateIn c) 0) noNumber || unexploredIn c rows index walk (height - 1)
+passedOverIn (makes c) rows number index walk height = eqb (getD number (namedBy (opFor c)) 0) noNumber || unexploredIn (opFor c) rows index walk (height - 1)
 passedOverIn other rows number index walk height = true
 
 abbrev pub allPassedOver : List PlainLine → Rows → List ℕ → List ℕ → List ℕ → ℕ → Bool
