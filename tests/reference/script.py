@@ -164,7 +164,7 @@ class Script:
 
 
 def make_games(s, rng):
-    for name, size, pay, moves, first, changes in reference.WORKED:
+    for name, size, pay, moves, first, changes in reference.SINGLES:
         if len(name) == 1:                      # of games A to I
             s.load(size, 0, pay, flat(moves), size - 1, want=11)
         assert s.load(size, 0, pay, flat(moves)) == first, name
