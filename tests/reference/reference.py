@@ -952,9 +952,9 @@ BATCH_GAMES = [
         ("batch", BACK_1 * 31 + [("add", 1, 1), ("add", 1, 1)], ("no", 8, 64)),
         ("batch", BACK_1 * 31 + [("add", 1, 1), ("add", 1, 1)] + ["x"] * 6, ("no", 8, 64)),
         ("batch", BACK_1 * 31 + [("add", 1, 1), "x", ("add", 1, 1)], ("no", 1, 64)),
-        ("batch", BACK_1 * 31 + ["add 1"] + BACK_1 * 4, ("no", 1, 63)),
-        ("batch", ["add 1"] + BACK_1 * 40, ("no", 1, 1)),
-        ("batch", BACK_1 * 40, ("no", 15, 65)),
+        ("batch", BACK_1 * 31 + ["add 1"] + BACK_1 * 3, ("no", 1, 63)),
+        ("batch", ["add 1"] + BACK_1 * 34, ("no", 1, 1)),
+        ("batch", BACK_1 * 35, ("no", 15, 65)),
         ("batch", [], ("round", 0, 3, [], [0, 1])),
         ("batch", BACK_1 * 31 + [("add", 1, 1)], ("round", 3, 1, [], [0, 1])),
         ("batch", BACK_1[::-1] * 32, ("round", 3, 1, [], [0, 1])),
@@ -1029,7 +1029,7 @@ def made(table, call, room):
     if word == "line":
         return ("no", 1)
     if word == "batch":
-        named = [[None if isinstance(line, str) else line for line in named[0]]]
+        named = [[line if isinstance(line, tuple) else None for line in named[0]]]
     return getattr(table, word)(*named, room)
 
 
@@ -1039,7 +1039,7 @@ def rows_of(call):
     if word == "line":
         return named
     if word == "batch":
-        return ["begin", *(line if isinstance(line, str) else " ".join(map(str, line)) for line in named[0]), "end"]
+        return ["begin", *(" ".join(map(str, line)) if isinstance(line, tuple) else line for line in named[0]), "end"]
     return [" ".join(map(str, call))]
 
 
