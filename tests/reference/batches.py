@@ -89,15 +89,33 @@ def refused_line(rng, ahead, number):
     return rng.choice(lines) if lines else None
 
 
+def filling_line(rng, ahead, left):
+    """For a table that is nearly full: the next of so many lines behind which it is to be full, where not any line will do."""
+    room = MOST_MOVES - len(ahead.moves)
+    state = rng.randrange(ahead.size)
+    if room > 64 or left > room + 1:
+        any_line(rng, ahead)
+    elif left == room + 1:
+        ahead.pay(state)
+    else:
+        move = state, rng.randrange(ahead.size)
+        if move not in ahead.moves:
+            ahead.move(*move)
+
+
 def some_lines(rng, table, count, quiet=False, fault=None):
     """So many lines, accepted one after another, or fewer where the table has not that many quiet ones.
     quiet: the run before had come to none of them. fault: a number and the place, from 1, of the line that gets it."""
     ahead = Ahead(table)
+    number, place = fault or (None, 0)
     for _ in range(40 * count):
+        left = place - 1 - len(ahead.lines)
         if len(ahead.lines) == count:
             break
-        if fault and fault[1] == len(ahead.lines) + 1:
-            ahead.lines.append(refused_line(rng, ahead, fault[0]))
+        if left == 0:
+            ahead.lines.append(refused_line(rng, ahead, number))
+        elif number == 9 and left > 0:
+            filling_line(rng, ahead, left)
         else:
             (quiet_line if quiet else any_line)(rng, ahead)
     return ahead.lines

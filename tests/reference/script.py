@@ -858,8 +858,6 @@ def full_batches(s, rng):
     for number in NUMBERS:
         for place in (1, 2, 33, 64, 65):
             lines = some_lines(rng, s.table, place, place % 2 == 0, (number, place))
-            if number == 9:                     # marks, which leave the table full
-                lines = turns(5)[:place - 1] + [("add", *distinct_moves(rng, size, 1, s.table.moves)[0])]
             refused = 1 if lines[-1] is None else number if place < 65 else 15
             s.batch(lines + [None] * rng.choice((0, 0, 1, 5)), want=(refused, place))
     new = distinct_moves(rng, size, 3, s.table.moves)
@@ -870,11 +868,6 @@ def full_batches(s, rng):
     s.batch([("add", *new[1])], want=(9, 1))
     for quiet, count in ((True, 64), (True, 63), (False, 64), (False, 2), (True, 64), (False, 64)):
         s.batch(some_lines(rng, s.table, count, quiet), room=rng.choice((size, LENT)))
-
-
-def turns(state):
-    """64 changes that leave all as it was, if the state does not pay."""
-    return [("mark", state), ("unmark", state)] * 32
 
 
 def random_batches(s, rng, limit):
