@@ -564,7 +564,7 @@ def stored():
     yield "random-small", session(752, "small")
     yield "random-mid", session(668, "mid")
     yield "random-mid-changes", session(247, "mid")
-    yield "random-full", session(29, "full")
+    yield "random-full", session(25, "full")
     yield "random-chain", chain(random.Random(54), 16)
     yield "random-stems", session(1028, "stems")
     yield "random-stems-512", stems(random.Random(65), 512, 16)
