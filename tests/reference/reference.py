@@ -919,6 +919,16 @@ BATCH_GAMES = [
         ("add", 0, 3, ("round", 0, 5, [0, 1], [2, 3])),
         ("batch", [("cut", 0, 3)], ("round", 0, 5, [0, 1], [2, 3])),
     ]),
+    # nor does a refused one change the order of the moves
+    ("batch-order", 3, [1, 2], [(0, 1), (0, 2), (1, 0), (2, 0)], ("round", 3, 0, [], [0, 1]), [
+        ("batch", [("cut", 0, 1), ("add", 0, 1), ("add", 0, 1)], ("no", 8, 3)),
+        ("mark", 0, ("round", 3, 0, [], [0, 1])),
+        ("batch", [("cut", 0, 1), "x"], ("no", 1, 2)),
+        ("unmark", 0, ("round", 3, 0, [], [0, 1])),
+        ("batch", [("cut", 0, 1), ("add", 0, 1)], ("round", 3, 0, [], [0, 2])),
+        ("batch", [("cut", 0, 2), ("add", 0, 2), ("cut", 0, 2), ("cut", 0, 2)], ("no", 10, 4)),
+        ("batch", [("mark", 0), ("unmark", 0)], ("round", 3, 0, [], [0, 2])),
+    ]),
     # there and back: at states of the stem, at the paying state and at one without moves, which have finished
     ("batch-back", 4, [2], [(0, 1), (1, 2), (2, 1), (0, 3)], ("round", 4, 0, [0], [1, 2]), [
         ("batch", [("add", 0, 2), ("cut", 0, 2)], ("round", 0, 4, [0], [1, 2])),

@@ -857,8 +857,9 @@ def full_batches(s, rng):
     s.load(size, 0, [size - 1], flat(line + distinct_moves(rng, size, 2048 - len(line), line)), want="round")
     for number in NUMBERS:
         for place in (1, 2, 33, 64, 65):
-            lines = some_lines(rng, s.table, place, place % 2 == 0, (number, place))
-            refused = 1 if lines[-1] is None else number if place < 65 else 15
+            draws = iter(lambda: some_lines(rng, s.table, place, place % 2 == 0, (number, place)), None)
+            lines = next(lines for lines in draws if (lines[-1] is None) == (number == 1))
+            refused = number if place < 65 or number == 1 else 15
             s.batch(lines + [None] * rng.choice((0, 0, 1, 5)), want=(refused, place))
     new = distinct_moves(rng, size, 3, s.table.moves)
     old = s.table.moves[700]
