@@ -147,12 +147,14 @@ def changes(rng, text, count, wanted, closing):
 # ------------------------------------------------------- lines to refuse
 
 def hostile_lines():
-    right = [b"game\t2\t0", b"pay\t1", b"move\t0\t1", b"go", b"add\t0\t1", b"cut\t0\t1", b"mark\t0", b"unmark\t1", b"end", b"begin"]
+    right = [b"game\t2\t0", b"pay\t1", b"move\t0\t1", b"go", b"add\t0\t1", b"cut\t0\t1", b"mark\t0", b"unmark\t1",
+             b"end", b"begin"]
     numbers = [b"", b"0", b"00", b"01", b"1", b"9", b"511", b"512", b"513", b"9999", b"65535", b"65536", b"99999",
                b"100000", b"000001", b"4294967296", b"18446744073709551617", b" 1", b"1 ", b"+1", b"-1", b"0x1",
                b"1\r", b"1\0", b"\x001", b"1.0", b"\xd9\xa1", b"\xff", b":", b"/"]
     lines = [b"", b" ", b"\t", b"\t\t", b"\t\t\t", b"\r", b"\0", b"\xff\xfe", b"x", b"game", b"kinds\t1",
-             b"why", b"g", b"ad", b"begi", b"beginn", b"en", b"ends", b"endbegin", b"begin\tend", b"addd\t0\t1", b"add\t0\t1add\t0\t1", b"-", b"#", b"\xef\xbb\xbfgo"]
+             b"why", b"g", b"ad", b"begi", b"beginn", b"en", b"ends", b"endbegin", b"begin\tend", b"addd\t0\t1",
+             b"add\t0\t1add\t0\t1", b"-", b"#", b"\xef\xbb\xbfgo"]
     for line in right:
         fields = line.split(b"\t")
         lines += [line, line.upper(), line.title(), b"\t" + line, b" " + line, line + b"\t", line + b"\t\t", line + b" ",
@@ -373,7 +375,7 @@ def batch_of(rng, table):
     if rng.random() < 0.35:
         count = max(1, count)
         numbers = NUMBERS if len(table.moves) < MOST_MOVES - 8 or rng.random() < 0.5 else (9,)
-        fault = rng.choice(numbers), rng.choice((1, (count + 1) // 2, count, min(count, 64)))
+        fault = rng.choice(numbers), rng.choice((1, (count + 1) // 2, count, min(count, 64), min(count, 65)))
     lines = some_lines(rng, table, count, rng.random() < 0.5, fault)
     if fault and rng.random() < 0.4:
         lines += [None] * rng.choice((1, 2, 70))
@@ -510,22 +512,31 @@ def longest_walk():
     return text.data()
 
 
-def open_batches():
-    """Texts that end inside a batch, which then does and prints nothing; and one whose `end` just lacks its newline."""
-    head = STAGES[4] + as_lines(["add 0 1"])
-    for name, behind in (("begin", b"begin\n"), ("begin-bare", b"begin"), ("line", b"begin\ncut\t0\t1\n"), ("line-bare", b"begin\ncut\t0\t1"),
-                         ("refused", b"begin\ncut\t0\t1\nx\nmark\t9\n"), ("cut-off", b"begin\ncut\t0\t1\nen"),
-                         ("field", b"begin\ncut\t0\t1\nend\t"), ("not", b"begin\ncut\t0\t1\nend")):
-        yield "batch-open-" + name, head + behind
+# What a text behind `go` ends with inside a batch, which then does and prints nothing; and an `end` that just lacks its newline.
+OPEN = {"begin": b"begin\n", "begin-bare": b"begin", "line": b"begin\ncut\t0\t1\n", "line-bare": b"begin\ncut\t0\t1",
+        "refused": b"begin\ncut\t0\t1\nx\nmark\t9\n", "cut-off": b"begin\ncut\t0\t1\nen", "field": b"begin\ncut\t0\t1\nend\t",
+        "not": b"begin\ncut\t0\t1\nend"}
+
+
+def stored_batches():
+    """The same of those with batches."""
+    for game in BATCH_GAMES:
+        yield game[0], known(game)
+    for name, behind in OPEN.items():
+        yield "batch-open-" + name, STAGES[4] + b"add\t0\t1\n" + behind
+    yield "batch-before-go", as_lines(["game 2 0", "begin", "end", "go"])
+    yield "batch-hostile-lines", STAGES[4] + as_bytes(row for line in NO_CHANGE for row in ("begin", line, "end")) + b"cut\t0\t1"
+    yield "random-batches", session(2845, "batches")
+    yield "random-batches-512", batches(random.Random(25), 512, 8)
 
 
 def stored():
     """Name and text of each stored session."""
     for game in GAMES:
         yield "game-" + game[0].lower(), known(game)
-    for game in SELF_GAMES + MARK_GAMES + UNREACHED_GAMES + BATCH_GAMES:
+    for game in SELF_GAMES + MARK_GAMES + UNREACHED_GAMES:
         yield game[0], known(game)
-    yield from open_batches()
+    yield from stored_batches()
     yield "states-512", as_lines(["game 512 0", "pay 511", "move 0 511", "go", "add 511 0", "add 512 0", "cut 511 0"])
     yield "states-513", as_lines(["game 513 0", "pay 511", "move 0 511", "go", "add 511 0"])
     yield "start-511", as_lines(["game 512 511", "pay 511", "move 511 0", "move 0 511", "go", "cut 0 511", "add 0 511",
@@ -554,8 +565,6 @@ def stored():
                              "unmark 64"])
     yield "longest-walk", longest_walk()
     yield "hostile-lines", STAGES[4] + as_bytes(line for line in HOSTILE if line != b"begin") + b"cut\t0\t1"
-    yield "batch-hostile-lines", STAGES[4] + as_bytes(row for line in NO_CHANGE for row in ("begin", line, "end")) + b"cut\t0\t1"
-    yield "batch-before-go", as_lines(["game 2 0", "begin", "end", "go"])
     yield "refused-4", as_lines(["game 2 1", "pay 2", "move 0 0", "move 0 0", "move 9 9", "go", "add 0 1"])
     yield "refused-6", as_lines(["game 2 1", "move 0 1", "move 0 1", "move 0 0", "move 9 9", "go", "add 0 1"])
     yield "refused-8", as_lines(["game 2 1", "move 0 1", "move 1 0", "move 0 1", "go", "add 0 1"])
@@ -568,8 +577,6 @@ def stored():
     yield "random-chain", chain(random.Random(54), 16)
     yield "random-stems", session(1028, "stems")
     yield "random-stems-512", stems(random.Random(65), 512, 16)
-    yield "random-batches", session(1648, "batches")
-    yield "random-batches-512", batches(random.Random(72), 512, 8)
 
 
 SEPARATOR = b"\x1e"                            # parts the texts that crates/texts is run on
