@@ -280,40 +280,48 @@ pub record Walked (ns : List ℕ) (size room : ℕ) (a₀ : Arrays) (at position
 pub walk-begun : (ns : List ℕ) (size room : ℕ) (a : Arrays) → TabledIn a → Walked ns size room a 0 1 a
 walk-begun ns size room a l = record { rest = refl; tabled = l; place = omega arith; few = omega arith }
 
-tried-all : (alone : Bool) (i size room : ℕ) (a : Arrays) → AttemptedLines alone (triedIn i [] size a room) (record { trial = Accepted; position = positionAt alone i }) a
-unfolding triedIn
-tried-all alone i size room a = record { trial-is = refl; position-is = refl; arrays-are = refl }
+-- an attempt that ended so
+ended-so : (alone : Bool) (x : Attempt) (k : Trial) (i : ℕ) → x ≡ record { trial = k; position = positionAt alone i } → (n : PlainTrial) → k ≡ tried n → (a a′ : Arrays) → a′ ≡ a
+    → (w : TriedIn) → record { trial = n; position = i; arrays = a } ≡ w → AttemptedLines alone w x a′
+ended-so alone x k i is n trial a a′ same w e = record {
+  trial-is = ap (λ (y : Attempt). y .trial) is ∙ trial ∙ ap (λ (v : TriedIn). tried (v .trial)) e;
+  position-is = ap (λ (y : Attempt). y .position) is ∙ ap (λ (v : TriedIn). positionAt alone (v .position)) e;
+  arrays-are = same ∙ ap (λ (v : TriedIn). v .arrays) e;
+}
 
 module _ (ns : List ℕ) (size room : ℕ) (a₀ : Arrays) (at position : ℕ) (a : Arrays) (w : Walked ns size room a₀ at position a) where
-  pub walk-ended : (alone : Bool) → length ns ≤ at → AttemptedLines alone (triedIn 1 (linesIn ns) size a₀ room) (record { trial = Accepted; position = positionAt alone position }) a
-  walk-ended alone h =
-      subst (λ (t : TriedIn). AttemptedLines alone t (record { trial = Accepted; position = positionAt alone position }) a)
-      (sym (ap (λ (xs : List PlainLine). triedIn position xs size a room) (lines-end ns at h)) ∙ w .rest) (tried-all alone position size room a)
+  abbrev whole : TriedIn
+  whole = triedIn 1 (linesIn ns) size a₀ room
+
+  -- no line is left
+  pub walk-ended : (alone : Bool) (x : Attempt) → x ≡ record { trial = Accepted; position = positionAt alone position } → length ns ≤ at → AttemptedLines alone whole x a
+  unfolding triedIn
+  walk-ended alone x is h = ended-so alone x Accepted position is accepted refl a a refl whole
+      (sym (ap (λ (xs : List PlainLine). triedIn position xs size a room) (lines-end ns at h)) ∙ w .rest)
 
   -- the line at the place is tried
   module _ (more : at < length ns) (l : BatchLine) (here : l ≡ headLine (drop at ns)) (r : Trial) (a′ : Arrays) (e : AttemptedLine (lineIn l) position size room a r a′) where
-    next : triedIn position (lineIn l ∷ linesIn (drop (at + 3) ns)) size a room ≡ triedIn 1 (linesIn ns) size a₀ room
+    next : triedIn position (lineIn l ∷ linesIn (drop (at + 3) ns)) size a room ≡ whole
     next = sym (ap (λ (xs : List PlainLine). triedIn position xs size a room)
         (lines-next ns at more ∙ ap (λ (k : BatchLine). lineIn k ∷ linesIn (drop (at + 3) ns)) (sym here))) ∙ w .rest
 
-    pub walk-stopped : (alone : Bool) → isRefused r ≡ true → AttemptedLines alone (triedIn 1 (linesIn ns) size a₀ room) (record { trial = r; position = positionAt alone position }) a′
-    walk-stopped alone z =
+    pub walk-stopped : (alone : Bool) (x : Attempt) → x ≡ record { trial = r; position = positionAt alone position } → isRefused r ≡ true → AttemptedLines alone whole x a′
+    walk-stopped alone x is z =
         let n = refused-is r z in
         let trial : lineTrialIn position (lineIn l) size a room ≡ refused (n .0) = tried-refused _ (n .0) (sym (n .1) ∙ e .trial-is) in
-        subst (λ (t : TriedIn). AttemptedLines alone t (record { trial = r; position = positionAt alone position }) a′)
+        ended-so alone x r position is (refused (n .0)) (n .1) a a′ (e .unfiled (n .0) (n .1)) whole
         (sym (tried-stop position (lineIn l) (linesIn (drop (at + 3) ns)) size a room (n .0) trial) ∙ next)
-        (record { trial-is = n .1; position-is = refl; arrays-are = e .unfiled (n .0) (n .1) })
 
     pub walk-on : isRefused r ≡ false → Walked ns size room a₀ (at + 3) (position + 1) a′
     walk-on z =
-        let yes-is : r ≡ Accepted = accepted-is r z in
-        let trial : lineTrialIn position (lineIn l) size a room ≡ accepted = tried-accepted _ (sym (e .trial-is) ∙ yes-is) in
+        let fine : r ≡ Accepted = accepted-is r z in
+        let trial : lineTrialIn position (lineIn l) size a room ≡ accepted = tried-accepted _ (sym (e .trial-is) ∙ fine) in
         let small : position ≤ 64 = early position (lineIn l) size a room trial in
         record {
           rest =
-              (λ j. triedIn (add-one position j) (linesIn (drop (at + 3) ns)) size (e .filed yes-is j) room)
+              (λ j. triedIn (add-one position j) (linesIn (drop (at + 3) ns)) size (e .filed fine j) room)
               ∙ sym (tried-on position (lineIn l) (linesIn (drop (at + 3) ns)) size a room trial) ∙ next;
-          tabled = line-tabled (lineIn l) size a a′ (e .filed yes-is) (w .tabled);
+          tabled = line-tabled (lineIn l) size a a′ (e .filed fine) (w .tabled);
           place = omega (arith, w .place);
           few = omega arith;
         }
@@ -330,12 +338,10 @@ module _ (alone : Bool) (xs : List PlainLine) (size : ℕ) (a : Arrays) (room : 
   call-stop n e = rw (e, callTriedIn)
 
   module _ (r : Trial) (e : r ≡ tried (aheadTrial alone size room)) where
-    pub call-stopped : isRefused r ≡ true → AttemptedLines alone (callTriedIn alone xs size a room) (record { trial = r; position = positionAt alone 0 }) a
-    call-stopped z =
+    pub call-stopped : (x : Attempt) → x ≡ record { trial = r; position = positionAt alone 0 } → isRefused r ≡ true → AttemptedLines alone (callTriedIn alone xs size a room) x a
+    call-stopped x is z =
         let n = refused-is r z in
-        subst⁻¹ (λ (t : TriedIn). AttemptedLines alone t (record { trial = r; position = positionAt alone 0 }) a)
-        (call-stop (n .0) (tried-refused _ (n .0) (sym (n .1) ∙ e)))
-        (record { trial-is = n .1; position-is = refl; arrays-are = refl })
+        ended-so alone x r 0 is (refused (n .0)) (n .1) a a refl (callTriedIn alone xs size a room) (sym (call-stop (n .0) (tried-refused _ (n .0) (sym (n .1) ∙ e))))
 
     pub call-tried : isRefused r ≡ false → (x : Attempt) (a′ : Arrays) → AttemptedLines alone (triedIn 1 xs size a room) x a′ → AttemptedLines alone (callTriedIn alone xs size a room) x a′
     call-tried z x a′ w = subst⁻¹ (λ (t : TriedIn). AttemptedLines alone t x a′) (call-on (tried-accepted _ (sym e ∙ accepted-is r z))) w

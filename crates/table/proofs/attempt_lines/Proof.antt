@@ -1,72 +1,77 @@
+-- `attempt_lines` meets its contract: what is left of the lines comes to what all of them come to. Assumes nothing.
+use Prim.Native.Nat.{_-_}
+use mathlib.Core.Path.{_≡_, sym, _∙_}
+use native.Mathlib.Omega.{arith}
+use denote.Ref.{now}
+use borrow.Author.Needs.{needs}
+use Rattle.table.specs.Trials.{arraysOf}
+use Rattle.table.specs.Batches.{numbersIn, endIn}
+use Rattle.table.proofs.Batches.{numbers-length, Walked, walk-begun, walk-ended, walk-stopped, walk-on}
 use Rattle.table.proofs.attempt_lines.Statement.{statement}
 use Rattle.table.proofs.attempt_lines.Tie as tie
-use Rattle.table.proofs.attempt_lines.Reads as reads
-use Rattle.table.proofs.attempt_lines.Lts as lts
-use Rattle.table.proofs.attempt_line.Reads as attempt-line-reads
-use Rattle.table.proofs.ended.Reads as ended-reads
-use Rattle.table.proofs.is_refused.Reads as is-refused-reads
-use Rattle.table.proofs.line_at.Reads as line-at-reads
-use Rattle.table.proofs.lines_end.Reads as lines-end-reads
 
 abbrev Inv-loop : tie.InvT-loop
 Inv-loop alone only lines size targets₀ starts₀ words₀ room end at₀ position₀ targets starts words at position =
-    ?
+    Walked (numbersIn alone only lines) size room (arraysOf targets₀ starts₀ words₀) at position (arraysOf targets starts words)
 
 abbrev μ-loop : tie.MeasureT-loop
-μ-loop alone only lines size targets₀ starts₀ words₀ room end at₀ position₀ targets starts words at position =
-    ?
+μ-loop alone only lines size targets₀ starts₀ words₀ room end at₀ position₀ targets starts words at position = end - at
 
--- src/lib.rt:522:9
 lines-end-requires : tie.Need-lines-end-requires Inv-loop μ-loop
-lines-end-requires c κs = ?
+lines-end-requires c κs = search needs
 
--- src/lib.rt:525:5
 loop-holds : tie.Need-loop-holds Inv-loop μ-loop
-loop-holds c = ?
+loop-holds c = walk-begun _ _ _ _ (c .before .before .pre)
 
--- src/lib.rt:526:13
 line-at-requires : tie.Need-line-at-requires Inv-loop μ-loop
-line-at-requires c κs = ?
+line-at-requires c κs =
+    let s = c .before .before in
+    let a = s .before .before .args in
+    omega (arith, s .lines-end .ensures, numbers-length (a .alone) (a .only) (now (a .lines)))
 
--- src/lib.rt:527:13
 attempt-line-requires : tie.Need-attempt-line-requires Inv-loop μ-loop
-attempt-line-requires c κs = ?
+attempt-line-requires c κs = c .before .before .before .before .before .loop .inv .tabled
 
--- src/lib.rt:528:12
 is-refused-requires : tie.Need-is-refused-requires Inv-loop μ-loop
-is-refused-requires c κs = ?
+is-refused-requires c κs = search needs
 
--- src/lib.rt:529:13
 ended-requires : tie.Need-ended-requires Inv-loop μ-loop
-ended-requires c κs = ?
+ended-requires c κs = search needs
 
--- src/lib.rt:529:13
 returns : tie.Need-returns Inv-loop μ-loop
-returns c = ?
+returns c =
+    let t = c .before .before .before in
+    let p = t .before .before .before .before in
+    let k = p .before in
+    walk-stopped _ _ _ _ _ _ _ (k .before .loop .inv) (line-at-requires k (p .line-at .lifetimes)) (p .line-at .result) (p .line-at .ensures) (t .attempt-line .result) _ (t .attempt-line .ensures)
+    _ _ (c .ended .ensures) (sym (c .before .before .is-refused .ensures) ∙ c .before .if1 .taken)
 
--- src/lib.rt:531:9
 add-at : tie.Need-add-at Inv-loop μ-loop
-add-at c = ?
+add-at c = omega arith
 
--- src/lib.rt:532:9
 add-position : tie.Need-add-position Inv-loop μ-loop
-add-position c = ?
+add-position c = omega arith
 
--- src/lib.rt:525:5
 loop-less : tie.Need-loop-less Inv-loop μ-loop
-loop-less c = ?
+loop-less c = omega arith
 
--- src/lib.rt:525:5
 loop-again : tie.Need-loop-again Inv-loop μ-loop
-loop-again c = ?
+loop-again c =
+    let t = c .before .before in
+    let p = t .before .before .before .before in
+    let k = p .before in
+    walk-on _ _ _ _ _ _ _ (k .before .loop .inv) (line-at-requires k (p .line-at .lifetimes)) (p .line-at .result) (p .line-at .ensures) (t .attempt-line .result) _ (t .attempt-line .ensures)
+    (sym (c .before .is-refused .ensures) ∙ c .if1 .left)
 
--- src/lib.rt:534:5
 ended-requires-2 : tie.Need-ended-requires-2 Inv-loop μ-loop
-ended-requires-2 c κs = ?
+ended-requires-2 c κs = search needs
 
--- src/lib.rt:509:1
 returns-2 : tie.Need-returns-2 Inv-loop μ-loop
-returns-2 c = ?
+returns-2 c =
+    let k = c .before in
+    let s = k .before .before in
+    let a = s .before .before .args in
+    walk-ended _ _ _ _ _ _ _ (k .before .loop .inv) _ _ (c .ended2 .ensures) (omega (arith, k .loop-test .left, s .lines-end .ensures, numbers-length (a .alone) (a .only) (now (a .lines))))
 
 pub attempt-lines-spec : {M : Type 1} → statement M
 attempt-lines-spec =
