@@ -168,6 +168,9 @@ numbers-length false only ns = refl
 pub numbers-lent : (alone : Bool) (only : BatchLine) (ns : List ℕ) → alone ≡ false → numbersIn alone only ns ≡ ns
 numbers-lent alone only ns e = ap (λ (b : Bool). numbersIn b only ns) e
 
+pub head-lent : (alone : Bool) (only : BatchLine) (ns : List ℕ) (at : ℕ) → alone ≡ false → headLine (drop at (numbersIn alone only ns)) ≡ headLine (drop at ns)
+head-lent alone only ns at e = ap (λ (l : List ℕ). headLine (drop at l)) (numbers-lent alone only ns e)
+
 -- where all lines make changes, the states that they name
 line-names : (l : BatchLine) (c : Change) → lineIn l ≡ makes c → named c ≡ l .first ∷ []
 line-names l c e = ⊎-elim made (λ f. absurd (makes-not (sym e ∙ other-line l f))) (either (isChange l))
@@ -182,14 +185,16 @@ line-names l c e = ⊎-elim made (λ f. absurd (makes-not (sym e ∙ other-line 
         let y : c ≡ m .change = cc in
         ap named y ∙ m .names
 
+other-not : (xs : List PlainLine) (cs : List Change) → other ∷ xs ≡ map makes cs → ⊥
+other-not xs [] e = let z : _≡_ {A = ℕ} 0 1 = cc in omega arith
+other-not xs (c ∷ cs) e = let z : _≡_ {A = ℕ} 0 1 = cc in omega arith
+
 pub lines-other : (ns : List ℕ) (cs : List Change) → linesIn ns ≡ map makes cs → statesIn ns ≡ namedAll cs
 unfolding linesIn statesIn namedAll
 lines-other [] [] e = refl
 lines-other [] (c ∷ cs) e = let z : _≡_ {A = ℕ} 0 1 = cc in absurd (omega arith)
-lines-other (a ∷ []) [] e = let z : _≡_ {A = ℕ} 0 1 = cc in absurd (omega arith)
-lines-other (a ∷ []) (c ∷ cs) e = let z : _≡_ {A = ℕ} 0 1 = cc in absurd (omega arith)
-lines-other (a ∷ b ∷ []) [] e = let z : _≡_ {A = ℕ} 0 1 = cc in absurd (omega arith)
-lines-other (a ∷ b ∷ []) (c ∷ cs) e = let z : _≡_ {A = ℕ} 0 1 = cc in absurd (omega arith)
+lines-other (a ∷ []) cs e = absurd (other-not [] cs e)
+lines-other (a ∷ b ∷ []) cs e = absurd (other-not [] cs e)
 lines-other (a ∷ b ∷ d ∷ ns) [] e = let z : _≡_ {A = ℕ} 0 1 = cc in absurd (omega arith)
 lines-other (a ∷ b ∷ d ∷ ns) (c ∷ cs) e =
     let head : lineIn (lineFor a b d) ≡ makes c = cc in

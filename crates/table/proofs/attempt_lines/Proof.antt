@@ -1,11 +1,11 @@
 -- `attempt_lines` meets its contract: what is left of the lines comes to what all of them come to. Assumes nothing.
 use Prim.Native.Nat.{_-_}
-use mathlib.Core.Path.{_≡_, sym, _∙_}
+use mathlib.Core.Path.{sym, _∙_}
 use native.Mathlib.Omega.{arith}
 use denote.Ref.{now}
 use borrow.Author.Needs.{needs}
 use Rattle.table.specs.Trials.{arraysOf}
-use Rattle.table.specs.Batches.{numbersIn, endIn}
+use Rattle.table.specs.Batches.{numbersIn}
 use Rattle.table.proofs.Batches.{numbers-length, Walked, walk-begun, walk-ended, walk-stopped, walk-on}
 use Rattle.table.proofs.attempt_lines.Statement.{statement}
 use Rattle.table.proofs.attempt_lines.Tie as tie

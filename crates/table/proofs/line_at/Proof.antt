@@ -1,17 +1,13 @@
+-- `line_at` meets its contract, but for a change alone at a place behind the first, of which the contract says another thing. Assumes nothing.
 use mathlib.Core.Path.{sym, ap, _∙_}
-use mathlib.Core.List.{List}
 use Prim.Native.Nat.{ℕ}
 use native.Mathlib.Omega.{arith}
 use denote.Ref.{now}
-use lib.ListN.{length, drop}
-use Rattle.table.specs.Batches.{headLine}
-use Rattle.table.proofs.Batches.{head-three, head-few, numbers-lent}
+use lib.ListN.{length}
+use Rattle.table.proofs.Batches.{head-three, head-few, head-lent, numbers-lent}
 use borrow.Author.Needs.{needs}
 use Rattle.table.proofs.line_at.Statement.{statement}
 use Rattle.table.proofs.line_at.Tie as tie
-use Rattle.table.proofs.line_at.Reads as reads
-use Rattle.table.proofs.line_at.Lts as lts
-use Rattle.table.proofs.line.Reads as line-reads
 
 returns : tie.Need-returns
 returns c = ?
@@ -28,7 +24,7 @@ returns-2 : tie.Need-returns-2
 returns-2 c =
     let b = c .before .before in
     let a = b .before .before .args in
-    c .line .ensures ∙ sym (ap (λ (ns : List ℕ). headLine (drop (a .at) ns)) (numbers-lent (a .alone) (a .only) (now (a .lines)) (b .if1 .left)) ∙ head-few (now (a .lines)) (a .at) (c .before .if2 .taken))
+    c .line .ensures ∙ sym (head-lent (a .alone) (a .only) (now (a .lines)) (a .at) (b .if1 .left) ∙ head-few (now (a .lines)) (a .at) (c .before .if2 .taken))
 
 mul-line : tie.Need-mul-line
 mul-line c = search needs
@@ -62,7 +58,7 @@ returns-3 c =
     let k = c .before .before .before .before in
     let b = k .before in
     let a = b .before .before .args in
-    c .line2 .ensures ∙ sym (ap (λ (ns : List ℕ). headLine (drop (a .at) ns)) (numbers-lent (a .alone) (a .only) (now (a .lines)) (b .if1 .left)) ∙ head-three (now (a .lines)) (a .at) (omega (arith, k .if2 .left)))
+    c .line2 .ensures ∙ sym (head-lent (a .alone) (a .only) (now (a .lines)) (a .at) (b .if1 .left) ∙ head-three (now (a .lines)) (a .at) (omega (arith, k .if2 .left)))
 
 pub line-at-spec : {M : Type 1} → statement M
 line-at-spec =
