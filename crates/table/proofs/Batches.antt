@@ -14,7 +14,7 @@ use Rattle.plain.specs.Table.{Table}
 use Rattle.plain.specs.Refusals.{Trial as PlainTrial, accepted, refused, firstHeld, badSize, roomCondition}
 use Rattle.plain.specs.Machine.{Change, add, cut, mark, unmark, named, namedAll, apply, applyAll, changesIn, conditions, changeTrial, lineConditions, linesTrial, batchTrial, BatchTrial, BatchLine as PlainLine, makes, other}
 use Rattle.plain.proofs.Tests.{contra, either, or-false, and-true}
-use Rattle.plain.proofs.Trials.{held-later, passed, passed-both}
+use Rattle.plain.proofs.Trials.{held-later, passed, last-free}
 use Rattle.plain.proofs.Tables.{Valid, valid-change, changed-size}
 use Rattle.plain.proofs.Batches.{batch-tried, batch-short, line-accepted, line-refused}
 use Rattle.rows.specs.Rows.{Tabled}
@@ -28,8 +28,8 @@ use Rattle.table.specs.declared.Attempt.{Attempt}
 use Rattle.table.specs.declared.BatchLine.{BatchLine}
 use Rattle.table.specs.Trials.{Arrays, opOf, tried, conditionsIn, trialIn}
 use Rattle.table.specs.Filing.{changeOf, filedIn, Attempted, Stored}
-use Rattle.table.specs.Batches.{lineFor, lineTo, lineIn, isChange, subjectIn, switchIn, linesIn, statesIn, headLine, numbersIn, endIn, opFor, lineTrialIn, filedLine, TriedIn, triedIn, aheadTrial, callTriedIn, isRefused, positionAt, AttemptedLine, AttemptedLines}
-use Rattle.table.proofs.Trying.{tried-accepted, tried-refused, stop, skip, free-behind}
+use Rattle.table.specs.Batches.{lineFor, lineTo, lineIn, isChange, subjectIn, switchIn, linesIn, statesIn, headLine, numbersIn, endIn, opFor, lineTrialIn, filedLine, TriedIn, triedIn, aheadTrial, callTriedIn, isRefused, positionAt, AttemptedLine, AttemptedLines, AttemptedCall}
+use Rattle.table.proofs.Trying.{tried-accepted, tried-refused, stop, skip}
 use Rattle.table.proofs.Filing.{not-accepted}
 use Rattle.table.proofs.Changing.{filed-tabled, conditions-same, trial-same, restored}
 
@@ -163,6 +163,10 @@ head-few ns at h = few-none (drop at ns) (omega (arith, length-drop at ns))
 pub numbers-length : (alone : Bool) (only : BatchLine) (ns : List ℕ) → length (numbersIn alone only ns) ≡ endIn alone ns
 numbers-length true only ns = refl
 numbers-length false only ns = refl
+
+-- a change alone is the line at their head
+pub only-first : (alone : Bool) (only : BatchLine) (ns : List ℕ) (at : ℕ) → alone ≡ true → at ≡ 0 → only ≡ headLine (drop at (numbersIn alone only ns))
+only-first alone only ns at e z = λ i. headLine (drop (sym z i) (numbersIn (sym e i) only ns))
 
 -- a batch's are those of the lent list
 pub numbers-lent : (alone : Bool) (only : BatchLine) (ns : List ℕ) → alone ≡ false → numbersIn alone only ns ≡ ns
@@ -351,6 +355,33 @@ module _ (alone : Bool) (xs : List PlainLine) (size : ℕ) (a : Arrays) (room : 
     pub call-tried : isRefused r ≡ false → (x : Attempt) (a′ : Arrays) → AttemptedLines alone (triedIn 1 xs size a room) x a′ → AttemptedLines alone (callTriedIn alone xs size a room) x a′
     call-tried z x a′ w = subst⁻¹ (λ (t : TriedIn). AttemptedLines alone t x a′) (call-on (tried-accepted _ (sym e ∙ accepted-is r z))) w
 
+-- a call that was tried: where a line was refused the arrays are those of before, else those that the lines leave
+pub call-made : (alone : Bool) (w : TriedIn) (a a′ a″ : Arrays) (x : Attempt) → AttemptedLines alone w x a′ → (isRefused (x .trial) ≡ false → a″ ≡ a′) → (isRefused (x .trial) ≡ true → a″ ≡ a)
+    → AttemptedCall alone w a x a″
+call-made alone w a a′ a″ x l made back = record {
+  trial-is = l .trial-is;
+  position-is = l .position-is;
+  filed = λ e. made (ap isRefused e) ∙ l .arrays-are;
+  unfiled = λ n e. back (ap isRefused e);
+}
+
+-- of a change alone nothing is made where it is refused
+alone-unfiled : (x : PlainLine) (size : ℕ) (a : Arrays) (room : ℕ) → isRefused (tried (triedIn 1 (x ∷ []) size a room .trial)) ≡ true → triedIn 1 (x ∷ []) size a room .arrays ≡ a
+unfolding triedIn
+alone-unfiled x size a room e = by-trial (lineTrialIn 1 x size a room) refl
+  where
+    by-trial : (w : PlainTrial) → lineTrialIn 1 x size a room ≡ w → triedIn 1 (x ∷ []) size a room .arrays ≡ a
+    by-trial accepted k = absurd (contra (ap (λ (t : TriedIn). isRefused (tried (t .trial))) (sym (tried-on 1 x [] size a room k)) ∙ e) refl)
+    by-trial (refused n) k = ap (λ (t : TriedIn). t .arrays) (tried-stop 1 x [] size a room n k)
+
+pub call-alone : (alone : Bool) (only : BatchLine) (ns : List ℕ) (size : ℕ) (a : Arrays) (room : ℕ) (x : Attempt) (a′ : Arrays) → alone ≡ true
+    → AttemptedLines alone (triedIn 1 (linesIn (numbersIn alone only ns)) size a room) x a′ → isRefused (x .trial) ≡ true → a′ ≡ a
+unfolding linesIn
+call-alone alone only ns size a room x a′ z w e = by-alone (subst (λ (b : Bool). AttemptedLines b (triedIn 1 (linesIn (numbersIn b only ns)) size a room) x a′) z w)
+  where
+    by-alone : AttemptedLines true (triedIn 1 (lineIn only ∷ []) size a room) x a′ → a′ ≡ a
+    by-alone w = w .arrays-are ∙ alone-unfiled (lineIn only) size a room (ap isRefused (sym (w .trial-is)) ∙ e)
+
 -- the arrays of the rows keep their lengths
 lines-tabled : (i : ℕ) (xs : List PlainLine) (size : ℕ) (a : Arrays) (room : ℕ) → TabledIn a → TabledIn (triedIn i xs size a room .arrays)
 unfolding triedIn
@@ -393,11 +424,11 @@ module _ (t : Table) (v : Valid t) (a : Arrays) (f : Stored t a) (c : Change) (r
     line-same =
         let own : conditionsIn (opFor c) (t .size) a ≡ conditions c t = conditions-same t a f (opFor c) ∙ ap (λ (d : Change). conditions d t) (change-back c) in
         (λ j. firstHeld ((15, ltb 64 i) ∷ (own j ++ roomCondition (t .size) room)))
-        ∙ free-behind ((15, ltb 64 i) ∷ conditions c t) (roomCondition (t .size) room) roomy
+        ∙ last-free ((15, ltb 64 i) ∷ conditions c t) (roomCondition (t .size) room) roomy
 
     line-change : firstHeld (lineConditions i (makes c) t) ≡ accepted → changeTrial c t room ≡ accepted
     unfolding lineConditions changeTrial
-    line-change e = passed-both (conditions c t) (roomCondition (t .size) room) (passed 15 _ (conditions c t) e .1) roomy
+    line-change e = last-free (conditions c t) (roomCondition (t .size) room) roomy ∙ passed 15 _ (conditions c t) e .1
 
     agree-line : (xs : List PlainLine)
         → (changeTrial c t room ≡ accepted → Agrees (applyAll (changesIn xs) (apply c t)) (triedIn (suc i) xs (t .size) (filedIn (opFor c) (t .size) a) room) (linesTrial (suc i) xs (apply c t)))

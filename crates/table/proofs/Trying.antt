@@ -71,12 +71,6 @@ free-before (c ∷ cs) ds e =
     let p = free (c .0) (c .1) cs (sym e) in
     skip (tried (firstHeld ds)) (c .0) (c .1) (cs ++ ds) (p .0) (free-before cs ds (sym (p .1)))
 
--- where none of the last conditions holds, the others decide
-pub free-behind : (cs ds : List Condition) → firstHeld ds ≡ accepted → firstHeld (cs ++ ds) ≡ firstHeld cs
-unfolding firstHeld
-free-behind [] ds e = e
-free-behind (c ∷ cs) ds e = ap (λ (w : PlainTrial). elim (c .1) [ true ↦ refused (c .0) | false ↦ w ]) (free-behind cs ds e)
-
 -- ---- conditions of a load
 
 module _ (n : ℕ) where

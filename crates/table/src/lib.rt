@@ -1,6 +1,7 @@
 // The game's table in its arrays: calls are tried on it, and accepted ones are filed in its rows and its marks. No search.
 use rows::wide;
 ghost use mathlib.Core.Path.{_≡_};
+ghost use mathlib.Core.Bool.{true};
 ghost use Prim.Native.Nat.{_<_};
 ghost use lib.ListN.{length, drop};
 ghost use Rattle.plain.specs.Lists.{any};
@@ -436,7 +437,7 @@ pub fn named_by(switch: Switch) -> u16
 
 // The line at a place in the list of a call: a change alone is the only one.
 pub fn line_at(alone: bool, only: BatchLine, lines: &[u16], at: usize) -> BatchLine
-    requires { ⌜ at < length (numbersIn alone only (now lines)) ⌝ }
+    requires { ⌜ (at < length (numbersIn alone only (now lines))) × (alone ≡ true → at ≡ 0) ⌝ }
     ensures { λ r. ⌜ r ≡ headLine (drop at (numbersIn alone only (now (lines .entry)))) ⌝ }
 {
     if alone {

@@ -1,11 +1,12 @@
 -- `attempt_lines` meets its contract: what is left of the lines comes to what all of them come to. Assumes nothing.
 use Prim.Native.Nat.{_-_}
-use mathlib.Core.Path.{sym, _∙_}
+use mathlib.Core.Path.{sym, ap, _∙_}
+use mathlib.Core.Bool.{Bool}
 use native.Mathlib.Omega.{arith}
 use denote.Ref.{now}
 use borrow.Author.Needs.{needs}
 use Rattle.table.specs.Trials.{arraysOf}
-use Rattle.table.specs.Batches.{numbersIn}
+use Rattle.table.specs.Batches.{numbersIn, endIn}
 use Rattle.table.proofs.Batches.{numbers-length, Walked, walk-begun, walk-ended, walk-stopped, walk-on}
 use Rattle.table.proofs.attempt_lines.Statement.{statement}
 use Rattle.table.proofs.attempt_lines.Tie as tie
@@ -26,8 +27,10 @@ loop-holds c = walk-begun _ _ _ _ (c .before .before .pre)
 line-at-requires : tie.Need-line-at-requires Inv-loop μ-loop
 line-at-requires c κs =
     let s = c .before .before in
-    let a = s .before .before .args in
-    omega (arith, s .lines-end .ensures, numbers-length (a .alone) (a .only) (now (a .lines)))
+    let a = s .before .before .args in (
+      omega (arith, s .lines-end .ensures, numbers-length (a .alone) (a .only) (now (a .lines))),
+      λ e. omega (arith, c .before .loop .inv .place, s .lines-end .ensures, ap (λ (b : Bool). endIn b (now (a .lines))) e),
+    )
 
 attempt-line-requires : tie.Need-attempt-line-requires Inv-loop μ-loop
 attempt-line-requires c κs = c .before .before .before .before .before .loop .inv .tabled
@@ -43,7 +46,7 @@ returns c =
     let t = c .before .before .before in
     let p = t .before .before .before .before in
     let k = p .before in
-    walk-stopped _ _ _ _ _ _ _ (k .before .loop .inv) (line-at-requires k (p .line-at .lifetimes)) (p .line-at .result) (p .line-at .ensures) (t .attempt-line .result) _ (t .attempt-line .ensures)
+    walk-stopped _ _ _ _ _ _ _ (k .before .loop .inv) (line-at-requires k (p .line-at .lifetimes) .0) (p .line-at .result) (p .line-at .ensures) (t .attempt-line .result) _ (t .attempt-line .ensures)
     _ _ (c .ended .ensures) (sym (c .before .before .is-refused .ensures) ∙ c .before .if1 .taken)
 
 add-at : tie.Need-add-at Inv-loop μ-loop
@@ -60,7 +63,7 @@ loop-again c =
     let t = c .before .before in
     let p = t .before .before .before .before in
     let k = p .before in
-    walk-on _ _ _ _ _ _ _ (k .before .loop .inv) (line-at-requires k (p .line-at .lifetimes)) (p .line-at .result) (p .line-at .ensures) (t .attempt-line .result) _ (t .attempt-line .ensures)
+    walk-on _ _ _ _ _ _ _ (k .before .loop .inv) (line-at-requires k (p .line-at .lifetimes) .0) (p .line-at .result) (p .line-at .ensures) (t .attempt-line .result) _ (t .attempt-line .ensures)
     (sym (c .before .is-refused .ensures) ∙ c .if1 .left)
 
 ended-requires-2 : tie.Need-ended-requires-2 Inv-loop μ-loop

@@ -1,21 +1,23 @@
--- `line_at` meets its contract, but for a change alone at a place behind the first, of which the contract says another thing. Assumes nothing.
+-- `line_at` meets its contract. Assumes nothing.
 use mathlib.Core.Path.{sym, ap, _∙_}
 use Prim.Native.Nat.{ℕ}
 use native.Mathlib.Omega.{arith}
 use denote.Ref.{now}
 use lib.ListN.{length}
-use Rattle.table.proofs.Batches.{head-three, head-few, head-lent, numbers-lent}
+use Rattle.table.proofs.Batches.{head-three, head-few, head-lent, numbers-lent, only-first}
 use borrow.Author.Needs.{needs}
 use Rattle.table.proofs.line_at.Statement.{statement}
 use Rattle.table.proofs.line_at.Tie as tie
 
 returns : tie.Need-returns
-returns c = ?
+returns c =
+    let a = c .before .before .args in
+    only-first (a .alone) (a .only) (now (a .lines)) (a .at) (c .if1 .taken) (c .before .before .pre .1 (c .if1 .taken))
 
 sub-if2 : tie.Need-sub-if2
 sub-if2 c =
     let a = c .before .before .args in
-    omega (arith, c .before .before .pre, ap (length {A = ℕ}) (numbers-lent (a .alone) (a .only) (now (a .lines)) (c .if1 .left)))
+    omega (arith, c .before .before .pre .0, ap (length {A = ℕ}) (numbers-lent (a .alone) (a .only) (now (a .lines)) (c .if1 .left)))
 
 line-requires : tie.Need-line-requires
 line-requires c κs = search needs
