@@ -172,6 +172,10 @@ module _ (t : Table) (v : Valid t) where
   abbrev pub Taken : Table → Type 0
   Taken u = (x : ℕ) → Shared (searched t) (searched u) (run (searched t) (budget t)) x
 
+  -- the table itself
+  pub taken-here : Taken t
+  taken-here x = shared-equal (searched t) (searched t) (run (searched t) (budget t)) x refl refl
+
   pub passed-step : (b : Change) (u : Table) → passedOver b t ≡ true → Taken u → Taken (apply b u)
   unfolding final
   passed-step b u e s x = ⊎-elim (λ k. unexplored-step t v b u k s x) (λ k. unmet (untrue (meets (named b) (final t)) k)) (passed-cases b t e)
@@ -182,7 +186,7 @@ module _ (t : Table) (v : Valid t) where
           (not-in x (discoveredOf (run (searched t) (budget t))) (λ j. contra (any-in (λ s. elem s (discoveredOf (run (searched t) (budget t)))) x (named b) i j) f)))
           (λ o. other-step t v b u x o (s x)) (either (elem x (named b)))
 
-  pub passed-all : (cs : List Change) (u : Table) → all (λ c. passedOver c t) cs ≡ true → Taken u → Taken (applyAll cs u)
+  passed-all : (cs : List Change) (u : Table) → all (λ c. passedOver c t) cs ≡ true → Taken u → Taken (applyAll cs u)
   unfolding all applyAll
   passed-all [] u e s = s
   passed-all (c ∷ cs) u e s =
@@ -269,7 +273,7 @@ update-room (batch xs) t room e = ltb-false room (t .size) (unheld 11 _ (batch-r
 pub keeps-shared : (u : Update) (t : Table) → Valid t → keepsAll u t ≡ true → (x : ℕ) → Shared (searched t) (searched (applied u t)) (run (searched t) (budget t)) x
 unfolding keepsAll applied
 keeps-shared (single c) t v e = unexplored-shared t v c e
-keeps-shared (batch xs) t v e = passed-all t v (changesIn xs) t e (λ x. shared-equal (searched t) (searched t) (run (searched t) (budget t)) x refl refl)
+keeps-shared (batch xs) t v e = passed-all t v (changesIn xs) t e (taken-here t v)
 
 -- ---- "refusal 7 no longer occurs"
 

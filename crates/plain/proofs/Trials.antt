@@ -22,7 +22,7 @@ Condition = ℕ × Bool
 abbrev holds : Condition → Bool
 holds c = c .1
 
-held-first : (c : Condition) (cs : List Condition) → c .1 ≡ true → firstHeld (c ∷ cs) ≡ refused (c .0)
+pub held-first : (c : Condition) (cs : List Condition) → c .1 ≡ true → firstHeld (c ∷ cs) ≡ refused (c .0)
 unfolding firstHeld
 held-first c cs e = rw (e, firstHeld)
 

@@ -1,28 +1,28 @@
--- An accepted change: the session that it returns holds the changed table, and the answer and the walk are the plain table's. Assumes nothing.
+-- An accepted call: the session that it returns holds the changed table, and the answer and the walk are the plain table's. Assumes nothing.
 use mathlib.Core.Path.{_≡_, refl, sym, ap, subst, subst⁻¹, _∙_}
 use mathlib.Core.Logic.{_≢_, inl, inr, ⊎-elim}
-use mathlib.Core.Bool.{true, false, cond}
-use mathlib.Core.List.{List, [], _∷_}
-use Prim.Native.Nat.{ℕ, suc, _+_, _-_, _≤_}
+use mathlib.Core.Bool.{Bool, true, false, cond}
+use mathlib.Core.List.{List, [], _∷_, map}
+use Prim.Native.Nat.{ℕ, suc, _+_, _-_, _≤_, _<_}
 use native.Mathlib.Nat.{add-zero}
 use native.Mathlib.Omega.{arith}
-use lib.ListN.{length, getD}
-use borrow.Author.Tests.{le-leb}
-use Rattle.plain.specs.Lists.{elem, In}
+use lib.ListN.{length, getD, take}
+use lib.Seq.{take-all}
+use Rattle.plain.specs.Lists.{all, elem, In}
 use Rattle.plain.specs.Search.{Graph, Frame, frame, Config, outer, nested, exhausted, found, discoveredOf, meets, run, Verdict as PlainVerdict, unfinished, verdict, count}
 use Rattle.plain.specs.Unexplored.{bareFrames, bare}
 use Rattle.plain.specs.Table.{Table, searched, final}
-use Rattle.plain.specs.Refusals.{Trial, accepted, refused, beyond}
-use Rattle.plain.specs.Machine.{Change, named, apply, unexplored, keptPart, kept, Answer as PlainAnswer, refusal, numbered, answer, changeTrial, trialOf, answerTo, tableAfter, changeAnswer, after, written, answerLine}
+use Rattle.plain.specs.Refusals.{Trial, accepted, refused}
+use Rattle.plain.specs.Machine.{BatchLine as PlainLine, makes, Update as PlainUpdate, applied, namedBy, updateTrial, Position as PlainPosition, positionIn, passedOver, keepsAll, keptPart, kept, Answer as PlainAnswer, refusal, answer, trialOf, answerTo, tableAfter, written, answerLine}
 use Rattle.plain.specs.Notes.{Note, Notes, Faithful}
-use Rattle.plain.specs.Claims.{changed}
-use Rattle.plain.proofs.Tests.{either, in-one}
-use Rattle.plain.proofs.Restore.{noted-run}
-use Rattle.plain.proofs.Prefix.{meets-one, unmet-one}
-use Rattle.plain.proofs.Rows.{agree}
-use Rattle.plain.proofs.Tables.{Valid, valid, valid-change, room-enough, changed-size, changed-start}
+use Rattle.plain.proofs.Tests.{either, in-one, any-some}
+use Rattle.plain.proofs.Prefix.{FirstMeeting}
+use Rattle.plain.proofs.Resume.{earliest}
+use Rattle.plain.proofs.Tables.{Valid, valid}
 use Rattle.plain.proofs.SameRun.{alike, alike-discovered, alike-marked, alike-probes, alike-verdict}
-use Rattle.plain.proofs.Demands.{run-final, verdict-right, kept-explored, Untouched, change-same, change-met}
+use Rattle.plain.proofs.Batches.{taken-here, changesOf, Made, update-made, update-valid, update-arises, update-size, update-start, update-agree, update-room}
+use Rattle.plain.proofs.Demands.{run-final, verdict-right, kept-meeting, Untouched, update-same, update-met}
+use Rattle.plain.proofs.OneByOne.{answer-accepted, table-accepted, answer-refused, table-refused}
 use Rattle.look.specs.Numbers.{noNumber, plus}
 use Rattle.look.proofs.Counting.{plus-more}
 use Rattle.search.specs.Core.{Result}
@@ -30,43 +30,38 @@ use Rattle.search.specs.Archive.{rootOf, notesOf, Archived}
 use Rattle.search.proofs.Scans.{ran-from}
 use Rattle.search.proofs.Ended.{rewound-spent}
 use Rattle.search.proofs.Resumed.{Small, resume-fits, limits}
-use Rattle.table.specs.declared.Op.{Op}
-use Rattle.table.specs.declared.Op.the-variants.{Add, Cut, Mark, Unmark}
-use Rattle.table.specs.declared.Switch.{Switch}
+use Rattle.table.specs.declared.Update.{Update}
+use Rattle.table.specs.declared.BatchLine.{BatchLine}
 use Rattle.session.specs.declared.Session.{Session}
 use Rattle.session.specs.declared.Settled.{Settled}
 use Rattle.session.specs.declared.Resumption.{Resumption}
 use Rattle.session.specs.declared.Resumption.the-variants.{Nowhere, At}
 use Rattle.session.specs.declared.Verdict.{Verdict}
-use Rattle.table.specs.Trials.{Arrays, opOf, addConditions, cutConditions, markConditions, unmarkConditions, trialIn}
-use Rattle.table.specs.Filing.{changeOf, namedBy, filedIn, Stored}
-use Rattle.session.specs.Model.{Records, recordsOf, recordsIn, arraysHeld, gameIn, resumptionOf, backAt, Sought, verdictOf, sessionOf, refusing, answerIs, shownWalk, Settles, ChangedIn}
-use Rattle.session.specs.Promises.{shown, Tells, heightOf, Holds, Changes}
-use Rattle.table.proofs.Pairs.{outside-from}
-use Rattle.table.proofs.Trying.{tried-refused, stop}
-use Rattle.session.proofs.Held.{size-few, small, trial-here}
-use Rattle.table.proofs.Changing.{named-below, restored}
+use Rattle.session.specs.declared.Answer.the-variants.{Refused}
+use Rattle.table.specs.Trials.{Arrays}
+use Rattle.table.specs.Filing.{Stored}
+use Rattle.table.specs.Batches.{linesIn, statesIn, numbersIn, TriedIn, callTriedIn, positionAt}
+use Rattle.table.proofs.Batches.{lines-other}
+use Rattle.session.specs.Model.{Records, recordsOf, recordsIn, arraysHeld, gameIn, allPassedOver, namedMost, earliestOf, resumptionOf, backAt, Sought, verdictOf, sessionOf, refusing, answerIs, shownWalk, Settles, isAlone, onlyLine, UpdatedIn}
+use Rattle.session.specs.Promises.{positionOf, shown, Tells, heightOf, Holds, updateOf, callOf, withoutGame, Updates}
+use Rattle.session.proofs.Held.{size-few, small}
 use Rattle.session.proofs.Told.{tells-answer, tells-written, tells-fits, never-refused}
 use Rattle.session.proofs.Sought.{matches, Reached, reached}
-use Rattle.session.proofs.Resuming.{nowhere-unmet, nowhere-unexplored, at-explored, decided}
-
-named-one : (op : Op) → named (changeOf op) ≡ namedBy op ∷ []
-unfolding named
-named-one (Add from to) = refl
-named-one (Cut from to) = refl
-named-one (Mark state) = refl
-named-one (Unmark state) = refl
+use Rattle.session.proofs.Asking.{Asks, asked-so}
+use Rattle.session.proofs.FirstMet.{earliest-is}
+use Rattle.session.proofs.Lines.{resumption-nowhere, resumption-earliest}
+use Rattle.session.proofs.Resuming.{all-inside, all-named, numbered-met, numbered-unmet, all-decided}
 
 -- what the new records are worth for the changed table
-record Worth (c : Change) (t : Table) (v : Verdict) (a : Records) : Type 0 where
+record Worth (u : PlainUpdate) (t : Table) (v : Verdict) (a : Records) : Type 0 where
   steps : ℕ
-  ended : verdict (run (searched (apply c t)) steps) ≢ unfinished
-  archive : Archived (searched (apply c t)) steps (a .number) (a .parent) (a .index) (a .probes) (a .stamp) (a .walk)
-  tells : Tells (v .stem) (v .length) (a .walk) (verdict (final (apply c t)))
-  height-is : v .height ≡ heightOf (final (apply c t))
-  kept-is : v .kept ≡ kept c t
-  adds-up : v .kept + v .spent ≡ count (final (apply c t))
-  total-is : plus (v .kept) (v .spent) ≡ count (final (apply c t))
+  ended : verdict (run (searched (applied u t)) steps) ≢ unfinished
+  archive : Archived (searched (applied u t)) steps (a .number) (a .parent) (a .index) (a .probes) (a .stamp) (a .walk)
+  tells : Tells (v .stem) (v .length) (a .walk) (verdict (final (applied u t)))
+  height-is : v .height ≡ heightOf (final (applied u t))
+  kept-is : v .kept ≡ kept u t
+  adds-up : v .kept + v .spent ≡ count (final (applied u t))
+  total-is : plus (v .kept) (v .spent) ≡ count (final (applied u t))
 
 -- ---- the same run on another graph
 
@@ -113,75 +108,96 @@ oldOf s = record { stem = s .stem; length = s .length; height = s .height; spent
 abbrev recordsHeld : Session → Records
 recordsHeld s = recordsOf (s .number) (s .parent) (s .index) (s .probes) (s .stamp) (s .walk)
 
--- where a session's search is taken up for a change
-abbrev takenUp : Op → Session → Resumption
-takenUp op s = resumptionOf op (arraysHeld s .rows) (s .number) (s .index) (s .walk) (s .height)
+-- where a session's search is taken up for the lines of a call, given as numbers
+abbrev takenUp : List ℕ → Session → Resumption
+takenUp ns s = resumptionOf ns (arraysHeld s .rows) (s .number) (s .index) (s .walk) (s .height)
 
-module _ (op : Op) (s : Session) (b : Arrays) (a : Records) (v : Verdict) (new : b ≡ filedIn op (s .size) (arraysHeld s))
-    (sought : Sought (gameIn b) (s .size) (s .start) (takenUp op s) (oldOf s) (recordsHeld s) v a)
-    (t : Table) (h : Holds s t) (room : ℕ) (yes-it-is : changeTrial (changeOf op) t room ≡ accepted) where
-  abbrev from : ℕ
-  from = namedBy op
+module _ (ns : List ℕ) (s : Session) where
+  abbrev allPassed : Bool
+  allPassed = allPassedOver (linesIn ns) (arraysHeld s .rows) (s .number) (s .index) (s .walk) (s .height)
 
-  abbrev c : Change
-  c = changeOf op
-
+-- an accepted call: its lines as numbers, and the arrays that hold the table which it leaves
+module _ (u : PlainUpdate) (ns : List ℕ) (s : Session) (b : Arrays) (a : Records) (v : Verdict)
+    (sought : Sought (gameIn b) (s .size) (s .start) (takenUp ns s) (oldOf s) (recordsHeld s) v a)
+    (t : Table) (h : Holds s t) (room : ℕ) (yes-it-is : updateTrial u t room ≡ accepted) (lines-are : linesIn ns ≡ map makes (changesOf u)) (stored-new : Stored (applied u t) b) where
   abbrev t′ : Table
-  t′ = apply c t
+  t′ = applied u t
 
   ok : Valid t
   ok = valid t (h .arises)
 
   ok′ : Valid t′
-  ok′ = valid-change c t room ok yes-it-is
+  ok′ = update-valid u t room ok yes-it-is
+
+  abbrev ran : Config
+  ran = run (searched t) (h .steps)
+
+  ran-final : ran ≡ final t
+  ran-final = run-final t ok (h .steps) (h .ended)
 
   r : Notes
-  r = notesOf (run (searched t) (h .steps)) (s .number) (s .parent) (s .index) (s .probes) (s .stamp)
-
-  stored-new : Stored t′ b
-  stored-new = restored t (arraysHeld s) (h .stored) b ok op room yes-it-is (new ∙ ap (λ (n : ℕ). filedIn op n (arraysHeld s)) (h .size-is))
+  r = notesOf ran (s .number) (s .parent) (s .index) (s .probes) (s .stamp)
 
   -- nothing is to be done
-  worth-same : takenUp op s ≡ Nowhere → Untouched c t ok ok′ (h .steps) (h .ended) → Worth c t v a
+  worth-same : takenUp ns s ≡ Nowhere → Untouched u t ok ok′ (h .steps) (h .ended) → Worth u t v a
   unfolding r kept
   worth-same e o =
       let q = subst (λ (x : Resumption). Sought (gameIn b) (s .size) (s .start) x (oldOf s) (recordsHeld s) v a) e sought in
-      let u = change-same c t ok ok′ (h .steps) (h .ended) r o (h .archived .holds) in
-      let looks : count (final t′) ≡ count (final t) = ap length (alike-probes (final t) (final t′) (u .same-final)) in
+      let w = update-same u t ok ok′ (h .steps) (h .ended) r o (h .archived .holds) in
+      let looks : count (final t′) ≡ count (final t) = ap length (alike-probes (final t) (final t′) (w .same-final)) in
       let z : s .total + 0 ≡ count (final t′) = omega (arith, h .total-is, looks) in
-      subst⁻¹ (λ (x : Verdict). Worth c t x a) (q .0) (subst⁻¹ (λ (x : Records). Worth c t (oldOf s) x) (q .1) (record {
+      subst⁻¹ (λ (x : Verdict). Worth u t x a) (q .0) (subst⁻¹ (λ (x : Records). Worth u t (oldOf s) x) (q .1) (record {
         steps = h .steps;
-        ended = u .still-ended;
-        archive = archive-moved (searched t) (searched t′) (h .steps) (recordsHeld s) (h .archived) (u .holds) (u .same-steps);
-        tells = subst⁻¹ (λ (w : PlainVerdict). Tells (s .stem) (s .length) (s .walk) w) (alike-verdict (final t) (final t′) (u .same-final)) (h .told);
-        height-is = h .height-is ∙ sym (alike heightOf bare-height (final t) (final t′) (u .same-final));
-        kept-is = h .total-is ∙ sym (ap count (u .all-kept) ∙ looks);
+        ended = w .still-ended;
+        archive = archive-moved (searched t) (searched t′) (h .steps) (recordsHeld s) (h .archived) (w .holds) (w .same-steps);
+        tells = subst⁻¹ (λ (x : PlainVerdict). Tells (s .stem) (s .length) (s .walk) x) (alike-verdict (final t) (final t′) (w .same-final)) (h .told);
+        height-is = h .height-is ∙ sym (alike heightOf bare-height (final t) (final t′) (w .same-final));
+        kept-is = h .total-is ∙ sym (ap count (w .all-kept) ∙ looks);
         adds-up = z;
-        total-is = plus-more (s .total) 0 (omega (arith, z, limits (searched t′) (t′ .size) (small t′ ok′) (h .steps) .probes-few, ap count (run-final t′ ok′ (h .steps) (u .still-ended)))) ∙ z;
+        total-is = plus-more (s .total) 0 (omega (arith, z, limits (searched t′) (t′ .size) (small t′ ok′) (h .steps) .probes-few, ap count (run-final t′ ok′ (h .steps) (w .still-ended)))) ∙ z;
       }))
 
-  -- the named state was met: the search is resumed there
-  worth-met : takenUp op s ≡ At from → unexplored c t ≡ false → In from (discoveredOf (run (searched t) (h .steps))) → Worth c t v a
+  -- the numbers tell the first meeting among the named states
+  met-first : (w : FirstMeeting (namedBy u) (searched t) (searched t′) (update-agree u t) (h .steps)) → allPassed ns s ≡ false → takenUp ns s ≡ At (w .meeting .state)
+  unfolding r
+  met-first w e =
+      let m = update-made u t room yes-it-is in
+      let states : take namedMost (statesIn ns) ≡ namedBy u = ap (take namedMost) (lines-other ns (changesOf u) lines-are ∙ sym (m .named-are)) ∙ take-all namedMost (namedBy u) (named-few m) in
+      let met : In (w .meeting .state) (discoveredOf ran) = met-in (w .meeting .state) (w .discovered) in
+      resumption-earliest ns (arraysHeld s .rows) (s .number) (s .index) (s .walk) (s .height) e ∙ ap (λ (l : List ℕ). earliestOf l (s .number)) states
+      ∙ earliest-is (s .number) (w .meeting .state) (namedBy u) (numbered-met s t h ok (w .meeting .state) met) (w .meeting .is-named)
+      (λ x i k. ⊎-elim
+      (λ j. earliest (namedBy u) (searched t) (searched t′) (update-agree u t) r (h .steps) (h .archived .holds) w x i j k)
+      (λ f. absurd (omega (arith, numbered-unmet s t h ok x (named-inside x i) f, numbered-met s t h ok (w .meeting .state) met))) (either (elem x (discoveredOf ran))))
+    where
+      named-few : Made u t room → length (namedBy u) ≤ namedMost
+      named-few m = omega (arith, ap length (m .named-are), all-named (changesOf u), m .few)
+
+      named-inside : (x : ℕ) → In x (namedBy u) → x < t .size
+      named-inside x i = let m = update-made u t room yes-it-is in all-inside room (changesOf u) t (m .each-accepted) x (rw (m .named-are) at i)
+
+      met-in : (x : ℕ) → meets (x ∷ []) ran ≡ true → In x (discoveredOf ran)
+      met-in x m = let q = any-some (λ y. elem y (discoveredOf ran)) (x ∷ []) m in rw (in-one (q .0) x (q .1)) at (q .2)
+
+  -- a named state was met: the search is resumed at the first meeting
+  worth-met : allPassed ns s ≡ false → keepsAll u t ≡ false → meets (namedBy u) ran ≡ true → Worth u t v a
   unfolding r kept
-  worth-met e o i =
-      let q = subst (λ (x : Resumption). Sought (gameIn b) (s .size) (s .start) x (oldOf s) (recordsHeld s) v a) e sought in
-      let m : meets (named c) (run (searched t) (h .steps)) ≡ true = subst (λ (l : List ℕ). meets l (run (searched t) (h .steps)) ≡ true) (sym (named-one op)) (meets-one (searched t) from (run (searched t) (h .steps)) i) in
-      let u = change-met c t ok ok′ (h .steps) (h .ended) r m (h .archived .holds) in
-      let w = u .meeting in
-      let here : w .meeting .state ≡ from = in-one (w .meeting .state) from (subst (λ (l : List ℕ). In (w .meeting .state) l) (named-one op) (w .meeting .is-named)) in
-      let same : t′ .size ≡ t .size = changed-size c t in
-      let n : s .size ≡ t .size = h .size-is in
-      let fit = resume-fits (t .size) (named c) (searched t) (searched t′) (agree c t) (small t ok) (subst (Small (searched t′)) same (small t′ ok′)) (h .steps) (s .number) (s .parent) (s .index) (s .probes) (s .stamp) (s .walk) (h .archived) w in
-      let ran = ran-from (gameIn b) (same-start n (h .start-is ∙ sym (changed-start c t)) (sym here)) (q .1) in
+  worth-met e o m =
+      let met = update-met u t ok ok′ (h .steps) (h .ended) r m (h .archived .holds) in
+      let w = met .meeting in
+      let q = subst (λ (x : Resumption). Sought (gameIn b) (s .size) (s .start) x (oldOf s) (recordsHeld s) v a) (met-first w e) sought in
+      let same : t′ .size ≡ t .size = update-size u t in
+      let fit = resume-fits (t .size) (namedBy u) (searched t) (searched t′) (update-agree u t) (small t ok) (subst (Small (searched t′)) same (small t′ ok′)) (h .steps) (s .number) (s .parent) (s .index) (s .probes) (s .stamp) (s .walk) (h .archived) w in
+      let begun = ran-from (gameIn b) (same-start (w .meeting .state) (h .size-is) (h .start-is ∙ sym (update-start u t))) (q .1) in
       let g = reached t′ ok′ (gameIn b) (matches t′ b stored-new)
       (w .at) (backAt (t .size) (t′ .start) (w .meeting .state) (recordsHeld s)) (q .0)
-      (rewound-spent (t .size) (t′ .start) (w .meeting .state) 0 (s .number) (s .parent) (s .index) (s .probes) (s .stamp) (s .walk)) fit ran in
-      subst⁻¹ (λ (x : Verdict). Worth c t x a) (q .2) (subst⁻¹ (λ (x : Records). Worth c t (verdictOf (q .0 .walker) (q .0 .spent)) x) (q .3) (settled-by (q .0) (w .at) g (ap count (kept-explored c t o ∙ u .kept-here))))
+      (rewound-spent (t .size) (t′ .start) (w .meeting .state) 0 (s .number) (s .parent) (s .index) (s .probes) (s .stamp) (s .walk)) fit begun in
+      subst⁻¹ (λ (x : Verdict). Worth u t x a) (q .2) (subst⁻¹ (λ (x : Records). Worth u t (verdictOf (q .0 .walker) (q .0 .spent)) x) (q .3) (settled-by (q .0) (w .at) g (ap count (kept-meeting u t o ∙ met .kept-here))))
     where
-      same-start : {m m₂ x y z w : ℕ} → m ≡ m₂ → x ≡ y → z ≡ w → backAt m x z (recordsHeld s) ≡ backAt m₂ y w (recordsHeld s)
-      same-start l p z = λ j. backAt (l j) (p j) (z j) (recordsHeld s)
+      same-start : (z : ℕ) {m n x y : ℕ} → m ≡ n → x ≡ y → backAt m x z (recordsHeld s) ≡ backAt n y z (recordsHeld s)
+      same-start z l p = λ j. backAt (l j) (p j) z (recordsHeld s)
 
-      settled-by : (x : Result) (n : ℕ) → Reached t′ n x → count (keptPart c t) ≡ count (run (searched t′) n) → Worth c t (verdictOf (x .walker) (x .spent)) (recordsIn x)
+      settled-by : (x : Result) (n : ℕ) → Reached t′ n x → count (keptPart u t) ≡ count (run (searched t′) n) → Worth u t (verdictOf (x .walker) (x .spent)) (recordsIn x)
       settled-by x n g z = record {
         steps = g .steps;
         ended = g .ended;
@@ -194,45 +210,30 @@ module _ (op : Op) (s : Session) (b : Arrays) (a : Records) (v : Verdict) (new :
       }
 
   -- the records are those of the changed table, either way
-  worth : Worth c t v a
-  worth = ⊎-elim met unmet (either (elem from (discoveredOf (run (searched t) (h .steps)))))
+  worth : Worth u t v a
+  worth = ⊎-elim
+      (λ p. worth-same (resumption-nowhere ns (arraysHeld s .rows) (s .number) (s .index) (s .walk) (s .height) (decided ∙ p)) (⊎-elim inl (λ f. inr (rw ran-final f)) (made .passed p)))
+      (λ p. let k = made .reached p in worth-met (decided ∙ p) (k .0) (rw ran-final (k .1))) (either (all (λ c. passedOver c t) (changesOf u)))
     where
-      numbered-met : In from (discoveredOf (run (searched t) (h .steps))) → getD (s .number) from 0 ≡ noNumber → ⊥
-      numbered-met i e =
-          let n = noted-run (searched t) (h .steps) in
-          omega (
-            arith,
-            ap (λ (x : Note). x .number) (h .archived .holds .notes-right from i),
-            n .counted .0 from i,
-            limits (searched t) (t .size) (small t ok) (h .steps) .few,
-          )
+      made : Made u t room
+      made = update-made u t room yes-it-is
 
-      met : In from (discoveredOf (run (searched t) (h .steps))) → Worth c t v a
-      met i =
-          let n = numbered-met i in
-          let d = decided s t h ok op room yes-it-is i in
-          ⊎-elim
-          (λ u. worth-same (nowhere-unexplored op (arraysHeld s .rows) (s .number) (s .index) (s .walk) (s .height) n (d ∙ u)) (inl u))
-          (λ u. worth-met (at-explored op (arraysHeld s .rows) (s .number) (s .index) (s .walk) (s .height) n (d ∙ u)) u i) (either (unexplored c t))
-
-      unmet : elem from (discoveredOf (run (searched t) (h .steps))) ≡ false → Worth c t v a
-      unmet f =
-          let n = h .archived .undiscovered from (omega (arith, named-below op t room yes-it-is, size-few (t .size) (ok .size-ok))) f in
-          worth-same (nowhere-unmet op (arraysHeld s .rows) (s .number) (s .index) (s .walk) (s .height) n)
-          (inr (subst (λ (l : List ℕ). meets l (run (searched t) (h .steps)) ≡ false) (sym (named-one op)) (unmet-one (searched t) from (run (searched t) (h .steps)) f)))
+      decided : allPassed ns s ≡ all (λ c. passedOver c t) (changesOf u)
+      decided =
+          ap (λ (xs : List PlainLine). allPassedOver xs (arraysHeld s .rows) (s .number) (s .index) (s .walk) (s .height)) lines-are
+          ∙ all-decided s t h ok room (changesOf u) t refl (taken-here t ok) (made .each-accepted)
 
   -- the session that is returned
   abbrev next : Session
   next = sessionOf (s .size) (s .start) b a v (plus (v .kept) (v .spent))
 
   next-holds : Holds next t′
-  unfolding trialOf
   next-holds =
       let w = worth in
       record {
-        arises = changed t (record { change = c; room = room }) (h .arises) yes-it-is;
-        size-is = h .size-is ∙ sym (changed-size c t);
-        start-is = h .start-is ∙ sym (changed-start c t);
+        arises = update-arises u t room (h .arises) yes-it-is;
+        size-is = h .size-is ∙ sym (update-size u t);
+        start-is = h .start-is ∙ sym (update-start u t);
         stored = stored-new;
         steps = w .steps;
         ended = w .ended;
@@ -244,50 +245,25 @@ module _ (op : Op) (s : Session) (b : Arrays) (a : Records) (v : Verdict) (new :
 
   -- the plain table's answer
   abbrev plain : PlainAnswer
-  plain = answer (verdict (final t′)) (count (final t′) - kept c t) (kept c t)
+  plain = answer (verdict (final t′)) (count (final t′) - kept u t) (kept u t)
 
   next-written : (lent lent′ : List ℕ) → room ≤ length lent → (v .stem ≤ v .length → v .length ≤ 512 → v .length ≤ length lent → lent′ ≡ shownWalk (v .length) (a .walk) lent) → lent′ ≡ written plain lent
   next-written lent lent′ e wrote =
       let w = worth in
       let f = tells-fits v (verdict (final t′)) (a .walk) (t′ .size) (w .tells) (verdict-right t′ ok′ .short) in
-      let size : t′ .size ≡ t .size = changed-size c t in
-      wrote (f .0) (omega (arith, f .1, size-few (t′ .size) (ok′ .size-ok))) (omega (arith, f .1, size, room-enough c t room yes-it-is))
-      ∙ tells-written v (verdict (final t′)) (a .walk) lent (count (final t′) - kept c t) (kept c t) (w .tells)
+      let size : t′ .size ≡ t .size = update-size u t in
+      wrote (f .0) (omega (arith, f .1, size-few (t′ .size) (ok′ .size-ok))) (omega (arith, f .1, size, update-room u t room yes-it-is))
+      ∙ tells-written v (verdict (final t′)) (a .walk) lent (count (final t′) - kept u t) (kept u t) (w .tells)
 
   next-answer : (lent lent′ : List ℕ) → lent′ ≡ written plain lent → answerLine plain ≡ shown (answerIs v) lent′ ∷ []
   next-answer lent lent′ e =
       let w = worth in
-      tells-answer v (verdict (final t′)) (a .walk) lent (count (final t′) - kept c t) (kept c t) (w .tells) (omega (arith, w .kept-is, w .adds-up)) (w .kept-is)
+      tells-answer v (verdict (final t′)) (a .walk) lent (count (final t′) - kept u t) (kept u t) (w .tells) (omega (arith, w .kept-is, w .adds-up)) (w .kept-is)
       ∙ ap (λ (x : List ℕ). shown (answerIs v) x ∷ []) (sym e)
 
--- ---- the contract of a change
+-- ---- the contract of a call
 
-answer-accepted : (c : Change) (room : ℕ) (t : Table) → changeTrial c t room ≡ accepted
-    → answerTo (record { change = c; room = room }) t ≡ answer (verdict (final (apply c t))) (count (final (apply c t)) - kept c t) (kept c t)
-unfolding answerTo changeAnswer trialOf
-answer-accepted c room t e = ap (λ (x : Trial). changeAnswer x c t) e
-
-table-accepted : (c : Change) (room : ℕ) (t : Table) → changeTrial c t room ≡ accepted → tableAfter (record { change = c; room = room }) t ≡ apply c t
-unfolding tableAfter trialOf
-table-accepted c room t e = ap (λ (x : Trial). after x (apply c t) t) e
-
-answer-refused : (c : Change) (room : ℕ) (t : Table) (n : ℕ) → changeTrial c t room ≡ refused n → answerTo (record { change = c; room = room }) t ≡ refusal (numbered n)
-unfolding answerTo changeAnswer trialOf
-answer-refused c room t n e = ap (λ (x : Trial). changeAnswer x c t) e
-
-table-refused : (c : Change) (room : ℕ) (t : Table) (n : ℕ) → changeTrial c t room ≡ refused n → tableAfter (record { change = c; room = room }) t ≡ t
-unfolding tableAfter trialOf
-table-refused c room t n e = ap (λ (x : Trial). after x (apply c t) t) e
-
--- without a state, each change names one outside
-empty-six : (op : Op) (s : Session) (room : ℕ) → s .size ≡ 0 → trialIn op (s .size) (arraysHeld s) room ≡ refused 6
-unfolding trialIn addConditions cutConditions markConditions unmarkConditions beyond
-empty-six (Add from to) s room z = tried-refused _ 6 (stop 6 _ _ (outside-from from to (s .size) (omega (arith, z))))
-empty-six (Cut from to) s room z = tried-refused _ 6 (stop 6 _ _ (outside-from from to (s .size) (omega (arith, z))))
-empty-six (Mark state) s room z = tried-refused _ 6 (stop 6 _ _ (le-leb (s .size) state (omega (arith, z))))
-empty-six (Unmark state) s room z = tried-refused _ 6 (stop 6 _ _ (le-leb (s .size) state (omega (arith, z))))
-
--- the session that a change makes of one, where nothing has changed
+-- the session that a call makes of one, where nothing has changed
 same-session : (s : Session) → s .total ≤ 65535 → sessionOf (s .size) (s .start) (arraysHeld s) (recordsHeld s) (oldOf s) (plus (s .total) 0) ≡ s
 same-session s h = λ i. record {
   size = s .size;
@@ -307,66 +283,102 @@ same-session s h = λ i. record {
   total = (plus-more (s .total) 0 (omega arith) ∙ add-zero (s .total)) i;
 }
 
-module _ (op : Op) (s : Session) (lent : List ℕ) where
-  change-refused : (n : ℕ) → trialIn op (s .size) (arraysHeld s) (length lent) ≡ refused n → Changes op s lent (record { answer = refusing n; session = s }) lent
-  unfolding shown written answerLine
-  change-refused n e = record {
-    answers = λ t h. ap answerLine (answer-refused (changeOf op) (length lent) t n (is t h));
-    writes = λ t h. sym (ap (λ (x : PlainAnswer). written x lent) (answer-refused (changeOf op) (length lent) t n (is t h)));
-    holds = λ t h. subst⁻¹ (λ (x : Table). Holds s x) (table-refused (changeOf op) (length lent) t n (is t h)) h;
+module _ (u : PlainUpdate) (alone : Bool) (ns : List ℕ) (q : Asks u alone (linesIn ns)) (s : Session) (lent : List ℕ) where
+  abbrev tried : TriedIn
+  tried = callTriedIn alone (linesIn ns) (s .size) (arraysHeld s) (length lent)
+
+  -- for a table that the session holds
+  module _ (t : Table) (h : Holds s t) where
+    held : tried ≡ callTriedIn alone (linesIn ns) (t .size) (arraysHeld s) (length lent)
+    held = ap (λ (n : ℕ). callTriedIn alone (linesIn ns) n (arraysHeld s) (length lent)) (h .size-is)
+
+    trial-is : updateTrial u t (length lent) ≡ tried .trial
+    trial-is = sym (ap (λ (w : TriedIn). w .trial) held ∙ q .same t (valid t (h .arises)) (arraysHeld s) (h .stored) (length lent))
+
+    position-is : positionIn u t (length lent) ≡ positionOf (positionAt alone (tried .position))
+    position-is = sym (ap (λ (w : TriedIn). positionOf (positionAt alone (w .position))) held ∙ q .position t (valid t (h .arises)) (arraysHeld s) (h .stored) (length lent))
+
+    stored-is : updateTrial u t (length lent) ≡ accepted → Stored (applied u t) (tried .arrays)
+    stored-is e = subst⁻¹ (λ (w : TriedIn). Stored (applied u t) (w .arrays)) held (q .stored t (valid t (h .arises)) (arraysHeld s) (h .stored) (length lent) e)
+
+  -- without a state
+  none-is : s .size ≡ 0 → (tried .trial ≡ refused (q .number)) × (refusing (q .number) (positionAt alone (tried .position)) ≡ Refused (withoutGame u))
+  none-is z =
+      let e : tried ≡ callTriedIn alone (linesIn ns) 0 (arraysHeld s) (length lent) = ap (λ (n : ℕ). callTriedIn alone (linesIn ns) n (arraysHeld s) (length lent)) z in
+      (
+        ap (λ (w : TriedIn). w .trial) e ∙ q .none (arraysHeld s) (length lent),
+        ap (λ (w : TriedIn). refusing (q .number) (positionAt alone (w .position))) e ∙ q .refusal-is (arraysHeld s) (length lent),
+      )
+
+  call-refused : (n : ℕ) → tried .trial ≡ refused n → Updates u s lent (record { answer = refusing n (positionAt alone (tried .position)); session = s }) lent
+  unfolding shown written answerLine trialOf
+  call-refused n e = record {
+    answers = λ t h. ap answerLine (told t h);
+    writes = λ t h. sym (ap (λ (x : PlainAnswer). written x lent) (told t h));
+    holds = λ t h. subst⁻¹ (λ (x : Table). Holds s x) (table-refused (callOf u lent) t n (trial-is t h ∙ e)) h;
     refused = λ m z. (refl, refl);
-    no-game = λ o. ap refusing (refused-same (sym e ∙ empty-six op s (length lent) o));
+    no-game = λ z. let w = none-is z in ap (λ (k : ℕ). refusing k (positionAt alone (tried .position))) (refused-same (sym e ∙ w .0)) ∙ w .1;
   }
     where
-      is : (t : Table) → Holds s t → changeTrial (changeOf op) t (length lent) ≡ refused n
-      is t h = sym (trial-here s t h op (length lent)) ∙ e
+      told : (t : Table) → Holds s t → answerTo (callOf u lent) t ≡ refusal (record { number = n; position = positionOf (positionAt alone (tried .position)) })
+      told t h =
+          answer-refused (callOf u lent) t n (trial-is t h ∙ e)
+          ∙ ap (λ (p : PlainPosition). refusal (record { number = n; position = p })) (position-is t h)
 
       refused-same : {x y : ℕ} → refused x ≡ refused y → x ≡ y
       refused-same z = cc
 
-  change-accepted : (lent′ : List ℕ) (b : Arrays) (a : Records) (r : Settled) → trialIn op (s .size) (arraysHeld s) (length lent) ≡ accepted
-      → b ≡ filedIn op (s .size) (arraysHeld s)
-      → Settles (gameIn b) (s .size) (s .start) (takenUp op s) (oldOf s) (recordsHeld s) lent r a lent′
-      → Changes op s lent (record { answer = r .answer; session = sessionOf (s .size) (s .start) b a (r .verdict) (plus (r .verdict .kept) (r .verdict .spent)) }) lent′
-  change-accepted lent′ b a r e new w = rw (w .answer-is) (record {
-    answers = λ t h. ap answerLine (answer-accepted (changeOf op) (length lent) t (is t h))
-        ∙ next-answer op s b a (r .verdict) new (w .sought) t h (length lent) (is t h) lent lent′ (list t h);
-    writes = λ t h. list t h ∙ sym (ap (λ (x : PlainAnswer). written x lent) (answer-accepted (changeOf op) (length lent) t (is t h)));
-    holds = λ t h. subst⁻¹ (λ (x : Table). Holds (next op s b a (r .verdict) new (w .sought) t h (length lent) (is t h)) x) (table-accepted (changeOf op) (length lent) t (is t h))
-        (next-holds op s b a (r .verdict) new (w .sought) t h (length lent) (is t h));
+  call-accepted : (lent′ : List ℕ) (b : Arrays) (a : Records) (r : Settled) → tried .trial ≡ accepted → b ≡ tried .arrays
+      → Settles (gameIn b) (s .size) (s .start) (takenUp ns s) (oldOf s) (recordsHeld s) lent r a lent′
+      → Updates u s lent (record { answer = r .answer; session = sessionOf (s .size) (s .start) b a (r .verdict) (plus (r .verdict .kept) (r .verdict .spent)) }) lent′
+  unfolding trialOf
+  call-accepted lent′ b a r e new w = rw (w .answer-is) (record {
+    answers = λ t h. ap answerLine (answer-accepted (callOf u lent) t (is t h))
+        ∙ next-answer u ns s b a (r .verdict) (w .sought) t h (length lent) (is t h) (lines t h) (stored t h) lent lent′ (list t h);
+    writes = λ t h. list t h ∙ sym (ap (λ (x : PlainAnswer). written x lent) (answer-accepted (callOf u lent) t (is t h)));
+    holds = λ t h. subst⁻¹ (λ (x : Table). Holds (next u ns s b a (r .verdict) (w .sought) t h (length lent) (is t h) (lines t h) (stored t h)) x)
+        (table-accepted (callOf u lent) t (is t h)) (next-holds u ns s b a (r .verdict) (w .sought) t h (length lent) (is t h) (lines t h) (stored t h));
     refused = λ m z. absurd (never-refused (r .verdict) m z);
-    no-game = λ o. absurd (refused-not (sym (empty-six op s (length lent) o) ∙ e));
+    no-game = λ z. absurd (refused-not (sym (none-is z .0) ∙ e));
   })
     where
-      is : (t : Table) → Holds s t → changeTrial (changeOf op) t (length lent) ≡ accepted
-      is t h = sym (trial-here s t h op (length lent)) ∙ e
+      is : (t : Table) → Holds s t → updateTrial u t (length lent) ≡ accepted
+      is t h = trial-is t h ∙ e
 
-      list : (t : Table) (h : Holds s t) → lent′ ≡ written (plain op s b a (r .verdict) new (w .sought) t h (length lent) (is t h)) lent
-      list t h = next-written op s b a (r .verdict) new (w .sought) t h (length lent) (is t h) lent lent′ (omega arith) (w .wrote)
+      lines : (t : Table) (h : Holds s t) → linesIn ns ≡ map makes (changesOf u)
+      lines t h = q .lines-are t (length lent) (is t h)
 
-      refused-not : refused 6 ≡ accepted → ⊥
-      refused-not z = let q : _≡_ {A = ℕ} 0 1 = cc in omega arith
+      stored : (t : Table) (h : Holds s t) → Stored (applied u t) b
+      stored t h = subst⁻¹ (Stored (applied u t)) new (stored-is t h (is t h))
 
-  -- the contract of a change, from what it leaves in the arrays
-  made-right : (lent′ : List ℕ) (b : Arrays) (a : Records) (r : Settled) (total : ℕ) → s .total ≤ 65535 → total ≡ plus (r .verdict .kept) (r .verdict .spent)
-      → ChangedIn op (s .size) (s .start) (oldOf s) (arraysHeld s) (recordsHeld s) lent r b a lent′
-      → Changes op s lent (record { answer = r .answer; session = sessionOf (s .size) (s .start) b a (r .verdict) total }) lent′
-  made-right lent′ b a r total small e w = by-trial (trialIn op (s .size) (arraysHeld s) (length lent)) refl
+      list : (t : Table) (h : Holds s t) → lent′ ≡ written (plain u ns s b a (r .verdict) (w .sought) t h (length lent) (is t h) (lines t h) (stored t h)) lent
+      list t h = next-written u ns s b a (r .verdict) (w .sought) t h (length lent) (is t h) (lines t h) (stored t h) lent lent′ (omega arith) (w .wrote)
+
+      refused-not : {n : ℕ} → refused n ≡ accepted → ⊥
+      refused-not z = let k : _≡_ {A = ℕ} 0 1 = cc in omega arith
+
+  -- the contract of a call, from what it leaves in the arrays
+  call-right : (lent′ : List ℕ) (b : Arrays) (a : Records) (r : Settled) (total : ℕ) → s .total ≤ 65535 → total ≡ plus (r .verdict .kept) (r .verdict .spent)
+      → UpdatedIn alone ns (s .size) (s .start) (oldOf s) (arraysHeld s) (recordsHeld s) lent r b a lent′
+      → Updates u s lent (record { answer = r .answer; session = sessionOf (s .size) (s .start) b a (r .verdict) total }) lent′
+  call-right lent′ b a r total small e w = by-trial (tried .trial) refl
     where
-      Made : Settled → Arrays → Records → ℕ → List ℕ → Type 0
-      Made x y z n list = Changes op s lent (record { answer = x .answer; session = sessionOf (s .size) (s .start) y z (x .verdict) n }) list
+      Made-so : Settled → Arrays → Records → ℕ → List ℕ → Type 0
+      Made-so x y z n list = Updates u s lent (record { answer = x .answer; session = sessionOf (s .size) (s .start) y z (x .verdict) n }) list
 
-      by-trial : (x : Trial) → trialIn op (s .size) (arraysHeld s) (length lent) ≡ x → Made r b a total lent′
-      by-trial accepted f = let q = w .on-acceptance f in subst⁻¹ (λ (n : ℕ). Made r b a n lent′) e (change-accepted lent′ b a r f (q .0) (q .1))
+      by-trial : (x : Trial) → tried .trial ≡ x → Made-so r b a total lent′
+      by-trial accepted f = let k = w .on-acceptance f in subst⁻¹ (λ (n : ℕ). Made-so r b a n lent′) e (call-accepted lent′ b a r f (k .0) (k .1))
       by-trial (refused n) f =
-          let q = w .on-refusal n f in
-          let sum : total ≡ plus (s .total) 0 = e ∙ (λ i. plus (q .0 i .verdict .kept) (q .0 i .verdict .spent)) in
-          subst⁻¹ (λ (x : ℕ × Settled × Arrays × Records × List ℕ). Made (x .1) (x .2) (x .3) (x .0) (x .4)) (λ i. (sum i, q .0 i, q .1 i, q .2 i, q .3 i))
-          (subst⁻¹ (λ (x : Session). Changes op s lent (record { answer = refusing n; session = x }) lent) (same-session s small) (change-refused n f))
+          let k = w .on-refusal n f in
+          let sum : total ≡ plus (s .total) 0 = e ∙ (λ i. plus (k .0 i .verdict .kept) (k .0 i .verdict .spent)) in
+          subst⁻¹ (λ (x : ℕ × Settled × Arrays × Records × List ℕ). Made-so (x .1) (x .2) (x .3) (x .0) (x .4)) (λ i. (sum i, k .0 i, k .1 i, k .2 i, k .3 i))
+          (subst⁻¹ (λ (x : Session). Updates u s lent (record { answer = refusing n (positionAt alone (tried .position)); session = x }) lent) (same-session s small) (call-refused n f))
 
--- the same of a change as it is made
-pub change-right : (op : Op) (switch : Switch) → opOf switch ≡ op → (s : Session) (lent lent′ : List ℕ) (b : Arrays) (a : Records) (r : Settled) (total : ℕ) → s .total ≤ 65535
-    → total ≡ plus (r .verdict .kept) (r .verdict .spent) → ChangedIn (opOf switch) (s .size) (s .start) (oldOf s) (arraysHeld s) (recordsHeld s) lent r b a lent′
-    → Changes op s lent (record { answer = r .answer; session = sessionOf (s .size) (s .start) b a (r .verdict) total }) lent′
-change-right op switch same s lent lent′ b a r total small e w =
-    made-right op s lent lent′ b a r total small e (subst (λ (o : Op). ChangedIn o (s .size) (s .start) (oldOf s) (arraysHeld s) (recordsHeld s) lent r b a lent′) same w)
+-- the same as the session is asked
+pub update-right : (asked : Update) (alone : Bool) (only : BatchLine) → alone ≡ isAlone asked → only ≡ onlyLine asked → (lines : List ℕ) (s : Session) (lent lent′ : List ℕ) (b : Arrays) (a : Records) (r : Settled) (total : ℕ)
+    → s .total ≤ 65535 → total ≡ plus (r .verdict .kept) (r .verdict .spent)
+    → UpdatedIn alone (numbersIn alone only lines) (s .size) (s .start) (oldOf s) (arraysHeld s) (recordsHeld s) lent r b a lent′
+    → Updates (updateOf asked lines) s lent (record { answer = r .answer; session = sessionOf (s .size) (s .start) b a (r .verdict) total }) lent′
+update-right asked alone only e f lines s lent lent′ b a r total small sum w =
+    call-right (updateOf asked lines) (isAlone asked) (numbersIn (isAlone asked) (onlyLine asked) lines) (asked-so asked lines) s lent lent′ b a r total small sum
+    (subst (λ (x : Bool × BatchLine). UpdatedIn (x .0) (numbersIn (x .0) (x .1) lines) (s .size) (s .start) (oldOf s) (arraysHeld s) (recordsHeld s) lent r b a lent′) (λ i. (e i, f i)) w)

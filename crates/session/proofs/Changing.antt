@@ -1,20 +1,23 @@
--- What a change leaves in the arrays, put together from what trying, filing and settling leave. Assumes nothing.
-use mathlib.Core.Path.{_≡_, refl, sym, ap, subst, _∙_}
+-- What a call leaves in the arrays, put together from what trying, filing and settling leave. Assumes nothing.
+use mathlib.Core.Path.{_≡_, refl, sym, subst, subst⁻¹, _∙_}
+use mathlib.Core.Bool.{Bool}
 use mathlib.Core.List.{List}
 use Prim.Native.Nat.{ℕ}
 use native.Mathlib.Omega.{arith}
 use lib.ListN.{length}
-use Rattle.plain.specs.Refusals.{Trial as PlainTrial, accepted, refused}
+use Rattle.plain.specs.Refusals.{accepted, refused}
+use Rattle.table.specs.declared.Attempt.{Attempt}
+use Rattle.table.specs.declared.Trial.the-variants.{Accepted, Refused}
 use Rattle.session.specs.declared.Answer.{Answer}
-use Rattle.table.specs.declared.Op.{Op}
 use Rattle.session.specs.declared.Resumption.{Resumption}
 use Rattle.session.specs.declared.Settled.{Settled}
-use Rattle.table.specs.declared.Trial.the-variants.{Accepted, Refused}
 use Rattle.session.specs.declared.Verdict.{Verdict}
-use Rattle.table.specs.Trials.{Arrays, tried, trialIn}
-use Rattle.table.specs.Filing.{filedIn}
-use Rattle.session.specs.Model.{Records, gameIn, resumptionOf, refusing, Settles, ChangedIn}
+use Rattle.table.specs.Trials.{Arrays}
+use Rattle.table.specs.Batches.{linesIn, TriedIn, callTriedIn, positionAt, AttemptedCall}
+use Rattle.session.specs.Model.{Records, gameIn, resumptionOf, refusing, Settles, UpdatedIn}
+use Rattle.rows.specs.Rows.{Tabled}
 use Rattle.table.proofs.Trying.{tried-accepted, tried-refused}
+use Rattle.table.proofs.Batches.{tried-tabled}
 
 same-number : {m n : ℕ} → refused m ≡ refused n → m ≡ n
 same-number e = cc
@@ -22,23 +25,31 @@ same-number e = cc
 not-both : {n : ℕ} → refused n ≡ accepted → ⊥
 not-both e = let z : _≡_ {A = ℕ} 0 1 = cc in omega arith
 
-module _ (op : Op) (size start : ℕ) (old : Verdict) (b : Arrays) (a : Records) (lent : List ℕ) where
-  abbrev trial : PlainTrial
-  trial = trialIn op size b (length lent)
+module _ (alone : Bool) (ns : List ℕ) (size start : ℕ) (old : Verdict) (b : Arrays) (a : Records) (lent : List ℕ) where
+  abbrev tried : TriedIn
+  tried = callTriedIn alone (linesIn ns) size b (length lent)
 
-  pub changed-refused : (m : ℕ) (answer : Answer) (b′ : Arrays) → Refused m ≡ tried trial → answer ≡ refusing m → b′ ≡ b
-      → ChangedIn op size start old b a lent (record { answer = answer; verdict = old }) b′ a lent
-  changed-refused m answer b′ e f g = record {
-    on-refusal = λ n z.
-        let same : m ≡ n = same-number (sym (tried-refused trial m e) ∙ z) in
-        (ap {B = Settled} (λ (x : Answer). record { answer = x; verdict = old }) (f ∙ ap refusing same), g, refl, refl);
-    on-acceptance = λ z. absurd (not-both (sym (tried-refused trial m e) ∙ z));
+  pub updated-refused : (x : Attempt) (b′ : Arrays) (m : ℕ) (answer : Answer) → AttemptedCall alone tried b x b′ → x .trial ≡ Refused m → answer ≡ refusing m (x .position)
+      → UpdatedIn alone ns size start old b a lent (record { answer = answer; verdict = old }) b′ a lent
+  updated-refused x b′ m answer w e f =
+      let is : tried .trial ≡ refused m = tried-refused (tried .trial) m (sym e ∙ w .trial-is) in
+      record {
+        on-refusal = λ n z.
+            let same : m ≡ n = same-number (sym is ∙ z) in
+            ((λ i. record { answer = (f ∙ (λ j. refusing (same j) (w .position-is j))) i; verdict = old }), w .unfiled m e, refl, refl);
+        on-acceptance = λ z. absurd (not-both (sym is ∙ z));
+      }
+
+  pub updated-accepted : (x : Attempt) (b′ : Arrays) (from : Resumption) (r : Settled) (a′ : Records) (lent′ : List ℕ) → AttemptedCall alone tried b x b′ → x .trial ≡ Accepted
+      → from ≡ resumptionOf ns (b .rows) (a .number) (a .index) (a .walk) (old .height) → Settles (gameIn b′) size start from old a lent r a′ lent′
+      → UpdatedIn alone ns size start old b a lent r b′ a′ lent′
+  updated-accepted x b′ from r a′ lent′ w e g k = record {
+    on-refusal = λ n z. absurd (not-both (sym z ∙ tried-accepted (tried .trial) (sym (w .trial-is) ∙ e)));
+    on-acceptance = λ z. (w .filed e, subst (λ (x : Resumption). Settles (gameIn b′) size start x old a lent r a′ lent′) g k);
   }
 
-  pub changed-accepted : (from : Resumption) (r : Settled) (b′ : Arrays) (a′ : Records) (lent′ : List ℕ) → Accepted ≡ tried trial → b′ ≡ filedIn op size b
-      → from ≡ resumptionOf op (b .rows) (a .number) (a .index) (a .walk) (old .height) → Settles (gameIn b′) size start from old a lent r a′ lent′
-      → ChangedIn op size start old b a lent r b′ a′ lent′
-  changed-accepted from r b′ a′ lent′ e f g w = record {
-    on-refusal = λ n z. absurd (not-both (sym z ∙ tried-accepted trial (sym e)));
-    on-acceptance = λ z. (f, subst (λ (x : Resumption). Settles (gameIn b′) size start x old a lent r a′ lent′) g w);
-  }
+-- the rows of an accepted call keep their sizes
+pub accepted-tabled : (alone : Bool) (ns : List ℕ) (size room : ℕ) (b : Arrays) (x : Attempt) (b′ : Arrays) → AttemptedCall alone (callTriedIn alone (linesIn ns) size b room) b x b′
+    → x .trial ≡ Accepted → Tabled (b .rows .targets) (b .rows .starts) → Tabled (b′ .rows .targets) (b′ .rows .starts)
+accepted-tabled alone ns size room b x b′ w e l =
+    subst⁻¹ (λ (y : Arrays). Tabled (y .rows .targets) (y .rows .starts)) (w .filed e) (tried-tabled alone (linesIn ns) size b room l)

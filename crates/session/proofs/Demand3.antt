@@ -12,11 +12,11 @@ use Rattle.plain.proofs.Loops.{loop-told}
 use Rattle.session.specs.declared.Answer.{Answer}
 use Rattle.session.specs.declared.Session.{Session}
 use Rattle.session.specs.declared.Outcome.{Outcome}
-use Rattle.session.specs.Promises.{shown, NoRefusal, callIn, Holds, Loads, Changes, Exchange, Served, done, call, CallRight, EachCall, AllRight, Demand3, LoopsTold}
+use Rattle.session.specs.Promises.{shown, NoRefusal, callIn, Holds, Loads, Updates, Exchange, Served, done, call, CallRight, EachCall, AllRight, Demand3, LoopsTold}
 use Rattle.session.proofs.Told.{shown-refused}
 
 -- one call, by its contract alone
-call-right : (x : Exchange) (s : Session) (t : Table) (r : Outcome) → Holds s t → Changes (x .op) s (x .lent) r (x .after) → x .answered ≡ r .answer → CallRight x t
+call-right : (x : Exchange) (s : Session) (t : Table) (r : Outcome) → Holds s t → Updates (x .asked) s (x .lent) r (x .after) → x .answered ≡ r .answer → CallRight x t
 call-right x s t r h c e =
     let a : answerLine (answerTo (callIn x) t) ≡ shown (x .answered) (x .after) ∷ [] = c .answers t h ∙ ap (λ (y : Answer). shown y (x .after) ∷ []) (sym e) in
     let w = call-told (callIn x) t (shown (x .answered) (x .after)) (h .arises) a in
@@ -25,8 +25,8 @@ call-right x s t r h c e =
 -- every call of a list, from a session that holds a table
 all-right : (s : Session) (t : Table) (xs : List Exchange) → Holds s t → Served s xs → AllRight xs t
 all-right s t xs h done = tt
-all-right s t xs h (call op lent r lent′ ys c rest) =
-    let x : Exchange = record { op = op; lent = lent; answered = r .answer; after = lent′ } in
+all-right s t xs h (call u lent r lent′ ys c rest) =
+    let x : Exchange = record { asked = u; lent = lent; answered = r .answer; after = lent′ } in
     (call-right x s t r h c refl, all-right (r .session) (tableAfter (callIn x) t) ys (c .holds t h) rest)
 
 -- so the answers, one behind the other, are the plain table's

@@ -2,7 +2,10 @@ pub mod Writing
 pub mod Held
 pub mod Told
 pub mod Sought
+pub mod Asking
+pub mod FirstMet
 pub mod Resuming
+pub mod Lines
 pub mod Accepted
 pub mod Loaded
 pub mod Changing

@@ -33,6 +33,7 @@ use Rattle.session.proofs.Held.{size-few, small}
 use Rattle.table.proofs.Trying.{tried-refused}
 use Rattle.session.proofs.Told.{tells-answer, tells-written, tells-fits}
 use Rattle.session.proofs.Sought.{matches, Reached, reached}
+use Rattle.table.specs.declared.Position.the-variants.{Alone}
 
 module _ (l : Load) (lent : List ℕ) where
   answer-accepted : loadTrial l (length lent) ≡ accepted → loadAnswer (loadTrial l (length lent)) (tableOf l) ≡ answer (verdict (final (tableOf l))) (count (final (tableOf l))) 0
@@ -43,7 +44,7 @@ module _ (l : Load) (lent : List ℕ) where
   unfolding loadAnswer
   answer-refused n e = ap (λ (x : Trial). loadAnswer x (tableOf l)) e
 
-  pub load-refused : (a : Answer) (s : Session) (n : ℕ) → a ≡ refusing n → s ≡ noGame → Refused n ≡ tried (loadTrial l (length lent))
+  pub load-refused : (a : Answer) (s : Session) (n : ℕ) → a ≡ refusing n Alone → s ≡ noGame → Refused n ≡ tried (loadTrial l (length lent))
       → Loads l lent (record { answer = a; session = s }) lent
   unfolding shown written answerLine
   load-refused a s n b e f =

@@ -1,32 +1,32 @@
 -- Where a search is taken up is read off the session: it passes over a change exactly when the plain search had not come to it. Assumes nothing.
-use mathlib.Core.Path.{_≡_, refl, sym, ap, subst, _∙_}
-use mathlib.Core.Logic.{inl, inr, ⊎-elim}
+use mathlib.Core.Path.{_≡_, refl, sym, ap, subst, _∙_, subst⁻¹}
+use mathlib.Core.Logic.{inl, inr, ⊎-elim, _⊎_}
 use mathlib.Core.Bool.{Bool, true, false, cond, _&&_, _||_, not}
-use mathlib.Core.List.{List, [], _∷_, _++_, append-assoc}
+use mathlib.Core.List.{List, [], _∷_, _++_, append-assoc, map}
 use Prim.Native.Nat.{ℕ, suc, _+_, _-_, _≤_, _<_}
 use native.Mathlib.Omega.{arith}
 use lib.Dec.{ltb}
 use lib.ListN.{length, getD, take, drop, length-append, take-append-drop, length-take, length-drop, List·getD-append}
 use lib.Seq.{ext-getD, getD-at}
 use borrow.Author.Tests.{eq-eqb, ne-eqb, lt-ltb, le-ltb, ltb-true, not-false}
-use Rattle.plain.specs.Lists.{elem, In, before, from}
-use Rattle.plain.specs.Search.{Graph, Edge, Frame, frame, onPath, Config, outer, nested, exhausted, found, discoveredOf, probesOf, run, finished, statesOf, stemOf, cycleOf, verdict}
+use Rattle.plain.specs.Lists.{elem, In, before, from, all}
+use Rattle.plain.specs.Search.{Graph, Edge, Frame, frame, onPath, Config, outer, nested, exhausted, found, discoveredOf, probesOf, run, finished, statesOf, stemOf, cycleOf, verdict, meets}
 use Rattle.plain.specs.Unexplored.{unfinishedPath, Untaken}
 use Rattle.plain.specs.Table.{Table, row, searched, budget, final}
 use Rattle.plain.specs.Refusals.{accepted, present}
-use Rattle.plain.specs.Machine.{add, cut, conditions, changeTrial, unexplored}
-use Rattle.plain.specs.Notes.{Notes, notes, Below}
-use Rattle.plain.proofs.Tests.{contra, either, not-true, same, in-nil, in-one, in-append}
-use Rattle.plain.proofs.Paths.{On, on-head, on-tail}
-use Rattle.plain.proofs.Invariant.{Inv, inv-run}
+use Rattle.plain.specs.Machine.{add, cut, conditions, changeTrial, unexplored, Change, mark, unmark, named, namedAll, apply, makes, passedOver}
+use Rattle.plain.specs.Notes.{Notes, notes, Below, Note}
+use Rattle.plain.proofs.Tests.{contra, either, not-true, same, in-nil, in-one, in-append, or-second}
+use Rattle.plain.proofs.Paths.{On, on-head, on-tail, Off}
+use Rattle.plain.proofs.Invariant.{Inv, inv-run, Linked}
 use Rattle.plain.proofs.Lassos.{before-from, on-states, states-on}
-use Rattle.plain.proofs.Restore.{ShapeOf, below-same, noted-run}
+use Rattle.plain.proofs.Restore.{ShapeOf, below-same, noted-run, notes-index}
 use Rattle.plain.proofs.Edges.{Has}
 use Rattle.plain.proofs.Rows.{has-row}
 use Rattle.plain.proofs.Trials.{unheld}
-use Rattle.plain.proofs.Tables.{Valid}
+use Rattle.plain.proofs.Tables.{Valid, changed-size}
 use Rattle.plain.proofs.Demands.{run-final}
-use Rattle.plain.proofs.Unexplored.{rows-once}
+use Rattle.plain.proofs.Unexplored.{rows-once, shared-finished}
 use Rattle.plain.proofs.Explored.{finished-is, left-unlooked, front-looked, finished-looked}
 use Rattle.rows.specs.Rows.{entries, rowAt, placeOf}
 use Rattle.rows.specs.Change.{Rows}
@@ -41,10 +41,18 @@ use Rattle.table.specs.declared.Subject.the-variants as Subject
 use Rattle.table.specs.Trials.{switching}
 use Rattle.table.specs.Filing.{changeOf, namedBy}
 use Rattle.table.proofs.Places.{has-place, place-hit, place-front, place-behind, same-test}
-use Rattle.session.specs.declared.Resumption.the-variants.{Nowhere, At}
 use Rattle.session.specs.declared.Session.{Session}
-use Rattle.session.specs.Model.{arraysHeld, unexploredEdge, unexploredIn, resumptionOf}
+use Rattle.session.specs.Model.{arraysHeld, unexploredEdge, unexploredIn, passedOverIn, allPassedOver}
 use Rattle.session.specs.Promises.{Tells, heightOf, Holds}
+use Rattle.plain.specs.Claims.{AllAccepted}
+use Rattle.plain.proofs.OuterProbes.{looked-edge}
+use Rattle.plain.proofs.Prefix.{meets-one, unmet-one}
+use Rattle.plain.proofs.Batches.{Taken, passed-step}
+use Rattle.search.proofs.Resumed.{limits}
+use Rattle.session.proofs.Held.{size-few, small}
+use Rattle.table.proofs.Changing.{named-below}
+use Rattle.table.proofs.Batches.{change-back}
+use Rattle.table.specs.Batches.{opFor}
 
 -- ---- laws of the definitions
 
@@ -86,6 +94,15 @@ entries-front : (xs ys : List ℕ) → entries (length xs) 0 (xs ++ ys) ≡ xs
 entries-front xs ys = ext-getD 0 (entries (length xs) 0 (xs ++ ys)) xs (entries-length (length xs) 0 (xs ++ ys))
     (λ i h. let k : i < length xs = omega (arith, h, entries-length (length xs) 0 (xs ++ ys)) in
     sym (entries-first (length xs) (xs ++ ys) i k) ∙ List·getD-append xs ys 0 i k)
+
+-- a list that has an entry is not empty
+in-some : (x : ℕ) (xs : List ℕ) → In x xs → 0 < length xs
+in-some x [] i = absurd (in-nil x i)
+in-some x (y ∷ ys) i = omega arith
+
+or-none : (a b : Bool) → b ≡ false → (a || b) ≡ a
+or-none true b e = refl
+or-none false b e = e
 
 module _ (g : Graph) where
   -- the edge that discovered the next state of the path is the last one taken of a state's row, and what is left stands behind it
@@ -249,13 +266,30 @@ module _ (t : Table) (v : Valid t) (r : Notes) (rows : Rows) (index walk : List 
 
 -- ---- of a session
 
--- a state that is named, or was met
+-- the state that a change names is one
 pub named-one : (c : Change) → named c ≡ namedBy (opFor c) ∷ []
 unfolding named
 named-one (add e) = refl
 named-one (cut e) = refl
 named-one (mark s) = refl
 named-one (unmark s) = refl
+
+-- a state that an accepted change names is one of the game
+named-inside : (c : Change) (t : Table) (room : ℕ) → changeTrial c t room ≡ accepted → namedBy (opFor c) < t .size
+named-inside c t room e = named-below (opFor c) t room (ap (λ (d : Change). changeTrial d t room) (change-back c) ∙ e)
+
+-- and so is each that some accepted changes name; they name as many as they are
+pub all-inside : (room : ℕ) (cs : List Change) (t : Table) → AllAccepted room cs t → (x : ℕ) → In x (namedAll cs) → x < t .size
+unfolding namedAll
+all-inside room [] t a x i = absurd (in-nil x i)
+all-inside room (c ∷ cs) t a x i = ⊎-elim
+    (λ j. let z : x ≡ namedBy (opFor c) = in-one x (namedBy (opFor c)) (rw (named-one c) at j) in omega (arith, z, named-inside c t room (a .0)))
+    (λ j. omega (arith, all-inside room cs (apply c t) (a .1) x j, changed-size c t)) (in-append x (named c) (namedAll cs) i)
+
+pub all-named : (cs : List Change) → length (namedAll cs) ≡ length cs
+unfolding namedAll
+all-named [] = refl
+all-named (c ∷ cs) = omega (arith, length-append (named c) (namedAll cs), ap length (named-one c), all-named cs)
 
 -- what the session's search had not come to, the plain one had not
 module _ (s : Session) (t : Table) (h : Holds s t) (v : Valid t) where
@@ -321,7 +355,7 @@ module _ (s : Session) (t : Table) (h : Holds s t) (v : Valid t) where
 
       unmet : elem state (discoveredOf ran) ≡ false → passedOverIn (makes c) (arraysHeld s .rows) (s .number) (s .index) (s .walk) (s .height) ≡ (unexplored c t || not (meets (named c) (final t)))
       unmet f =
-          let below : state < t .size = omega (arith, size, named-below (opFor c) u room (ap (λ (d : Change). changeTrial d u room) (change-back c) ∙ a)) in
+          let below : state < t .size = omega (arith, size, named-inside c u room a) in
           let m : meets (named c) (final t) ≡ false = rw (named-one c, ← ran-final) (unmet-one (searched t) state ran f) in
           ap (λ (b : Bool). b || unexploredHere) (eq-eqb (getD (s .number) state 0) noNumber (numbered-unmet state below f))
           ∙ sym (or-second (unexplored c t) (not (meets (named c) (final t))) (ap not m))

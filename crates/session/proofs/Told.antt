@@ -9,14 +9,16 @@ use lib.ListN.{length, take, drop, length-append}
 use lib.Seq.{take-at, take-append-seam}
 use borrow.Author.Tests.{eq-eqb, ne-eqb}
 use Rattle.plain.specs.Search.{Verdict as PlainVerdict, none, lasso, unfinished}
-use Rattle.plain.specs.Machine.{answer, numbered, written, Line, gameLine, roundLine, noneLine, noLine, answerLine}
+use Rattle.plain.specs.Machine.{alone, Refusal as PlainRefusal, answer, numbered, written, Line, gameLine, roundLine, noneLine, noLine, answerLine}
 use Rattle.plain.proofs.Answers.{first-line}
 use Rattle.session.specs.declared.Answer.{Answer}
 use Rattle.session.specs.declared.Answer.the-variants.{Refused, Clear, Round}
 use Rattle.table.specs.declared.Refusal.{Refusal}
+use Rattle.table.specs.declared.Position.{Position}
+use Rattle.table.specs.declared.Position.the-variants as Position
 use Rattle.session.specs.declared.Verdict.{Verdict}
-use Rattle.session.specs.Model.{answerIs, shownWalk}
-use Rattle.session.specs.Promises.{shown, Tells}
+use Rattle.session.specs.Model.{answerIs, refusing, shownWalk}
+use Rattle.session.specs.Promises.{positionOf, refusalOf, shown, Tells}
 
 answer-clear : (v : Verdict) → v .length ≡ 0 → answerIs v ≡ Clear (v .spent) (v .kept)
 unfolding answerIs
@@ -71,15 +73,22 @@ never-refused v n e = by-test (eqb (v .length) 0) e
     by-test true e = let z : _≡_ {A = ℕ} 0 1 = cc in omega arith
     by-test false e = let z : _≡_ {A = ℕ} 0 1 = cc in omega arith
 
--- an answer that is told as a refusal is that refusal
-told-number : Line → ℕ
-told-number (gameLine size moves paying) = 0
-told-number (roundLine spent kept stem cycle walk) = 0
-told-number (noneLine spent kept) = 0
-told-number (noLine r) = r .number
+-- an answer that is told as the refusal of a call is that refusal
+told-refusal : Line → PlainRefusal
+told-refusal (gameLine size moves paying) = numbered 0
+told-refusal (roundLine spent kept stem cycle walk) = numbered 0
+told-refusal (noneLine spent kept) = numbered 0
+told-refusal (noLine r) = r
 
-pub shown-refused : (a : Answer) (list : List ℕ) (n : ℕ) → noLine (numbered n) ∷ [] ≡ shown a list ∷ [] → a ≡ Refused (record { number = n })
-unfolding shown told-number first-line
-shown-refused (Refused r) list n e = ap (λ (k : ℕ). Refused (record { number = k })) (sym (ap told-number (ap first-line e)))
+position-alone : (p : Position) → positionOf p ≡ alone → p ≡ Position.Alone
+position-alone Position.Alone e = refl
+position-alone (Position.Line i) e = let z : _≡_ {A = ℕ} 0 1 = cc in absurd (omega arith)
+
+pub shown-refused : (a : Answer) (list : List ℕ) (n : ℕ) → noLine (numbered n) ∷ [] ≡ shown a list ∷ [] → a ≡ refusing n Position.Alone
+unfolding shown told-refusal first-line
+shown-refused (Refused r) list n e =
+    let z : numbered n ≡ refusalOf r = ap told-refusal (ap first-line e) in
+    let p = position-alone (r .position) (sym (ap (λ (x : PlainRefusal). x .position) z)) in
+    λ i. Refused (record { number = sym (ap (λ (x : PlainRefusal). x .number) z) i; position = p i })
 shown-refused (Clear spent kept) list n e = let z : _≡_ {A = ℕ} 0 1 = cc in absurd (omega arith)
 shown-refused (Round spent kept stem cycle) list n e = let z : _≡_ {A = ℕ} 0 1 = cc in absurd (omega arith)

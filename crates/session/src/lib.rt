@@ -175,7 +175,7 @@ fn all_passed_over(
 // The states that the lines of a call name, as many as a batch may name, at the head of a list: how many they are.
 fn name_states(alone: bool, only: BatchLine, lines: &[u16], states: &mut [u16; NAMED]) -> usize
     requires { ⌜ length (now states) ≡ namedMost ⌝ }
-    ensures { λ r. ⌜ (r ≤ namedMost) × (take r (now (states .exit)) ≡ take namedMost (statesIn (numbersIn alone only (now (lines .entry))))) ⌝ }
+    ensures { λ r. ⌜ (r ≤ namedMost) × (length (now (states .exit)) ≡ namedMost) × (take r (now (states .exit)) ≡ take namedMost (statesIn (numbersIn alone only (now (lines .entry))))) ⌝ }
 {
     let end = table::lines_end(alone, lines);
     let mut at: usize = 0;

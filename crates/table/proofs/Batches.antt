@@ -338,11 +338,11 @@ module _ (ns : List ℕ) (size room : ℕ) (a₀ : Arrays) (at position : ℕ) (
 -- ---- trying a call
 
 module _ (alone : Bool) (xs : List PlainLine) (size : ℕ) (a : Arrays) (room : ℕ) where
-  call-on : aheadTrial alone size room ≡ accepted → callTriedIn alone xs size a room ≡ triedIn 1 xs size a room
+  pub call-on : aheadTrial alone size room ≡ accepted → callTriedIn alone xs size a room ≡ triedIn 1 xs size a room
   unfolding callTriedIn
   call-on e = rw (e, callTriedIn)
 
-  call-stop : (n : ℕ) → aheadTrial alone size room ≡ refused n → callTriedIn alone xs size a room ≡ record { trial = refused n; position = 0; arrays = a }
+  pub call-stop : (n : ℕ) → aheadTrial alone size room ≡ refused n → callTriedIn alone xs size a room ≡ record { trial = refused n; position = 0; arrays = a }
   unfolding callTriedIn
   call-stop n e = rw (e, callTriedIn)
 

@@ -1,0 +1,162 @@
+-- Going through the lines of a call: which are passed over, and which states they name. Assumes nothing.
+use mathlib.Core.Path.{_≡_, refl, sym, ap, subst, _∙_}
+use mathlib.Core.Bool.{Bool, true, false, cond, _&&_, _||_}
+use mathlib.Core.List.{List, [], _∷_, _++_}
+use Prim.Native.Nat.{ℕ, suc, _+_, _*_, _-_, _≤_, _<_}
+use native.Mathlib.Omega.{arith}
+use lib.Dec.{eqb}
+use lib.ListN.{length, getD, take, drop, set, length-drop, length-take, length-set, take-append-drop, drop-of-length-le}
+use lib.Seq.{take-all, take-suc, take-suc-set, drop-cons, drop-drop}
+use borrow.Author.Tests.{eq-eqb, ne-eqb}
+use Rattle.plain.specs.Lists.{all}
+use Rattle.plain.specs.Machine.{BatchLine as PlainLine, makes, other}
+use Rattle.rows.specs.Change.{Rows}
+use Rattle.look.specs.Numbers.{noNumber}
+use Rattle.table.specs.declared.BatchLine.{BatchLine}
+use Rattle.table.specs.declared.Subject.{Subject}
+use Rattle.table.specs.declared.Subject.the-variants as Subject
+use Rattle.table.specs.declared.Switch.{Switch}
+use Rattle.table.specs.Trials.{opOf}
+use Rattle.table.specs.Filing.{namedBy}
+use Rattle.table.specs.Batches.{lineIn, isChange, switchIn, linesIn, statesIn, headLine, opFor}
+use Rattle.table.proofs.Batches.{Making, change-line, other-line, lines-next, lines-end}
+use Rattle.session.specs.declared.Resumption.the-variants.{Nowhere}
+use Rattle.session.specs.Model.{unexploredEdge, unexploredIn, passedOverIn, allPassedOver, namedMost, earliestOf, resumptionOf}
+use Rattle.session.proofs.Resuming.{named-one, switched-edge, switched-mark}
+
+-- ---- one line
+
+abbrev first : List ℕ → ℕ
+first [] = 0
+first (x ∷ xs) = x
+
+module _ (l : BatchLine) (rows : Rows) (number index walk : List ℕ) (height : ℕ) where
+  -- a line that makes no change
+  pub passed-other : isChange l ≡ false → passedOverIn (lineIn l) rows number index walk height ≡ true
+  passed-other e = ap (λ (x : PlainLine). passedOverIn x rows number index walk height) (other-line l e)
+
+  -- one that makes a change names its first number
+  passed-change : (m : Making l) → passedOverIn (lineIn l) rows number index walk height ≡ (eqb (getD number (l .first) 0) noNumber || unexploredIn (opOf (switchIn l)) rows index walk (height - 1))
+  passed-change m =
+      ap (λ (x : PlainLine). passedOverIn x rows number index walk height) (m .is)
+      ∙ (λ i. eqb (getD number (names i) 0) noNumber || unexploredIn (sym (m .switches) i) rows index walk (height - 1))
+    where
+      names : namedBy (opFor (m .change)) ≡ l .first
+      names = ap first (sym (named-one (m .change)) ∙ m .names)
+
+  -- its state was never met
+  pub passed-unmet : isChange l ≡ true → getD number (l .first) 0 ≡ noNumber → passedOverIn (lineIn l) rows number index walk height ≡ true
+  passed-unmet c e =
+      passed-change (change-line l c)
+      ∙ ap (λ (b : Bool). b || unexploredIn (opOf (switchIn l)) rows index walk (height - 1)) (eq-eqb (getD number (l .first) 0) noNumber e)
+
+  passed-met : isChange l ≡ true → (getD number (l .first) 0 ≡ noNumber → ⊥) → passedOverIn (lineIn l) rows number index walk height ≡ unexploredIn (opOf (switchIn l)) rows index walk (height - 1)
+  passed-met c n =
+      passed-change (change-line l c)
+      ∙ ap (λ (b : Bool). b || unexploredIn (opOf (switchIn l)) rows index walk (height - 1)) (ne-eqb (getD number (l .first) 0) noNumber n)
+
+  -- an edge, or a mark
+  pub passed-edge : isChange l ≡ true → (getD number (l .first) 0 ≡ noNumber → ⊥) → (x : Switch) → x ≡ switchIn l → (from to : ℕ) → x .subject ≡ Subject.Edge from to
+      → passedOverIn (lineIn l) rows number index walk height ≡ unexploredEdge (x .on) from to rows index walk (height - 1)
+  passed-edge c n x e from to f =
+      passed-met c n ∙ ap (λ (y : Switch). unexploredIn (opOf y) rows index walk (height - 1)) (sym e)
+      ∙ switched-edge (x .on) (x .subject) from to rows index walk (height - 1) f
+
+  pub passed-mark : isChange l ≡ true → (getD number (l .first) 0 ≡ noNumber → ⊥) → (x : Switch) → x ≡ switchIn l → (state : ℕ) → x .subject ≡ Subject.Mark state
+      → passedOverIn (lineIn l) rows number index walk height ≡ false
+  passed-mark c n x e state f =
+      passed-met c n ∙ ap (λ (y : Switch). unexploredIn (opOf y) rows index walk (height - 1)) (sym e)
+      ∙ switched-mark (x .on) (x .subject) state rows index walk (height - 1) f
+
+-- ---- all lines
+
+module _ (ns : List ℕ) (at : ℕ) (rows : Rows) (number index walk : List ℕ) (height : ℕ) where
+  abbrev passed : ℕ → Bool
+  passed n = allPassedOver (linesIn (drop n ns)) rows number index walk height
+
+  passed-next : at < length ns → passed at ≡ (passedOverIn (lineIn (headLine (drop at ns))) rows number index walk height && passed (at + 3))
+  unfolding all
+  passed-next h = ap (λ (xs : List PlainLine). allPassedOver xs rows number index walk height) (lines-next ns at h)
+
+  -- the line there is passed over, or it is not
+  module _ (h : at < length ns) (l : BatchLine) (e : l ≡ headLine (drop at ns)) (r : Bool) (f : r ≡ passedOverIn (lineIn l) rows number index walk height) where
+    here : passed at ≡ (r && passed (at + 3))
+    here = passed-next h ∙ ap (λ (b : Bool). b && passed (at + 3)) (ap (λ (x : BatchLine). passedOverIn (lineIn x) rows number index walk height) (sym e) ∙ sym f)
+
+    pub passed-stop : r ≡ false → passed at ≡ false
+    passed-stop z = here ∙ ap (λ (b : Bool). b && passed (at + 3)) z
+
+    pub passed-on : r ≡ true → passed (at + 3) ≡ passed at
+    passed-on z = sym (here ∙ ap (λ (b : Bool). b && passed (at + 3)) z)
+
+  pub passed-end : length ns ≤ at → passed at ≡ true
+  unfolding all
+  passed-end h = ap (λ (xs : List PlainLine). allPassedOver xs rows number index walk height) (lines-end ns at h)
+
+-- ---- the states that they name
+
+states-head : (l : List ℕ) → 0 < length l → statesIn l ≡ headLine l .first ∷ statesIn (drop 3 l)
+unfolding statesIn
+states-head [] k = absurd (omega arith)
+states-head (a ∷ []) k = refl
+states-head (a ∷ b ∷ []) k = refl
+states-head (a ∷ b ∷ c ∷ l) k = refl
+
+states-next : (ns : List ℕ) (at : ℕ) → at < length ns → statesIn (drop at ns) ≡ headLine (drop at ns) .first ∷ statesIn (drop (at + 3) ns)
+states-next ns at h = states-head (drop at ns) (omega (arith, length-drop at ns)) ∙ ap (λ (l : List ℕ). headLine (drop at ns) .first ∷ statesIn l) (drop-drop 3 at ns)
+
+states-end : (ns : List ℕ) (at : ℕ) → length ns ≤ at → statesIn (drop at ns) ≡ []
+unfolding statesIn
+states-end ns at h = ap statesIn (drop-of-length-le ns h)
+
+-- the first n of them stand in a list, and the others are those of the numbers from a place on
+pub record Named (ns states : List ℕ) (at n : ℕ) : Type 0 where
+  pub place : at ≡ 3 * n
+  pub few : n ≤ namedMost
+  pub size : length states ≡ namedMost
+  pub first-are : take n states ≡ take n (statesIn ns)
+  pub rest-are : drop n (statesIn ns) ≡ statesIn (drop at ns)
+
+pub named-begun : (ns states : List ℕ) → length states ≡ namedMost → Named ns states 0 0
+named-begun ns states e = record { place = refl; few = omega arith; size = e; first-are = refl; rest-are = refl }
+
+module _ (ns states : List ℕ) (at n : ℕ) (w : Named ns states at n) where
+  -- one more
+  pub named-on : at < length ns → n < namedMost → (l : BatchLine) → l ≡ headLine (drop at ns) → Named ns (set states n (l .first)) (at + 3) (n + 1)
+  named-on h k l e =
+      let all = statesIn ns in
+      let next : drop n all ≡ l .first ∷ statesIn (drop (at + 3) ns) = w .rest-are ∙ states-next ns at h ∙ ap (λ (x : BatchLine). x .first ∷ statesIn (drop (at + 3) ns)) (sym e) in
+      let some : n < length all = omega (arith, ap length next, length-drop n all) in
+      let both : getD all n 0 ∷ drop (suc n) all ≡ l .first ∷ statesIn (drop (at + 3) ns) = sym (drop-cons all n 0 some) ∙ next in
+      let here : getD all n 0 ≡ l .first = cc in
+      let rest : drop (suc n) all ≡ statesIn (drop (at + 3) ns) = cc in
+      let up : n + 1 ≡ suc n = omega arith in
+      record {
+        place = omega (arith, w .place);
+        few = omega arith;
+        size = length-set states n (l .first) ∙ w .size;
+        first-are = ap (λ (i : ℕ). take i (set states n (l .first))) up ∙ take-suc-set states n (l .first) (omega (arith, w .size))
+            ∙ (λ i. w .first-are i ++ (sym here i ∷ [])) ∙ sym (take-suc all n 0 some) ∙ ap (λ (i : ℕ). take i all) (sym up);
+        rest-are = ap (λ (i : ℕ). drop i all) up ∙ rest;
+      }
+
+  -- all of them, or as many as a batch may name
+  pub named-all : length ns ≤ at → take n states ≡ take namedMost (statesIn ns)
+  named-all h =
+      let all = statesIn ns in
+      let short : length all ≤ n = omega (arith, ap length (w .rest-are ∙ states-end ns at h), length-drop n all) in
+      w .first-are ∙ take-all n all short ∙ sym (take-all namedMost all (omega (arith, w .few)))
+
+  pub named-full : n ≡ namedMost → take n states ≡ take namedMost (statesIn ns)
+  named-full e = w .first-are ∙ ap (λ (i : ℕ). take i (statesIn ns)) e
+
+-- ---- where the search is taken up
+
+module _ (ns : List ℕ) (rows : Rows) (number index walk : List ℕ) (height : ℕ) where
+  pub resumption-nowhere : allPassedOver (linesIn ns) rows number index walk height ≡ true → resumptionOf ns rows number index walk height ≡ Nowhere
+  unfolding resumptionOf
+  resumption-nowhere e = ap (λ (b : Bool). cond b Nowhere (earliestOf (take namedMost (statesIn ns)) number)) e
+
+  pub resumption-earliest : allPassedOver (linesIn ns) rows number index walk height ≡ false → resumptionOf ns rows number index walk height ≡ earliestOf (take namedMost (statesIn ns)) number
+  unfolding resumptionOf
+  resumption-earliest e = ap (λ (b : Bool). cond b Nowhere (earliestOf (take namedMost (statesIn ns)) number)) e
