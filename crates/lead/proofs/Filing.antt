@@ -26,16 +26,12 @@ two-put ns at a b h =
     (put-set ns at a (omega arith))
     (put-set (set ns at a) (at + 1) b (omega (arith, length-set ns at a)))
 
-pub two-set : (ns : List ℕ) (at a b : ℕ) → at + 1 < length ns → set (set ns at a) (at + 1) b ≡ overwritten ns at (a ∷ b ∷ [])
-two-set ns at a b h = two-put ns at a b h .made
-
-pub three-set : (ns : List ℕ) (at a b c : ℕ) → at + 2 < length ns → set (set (set ns at a) (at + 1) b) (at + 2) c ≡ overwritten ns at (a ∷ b ∷ c ∷ [])
+three-set : (ns : List ℕ) (at a b c : ℕ) → at + 2 < length ns → set (set (set ns at a) (at + 1) b) (at + 2) c ≡ overwritten ns at (a ∷ b ∷ c ∷ [])
 three-set ns at a b c h =
     let ms = set (set ns at a) (at + 1) b in
-    let p = two-put ns at a b (omega arith) in
     let k : at + 2 < length ms = omega (arith, length-set ns at a, length-set (set ns at a) (at + 1) b) in
     put-then ns at (a ∷ b ∷ []) ms (at + 2) (c ∷ []) (set ms (at + 2) c) (at + 2 + 1) (omega arith)
-    (record { next = refl; made = p .made })
+    (record { next = refl; made = two-put ns at a b (omega arith) .made })
     (put-set ms (at + 2) c k) .made
 
 -- ---- what stands at the head of a list that was overwritten
@@ -85,12 +81,21 @@ module _ (taken : Bool) (n : ℕ) (bs ns : List ℕ) where
   head-put : taken ≡ true → n + length bs ≤ length ns → take (n + length bs) Behind ≡ take n ns ++ bs
   head-put t h = rw (t, le-leb (n + length bs) (length ns) h) (front-put ns bs n (omega arith))
 
--- ---- the numbers of a `move`
+-- ---- the list behind a line
+
+-- at a stage at which moves are gathered no line of a batch is
+apart : (g : Stage) (r : Record) → gathersMove g r ≡ true → insideLine g r ≡ false
+apart Waiting r e = refl
+apart Gathering r e = refl
+apart Playing r e = refl
+apart Batching r e = absurd (true≢false (sym e))
+apart Over r e = refl
 
 module _ (l : Lead) (r : Record) (ns : List ℕ) where
+  -- a `move`
   pub filed-both : (at : ℕ) → takesMove l r ≡ true → at ≡ l .count → at + 1 < length ns → set (set ns at (r .first)) (at + 1) (r .second) ≡ filedMove l r ns
   unfolding filedMove
-  filed-both at t e h = set-behind (takesMove l r) (l .count) (r .first ∷ r .second ∷ []) ns at t e (omega arith) (two-set ns at (r .first) (r .second) h)
+  filed-both at t e h = set-behind (takesMove l r) (l .count) (r .first ∷ r .second ∷ []) ns at t e (omega arith) (two-put ns at (r .first) (r .second) h .made)
 
   pub filed-not : takesMove l r ≡ false → ns ≡ filedMove l r ns
   unfolding filedMove
@@ -100,9 +105,7 @@ module _ (l : Lead) (r : Record) (ns : List ℕ) where
   unfolding filedMove
   filed-full at e h = no-room (takesMove l r) (l .count) (r .first ∷ r .second ∷ []) ns (omega arith)
 
--- ---- the numbers of a line of a batch
-
-module _ (l : Lead) (r : Record) (ns : List ℕ) where
+  -- a line of a batch
   pub line-filed : (at : ℕ) (x : BatchLine) → takesLine l r ≡ true → at ≡ l .count → at + 2 < length ns → x ≡ lineRead r
       → set (set (set ns at (x .what)) (at + 1) (x .first)) (at + 2) (x .second) ≡ filedLine l r ns
   unfolding filedLine
@@ -118,34 +121,24 @@ module _ (l : Lead) (r : Record) (ns : List ℕ) where
   unfolding filedLine
   line-full at e h = no-room (takesLine l r) (l .count) (numbersOf (lineRead r)) ns (omega arith)
 
--- ---- the head of the list behind a line
-
--- at a stage at which moves are gathered no line of a batch is
-apart : (g : Stage) (r : Record) → gathersMove g r ≡ true → insideLine g r ≡ false
-apart Waiting r e = refl
-apart Gathering r e = refl
-apart Playing r e = refl
-apart Batching r e = absurd (true≢false (sym e))
-apart Over r e = refl
-
-module _ (l : Lead) (r : Record) (ns : List ℕ) where
+  -- a `move` is none
   no-line : takesMove l r ≡ true → takesLine l r ≡ false
   unfolding takesMove takesLine
   no-line t = rw (apart (l .stage) r (and-true (not (isFull l)) _ t .1)) (and-false (ltb (l .count) heldMost))
 
-  -- the numbers before it stay
+  -- ---- the head of the list: the numbers before the line stay
+
   pub numbers-kept : take (l .count) (filed l r ns) ≡ take (l .count) ns
   unfolding filed filedMove filedLine
   numbers-kept = head-kept (takesLine l r) (l .count) (numbersOf (lineRead r)) (filedMove l r ns) ∙ head-kept (takesMove l r) (l .count) (r .first ∷ r .second ∷ []) ns
 
-  -- and its own stand behind them: those of a `move`
+  -- and its own stand behind them
   pub move-put : takesMove l r ≡ true → l .count + 2 ≤ length ns → take (l .count + 2) (filed l r ns) ≡ take (l .count) ns ++ (r .first ∷ r .second ∷ [])
   unfolding filed filedMove filedLine
   move-put t h =
-      ap (take (l .count + 2)) (sym (line-not l r (filedMove l r ns) (no-line t)))
+      ap (take (l .count + 2)) (sym (not-taken (takesLine l r) (l .count) (numbersOf (lineRead r)) (filedMove l r ns) (no-line t)))
       ∙ head-put (takesMove l r) (l .count) (r .first ∷ r .second ∷ []) ns t h
 
-  -- those of a line of a batch
   pub line-put : takesLine l r ≡ true → l .count + 3 ≤ length ns → take (l .count + 3) (filed l r ns) ≡ take (l .count) ns ++ numbersOf (lineRead r)
   unfolding filed filedMove filedLine
   line-put t h =
