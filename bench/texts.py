@@ -11,7 +11,7 @@ import sys
 
 sys.path.insert(0, str(pathlib.Path(__file__).resolve().parent.parent / "tests"))
 sys.dont_write_bytecode = True
-from common import as_lines  # noqa: E402
+from common import as_lines, lines_of  # noqa: E402
 from reference import plain_search  # noqa: E402
 from sessions import Text  # noqa: E402
 
@@ -22,6 +22,7 @@ KINDS = {
     "stem": "at a long stem, moves not come to",
     "mark": "the start state's pay is switched",
 }
+BATCH = 32          # changes in a batch
 
 
 class Game:
@@ -115,8 +116,18 @@ class Stem(Game):
             return text.add(move)
 
 
+def in_batches(lines):
+    """The same changes in batches."""
+    rows = lines_of(lines)
+    return b"".join(b"begin\n" + b"".join(rows[at:at + BATCH]) + b"end\n" for at in range(0, len(rows), BATCH))
+
+
 def text(seed, size, kind, count):
-    """Head, up to `go`, and the lines of the changes."""
+    """Head, up to `go`, and the lines of the changes. The kind `batch` is `random` in batches: same game, same changes, as far
+    as a batch is full."""
+    if kind == "batch":
+        head, lines = text(seed, size, "random", count - count % BATCH)
+        return head, in_batches(lines)
     game = (Stem if kind == "stem" else Game)(random.Random("%s %d %s" % (seed, size, kind)), size)
     head = len(game.text.rows)
     while len(game.text.rows) < head + count:

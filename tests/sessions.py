@@ -16,8 +16,9 @@ import sys
 
 import common
 from common import ROOT, STORED, as_lines, difference, fail, game_a
-from reference import (GAMES, MARK_GAMES, MOST_MOVES, MOST_STATES, SELF_GAMES, UNREACHED_GAMES, answer_text, bench_answer,
-                       plain_search)
+from batches import LENGTHS, NUMBERS, some_lines
+from reference import (BATCH_GAMES, CHANGES, GAMES, MARK_GAMES, MOST_MOVES, MOST_STATES, SELF_GAMES, UNREACHED_GAMES, Table,
+                       answer_text, bench_answer, flat, made, plain_search, read_line, rows_of, words_of)
 
 
 # ------------------------------------------------------------ one text
@@ -62,7 +63,12 @@ class Text:
         (self.unmark if state in self.pays else self.mark)(state)
 
     def data(self):
-        return b"".join(r + b"\n" if isinstance(r, bytes) else as_lines([r]) for r in self.rows)
+        return as_bytes(self.rows)
+
+
+def as_bytes(rows):
+    """Rows as lines: bytes as they are, texts with tabs for spaces."""
+    return b"".join(r + b"\n" if isinstance(r, bytes) else as_lines([r]) for r in rows)
 
 
 def some_move(rng, size):
@@ -141,12 +147,14 @@ def changes(rng, text, count, wanted, closing):
 # ------------------------------------------------------- lines to refuse
 
 def hostile_lines():
-    right = [b"game\t2\t0", b"pay\t1", b"move\t0\t1", b"go", b"add\t0\t1", b"cut\t0\t1", b"mark\t0", b"unmark\t1"]
+    right = [b"game\t2\t0", b"pay\t1", b"move\t0\t1", b"go", b"add\t0\t1", b"cut\t0\t1", b"mark\t0", b"unmark\t1",
+             b"end", b"begin"]
     numbers = [b"", b"0", b"00", b"01", b"1", b"9", b"511", b"512", b"513", b"9999", b"65535", b"65536", b"99999",
                b"100000", b"000001", b"4294967296", b"18446744073709551617", b" 1", b"1 ", b"+1", b"-1", b"0x1",
                b"1\r", b"1\0", b"\x001", b"1.0", b"\xd9\xa1", b"\xff", b":", b"/"]
     lines = [b"", b" ", b"\t", b"\t\t", b"\t\t\t", b"\r", b"\0", b"\xff\xfe", b"x", b"game", b"kinds\t1",
-             b"begin", b"end", b"why", b"g", b"ad", b"addd\t0\t1", b"add\t0\t1add\t0\t1", b"-", b"#", b"\xef\xbb\xbfgo"]
+             b"why", b"g", b"ad", b"begi", b"beginn", b"en", b"ends", b"endbegin", b"begin\tend", b"addd\t0\t1",
+             b"add\t0\t1add\t0\t1", b"-", b"#", b"\xef\xbb\xbfgo"]
     for line in right:
         fields = line.split(b"\t")
         lines += [line, line.upper(), line.title(), b"\t" + line, b" " + line, line + b"\t", line + b"\t\t", line + b" ",
@@ -161,15 +169,19 @@ def hostile_lines():
 
 
 HOSTILE = hostile_lines()
+# Those that are 1 inside a batch, and those that are outside one.
+NO_CHANGE = [line for line in HOSTILE if read_line(line, CHANGES | {b"end"}) is None]
+NO_CALL = [line for line in HOSTILE if read_line(line, CHANGES | {b"begin"}) is None]
 STAGES = [b"", b"game\t2\t0\n", b"game\t2\t0\npay\t1\n", b"game\t2\t0\npay\t1\nmove\t1\t0\n",
-          b"game\t2\t0\npay\t1\nmove\t1\t0\ngo\n"]
+          b"game\t2\t0\npay\t1\nmove\t1\t0\ngo\n", b"game\t2\t0\npay\t1\nmove\t1\t0\ngo\nbegin\nadd\t0\t0\n"]
+BEHIND = [b"go\n"] * 4 + [b"", b"cut\t0\t0\nend\n"]
 
 
 def staged():
     """Each hostile line at each place of a small session, with lines behind it that show what became of it."""
     for line in HOSTILE + [b"x" * 70000, b"add\t0\t1\n" * 9000]:
-        for at, before in enumerate(STAGES):
-            yield before + line + b"\n" + (b"" if at == 4 else b"go\n") + b"add\t0\t1\nunmark\t1\ncut\t0\t1"
+        for before, behind in zip(STAGES, BEHIND):
+            yield before + line + b"\n" + behind + b"add\t0\t1\nunmark\t1\ncut\t0\t1"
 
 
 # ------------------------------------------------------- random sessions
@@ -325,6 +337,72 @@ def stems(rng, size=None, count=40):
     return text.data()
 
 
+class Beside:
+    """A text with the reference's table beside it, so that the next lines can be about what the table holds."""
+
+    def __init__(self, text):
+        self.text, self.table = text, Table()
+        self.table.load(text.size, text.start, words_of(text.pays), flat(text.moves), MOST_STATES)
+
+    def send(self, *call):
+        self.text.rows += rows_of(call)
+        made(self.table, call, MOST_STATES)
+
+
+def batch_game(rng, size):
+    """A game for batches: with a line of states to one that pays, or any. Of the largest some are full, or nearly."""
+    if size < 4 or rng.random() < 0.25:
+        wanted = min(size * size, int(size * rng.uniform(0.5, 2.2)))
+        return Text(size, rng.randrange(size), [rng.randrange(size)], some_moves(rng, size, wanted))
+    text, _ = stem_game(rng, size)
+    if size == MOST_STATES and rng.random() < 0.6:
+        moves = dict.fromkeys([*text.moves, *some_moves(rng, size, MOST_MOVES)])
+        text = Text(size, text.start, list(text.pays), list(moves)[:MOST_MOVES - rng.choice((0, 0, 1, 5))])
+    return text
+
+
+def no_change(rng):
+    """A line that gets 1 inside a batch."""
+    words = "begin", "go", "game 2 0", "pay 0", "move 0 0", "", "ways 0", "sheet", "end ", "x" * 33
+    return rng.choice(words if rng.random() < 0.5 else NO_CHANGE)
+
+
+def batch_of(rng, table):
+    """The lines of a batch, of each length; a third are refused, with each number at each place, and of these some have
+    more lines behind it that nobody looks at."""
+    count = rng.choice(LENGTHS + 4 * (rng.randint(3, 8), rng.randint(9, 62)))
+    fault = None
+    if rng.random() < 0.35:
+        count = max(1, count)
+        numbers = NUMBERS if len(table.moves) < MOST_MOVES - 8 or rng.random() < 0.5 else (9,)
+        fault = rng.choice(numbers), rng.choice((1, (count + 1) // 2, count, min(count, 64), min(count, 65)))
+    lines = some_lines(rng, table, count, rng.random() < 0.5, fault)
+    if fault and rng.random() < 0.4:
+        lines += [None] * rng.choice((1, 2, 70))
+    return [no_change(rng) if line is None else line for line in lines]
+
+
+def unended(rng, table):
+    """A batch that the input ends in, at any of its lines, with and without a last newline; or its `end` lacks that."""
+    rows = rows_of(("batch", batch_of(rng, table)))
+    whole = as_bytes(rows[:rng.choice((1, 2, len(rows) - 1, rng.randint(1, len(rows))))])
+    behind = rng.choice((b"", b"e", b"en", b"end", b"end\t", b"end\r\n", b"\n", b"add\t0"))
+    return whole[:-1] if rng.random() < 0.3 else whole + behind
+
+
+def batches(rng, size=None, count=None):
+    """Batches, and changes alone and unreadable lines between them. Seldom the input ends inside a batch."""
+    sizes = 1, 2, rng.randint(3, 5), rng.randint(3, 8), rng.randint(6, 12), rng.randint(13, 64), rng.randint(65, 511), 512
+    session = Beside(batch_game(rng, size or rng.choice(sizes)))
+    for _ in range(count or rng.randint(3, 12)):
+        session.send("batch", batch_of(rng, session.table))
+        for _ in range(rng.choice((0, 0, 1, 3))):
+            fault = (rng.choice(NUMBERS), 1) if rng.random() < 0.2 else None
+            for line in some_lines(rng, session.table, 1, rng.random() < 0.4, fault):
+                session.send(*line or ("line", rng.choice(NO_CALL)))
+    return session.text.data() + (unended(rng, session.table) if rng.random() < 0.2 else b"")
+
+
 def hostile(rng):
     """A small session with unreadable lines among its lines, mostly behind `go`."""
     lines = common.lines_of(small(rng))
@@ -363,7 +441,7 @@ def refused(rng):
 
 def ended(rng):
     """A session that ends anywhere: before `go`, within a line, without the last newline."""
-    text = rng.choice((small, hostile, refused))(rng)
+    text = rng.choice((small, hostile, refused, batches))(rng)
     return text[:rng.randrange(len(text))]
 
 
@@ -386,7 +464,7 @@ def many(rng):
     return text.data()
 
 
-KINDS = {make.__name__: make for make in (small, mid, full, chain, stems, hostile, refused, ended, many)}
+KINDS = {make.__name__: make for make in (small, mid, full, chain, stems, batches, hostile, refused, ended, many)}
 
 
 def session(seed, kind):
@@ -399,7 +477,7 @@ def known(game):
     """A game of the reference with its changes."""
     _, size, pays, moves, _, calls = game
     text = Text(size, 0, pays, moves)
-    text.rows += [" ".join(map(str, call[:-1])) for call in calls]
+    text.rows += [row for call in calls for row in rows_of(call[:-1])]
     return text.data()
 
 
@@ -434,12 +512,31 @@ def longest_walk():
     return text.data()
 
 
+# What a text behind `go` ends with inside a batch, which then does and prints nothing; and an `end` that just lacks its newline.
+OPEN = {"begin": b"begin\n", "begin-bare": b"begin", "line": b"begin\ncut\t0\t1\n", "line-bare": b"begin\ncut\t0\t1",
+        "refused": b"begin\ncut\t0\t1\nx\nmark\t9\n", "cut-off": b"begin\ncut\t0\t1\nen", "field": b"begin\ncut\t0\t1\nend\t",
+        "not": b"begin\ncut\t0\t1\nend"}
+
+
+def stored_batches():
+    """The same of those with batches."""
+    for game in BATCH_GAMES:
+        yield game[0], known(game)
+    for name, behind in OPEN.items():
+        yield "batch-open-" + name, STAGES[4] + b"add\t0\t1\n" + behind
+    yield "batch-before-go", as_lines(["game 2 0", "begin", "end", "go"])
+    yield "batch-hostile-lines", STAGES[4] + as_bytes(row for line in NO_CHANGE for row in ("begin", line, "end")) + b"cut\t0\t1"
+    yield "random-batches", session(2845, "batches")
+    yield "random-batches-512", batches(random.Random(25), 512, 8)
+
+
 def stored():
     """Name and text of each stored session."""
     for game in GAMES:
         yield "game-" + game[0].lower(), known(game)
     for game in SELF_GAMES + MARK_GAMES + UNREACHED_GAMES:
         yield game[0], known(game)
+    yield from stored_batches()
     yield "states-512", as_lines(["game 512 0", "pay 511", "move 0 511", "go", "add 511 0", "add 512 0", "cut 511 0"])
     yield "states-513", as_lines(["game 513 0", "pay 511", "move 0 511", "go", "add 511 0"])
     yield "start-511", as_lines(["game 512 511", "pay 511", "move 511 0", "move 0 511", "go", "cut 0 511", "add 0 511",
@@ -467,7 +564,7 @@ def stored():
                              "unmark 65", "unmark 0", "unmark 64", "unmark 511", "unmark 511", "mark 64", "mark 0", "mark 511",
                              "unmark 64"])
     yield "longest-walk", longest_walk()
-    yield "hostile-lines", STAGES[4] + b"".join(line + b"\n" for line in HOSTILE) + b"cut\t0\t1"
+    yield "hostile-lines", STAGES[4] + as_bytes(line for line in HOSTILE if line != b"begin") + b"cut\t0\t1"
     yield "refused-4", as_lines(["game 2 1", "pay 2", "move 0 0", "move 0 0", "move 9 9", "go", "add 0 1"])
     yield "refused-6", as_lines(["game 2 1", "move 0 1", "move 0 1", "move 0 0", "move 9 9", "go", "add 0 1"])
     yield "refused-8", as_lines(["game 2 1", "move 0 1", "move 1 0", "move 0 1", "go", "add 0 1"])
@@ -476,25 +573,36 @@ def stored():
     yield "random-small", session(752, "small")
     yield "random-mid", session(668, "mid")
     yield "random-mid-changes", session(247, "mid")
-    yield "random-full", session(29, "full")
+    yield "random-full", session(25, "full")
     yield "random-chain", chain(random.Random(54), 16)
     yield "random-stems", session(1028, "stems")
     yield "random-stems-512", stems(random.Random(65), 512, 16)
 
 
 SEPARATOR = b"\x1e"                            # parts the texts that crates/texts is run on
-# It holds 65,536 bytes of input. What moves-2048 asks is asked in self-move-2048 too. same-move-2049 is a shorter text for
-# what moves-2049 and self-move-2049 ask, and marks-none-of-512 for the states about which marks-all-of-512 asks.
-# random-stems asks on a walk of 6 states what random-stems-512 asks on one of 487.
-TOO_LONG = {"random-full", "random-chain", "moves-2048", "moves-2049", "self-move-2049", "self-moves-512", "marks-all-of-512",
-            "random-stems-512"}
+BLOCK = 65536                                  # bytes that it reads at a time, and answers before the next
+# Two blocks are enough. What moves-2048 asks is asked in self-move-2048 and in batch-full too. same-move-2049 is a shorter text
+# for what moves-2049 and self-move-2049 ask. random-stems asks on a walk of 6 states what random-stems-512 asks on one of
+# 487, and random-batches on 8 states what random-batches-512 asks.
+TOO_LONG = {"random-full", "random-chain", "moves-2048", "moves-2049", "self-move-2049", "random-stems-512", "random-batches-512"}
+SECOND = {"random-mid-changes", "self-moves-512", "marks-all-of-512", "random-batches"}
+
+
+def blocks():
+    """The texts of each block. One that is no line to read fills up the first."""
+    texts = [(name, text) for name, text in stored() if name not in TOO_LONG]
+    second = [name in SECOND or name.startswith("batch-") for name, _ in texts]
+    parted = [[text for (_, text), behind in zip(texts, second) if behind == at] for at in (False, True)]
+    left = BLOCK - len(SEPARATOR.join(parted[0] + [b""]))
+    if left <= 32 or len(SEPARATOR.join(parted[1])) > BLOCK:
+        fail("the texts do not fit into their blocks")
+    return [parted[0] + [b"x" * left], parted[1]]
 
 
 def bundle():
     """Input and output of crates/texts: stored sessions, each answer with the number that the call returns."""
-    texts = [text for name, text in stored() if name not in TOO_LONG]
-    answers = (bench_answer(text, 65536) for text in texts)
-    return SEPARATOR.join(texts), b"".join(out + b"%d\n" % number for out, number in answers)
+    answers = (bench_answer(text, 65536) for texts in blocks() for text in texts)
+    return b"".join(map(SEPARATOR.join, blocks())), b"".join(out + b"%d\n" % number for out, number in answers)
 
 
 def stored_files():

@@ -6,7 +6,7 @@ run afresh on the table; nothing is remembered from one run to the next. A move
 from a state to itself is taken like any other; there is no refusal 7. A state's
 pay is turned on and off by `mark` and `unmark`. Where a move comes or goes, the
 search is also run on the table as it was: what that run had not come to keeps
-every look.
+every look. A batch of changes is done as a whole, with one answer, or not at all.
 
     python3 reference.py --selftest      run the tests of this file
     python3 reference.py < text          answer a whole input text
@@ -19,6 +19,7 @@ from collections import Counter, namedtuple
 
 MOST_STATES = 512
 MOST_MOVES = 2048
+MOST_CHANGES = 64      # in a batch
 WORDS = 8
 
 
@@ -113,13 +114,20 @@ def not_come_to(run, word, move):
     return move[0] not in run.finished
 
 
+def keeps_all(run, word, states):
+    """Whether this change of a batch leaves every look of the run before the batch."""
+    if word in ("add", "cut"):
+        return not_come_to(run, word, states)
+    return states[0] not in run.met_after
+
+
 # ----------------------------------------------------------------- the table
 
 class Table:
     """N, the start state, the marks and the moves present, oldest first.
 
     Answers: ("no", n), ("none", spent, kept)
-    or ("round", spent, kept, stem, round).
+    or ("round", spent, kept, stem, round); of a batch ("no", n, position) too.
     """
 
     def __init__(self):
@@ -141,39 +149,77 @@ class Table:
         return self._answer(None)
 
     def add(self, a, b, room):
-        number = self._refusal((a, b), room, lambda: 8 if (a, b) in self.moves else
-                               9 if len(self.moves) >= MOST_MOVES else 0)
-        return ("no", number) if number else self._move("add", (a, b), self.moves.append)
+        return self._alone("add", (a, b), room)
 
     def cut(self, a, b, room):
-        number = self._refusal((a, b), room, lambda: 0 if (a, b) in self.moves else 10)
-        return ("no", number) if number else self._move("cut", (a, b), self.moves.remove)
-
-    def _move(self, word, move, change):
-        spared = not_come_to(self._search(), word, move)
-        change(move)
-        return self._answer(move[0], spared)
+        return self._alone("cut", (a, b), room)
 
     def mark(self, state, room):
-        return self._switch(state, room, True, 13)
+        return self._alone("mark", (state,), room)
 
     def unmark(self, state, room):
-        return self._switch(state, room, False, 14)
+        return self._alone("unmark", (state,), room)
 
-    def _switch(self, state, room, pays, already):
-        number = self._refusal((state,), room, lambda: already if self.pays[state] == pays else 0)
+    def _alone(self, word, states, room):
+        """A change outside a batch."""
+        self._need_session()
+        number = self._refusal(word, states) or self._short(room)
         if number:
             return ("no", number)
-        self.pays[state] = pays
-        return self._answer(state)
+        spared = word in ("add", "cut") and not_come_to(self._search(), word, states)
+        self._make(word, states)
+        return self._answer(states[:1], spared)
 
-    def _refusal(self, states, room, own):
-        """Of a change: 6 for the states that it names, then its own numbers, then 11."""
-        if not self.loaded:
-            raise RuntimeError("a change without a session")
+    def batch(self, lines, room):
+        """lines: changes, each a word and its states, and None for a line that is no change.
+        A refusal tells the position of its line too, from 1; that of the lent list, tried ahead of them, is 0."""
+        self._need_session()
+        number = self._short(room)
+        if number:
+            return ("no", number, 0)
+        held, before = (list(self.moves), list(self.pays)), self._search()
+        for position, line in enumerate(lines, 1):
+            number = self._line_refusal(line, position)
+            if number:
+                self.moves, self.pays = held
+                return ("no", number, position)
+            self._make(line[0], line[1:])
+        spared = all(keeps_all(before, line[0], line[1:]) for line in lines)
+        return self._answer([line[1] for line in lines], spared)
+
+    def _line_refusal(self, line, position):
+        if line is None:
+            return 1
+        return 15 if position > MOST_CHANGES else self._refusal(line[0], line[1:])
+
+    def _refusal(self, word, states):
+        """Of a change: 6 for the states that it names, then its own numbers."""
         if any(s >= self.size for s in states):
             return 6
-        return own() or (11 if room < self.size else 0)
+        if word == "add":
+            return 8 if states in self.moves else 9 if len(self.moves) >= MOST_MOVES else 0
+        if word == "cut":
+            return 0 if states in self.moves else 10
+        pays = self.pays[states[0]]
+        if word == "mark":
+            return 13 if pays else 0
+        return 0 if pays else 14
+
+    def _short(self, room):
+        """Of every call: 11 for the lent list."""
+        return 11 if room < self.size else 0
+
+    def _need_session(self):
+        if not self.loaded:
+            raise RuntimeError("a change without a session")
+
+    def _make(self, word, states):
+        if word == "add":
+            self.moves.append(states)
+        elif word == "cut":
+            self.moves.remove(states)
+        else:
+            self.pays[states[0]] = word == "mark"
 
     def _load_refusal(self, size, start, words, numbers, room):
         if size == 0 or size > MOST_STATES:
@@ -197,8 +243,8 @@ class Table:
         return plain_search(self.size, self.start, self.pays, self.moves)
 
     def _answer(self, named, spared=False):
-        """named: the state that the changed move leaves, or whose mark changed; None after a load.
-        spared: the run before the change had not come to the move."""
+        """named: the states that the changed moves leave, or whose marks changed; None after a load.
+        spared: the run before the changes had come to none of them."""
         self.run = run = self._search()
         count = len(run.looks)
         if named is None:
@@ -206,7 +252,7 @@ class Table:
         elif spared:
             kept = count
         else:
-            kept = run.met_after.get(named, count)
+            kept = min(run.met_after.get(s, count) for s in named)
         spent = count - kept
         if not run.found:
             return ("none", spent, kept)
@@ -232,7 +278,7 @@ def words_of(states):
 # --------------------------------------------------------- lines on the lead
 
 LONGEST_INPUT = 4294967295
-FIELDS = {b"game": 3, b"pay": 2, b"move": 3, b"go": 1, b"add": 3, b"cut": 3, b"mark": 2, b"unmark": 2}
+FIELDS = {b"game": 3, b"pay": 2, b"move": 3, b"go": 1, b"add": 3, b"cut": 3, b"mark": 2, b"unmark": 2, b"begin": 1, b"end": 1}
 CHANGES = {b"add", b"cut", b"mark", b"unmark"}
 
 
@@ -277,17 +323,23 @@ def answer_line(answer):
 
 def answer_lines(data):
     """The output lines for a whole input text, one after the other."""
+    lines = iter(records(data))
     table = Table()
+    yield from load_lines(lines, table)
+    if table.loaded:
+        for line in lines:
+            yield from change_lines(line, lines, table)
+
+
+def load_lines(lines, table):
+    """The output up to and with that of the load."""
     allowed = {b"game"}
     pay, numbers = set(), []
-    for line in records(data):
-        record = read_line(line, allowed)
-        if record is None:
+    for line in lines:
+        word, args = read_line(line, allowed) or (None, None)
+        if word is None:
             yield answer_line(("no", 1))
-            if not table.loaded:
-                return
-            continue
-        word, args = record
+            return
         if word == b"game":
             size, start = args
             allowed = {b"pay", b"move", b"go"}
@@ -299,16 +351,36 @@ def answer_lines(data):
                 yield answer_line(("no", 5))
                 return
             numbers += args
-        elif word == b"go":
-            allowed = CHANGES
-            answer = table.load(size, start, words_of(pay), numbers, MOST_STATES)
-            if answer[0] == "no":
-                yield answer_line(answer)
-                return
-            yield answer_line(("game", size, len(numbers) // 2, len(pay)))
-            yield answer_line(answer)
         else:
-            yield answer_line(getattr(table, word.decode())(*args, MOST_STATES))
+            answer = table.load(size, start, words_of(pay), numbers, MOST_STATES)
+            if table.loaded:
+                yield answer_line(("game", size, len(numbers) // 2, len(pay)))
+            yield answer_line(answer)
+            return
+
+
+def change_lines(line, rest, table):
+    """The output for one line behind the load, or for a batch, whose other lines are taken from the rest."""
+    word, args = read_line(line, CHANGES | {b"begin"}) or (None, None)
+    if word is None:
+        yield answer_line(("no", 1))
+    elif word == b"begin":
+        batch = batch_lines(rest)
+        if batch is not None:
+            yield answer_line(table.batch(batch, MOST_STATES))
+    else:
+        yield answer_line(getattr(table, word.decode())(*args, MOST_STATES))
+
+
+def batch_lines(lines):
+    """The lines up to `end` as Table.batch takes them, or None where the input ends before."""
+    batch = []
+    for line in lines:
+        word, args = read_line(line, CHANGES | {b"end"}) or (None, None)
+        if word == b"end":
+            return batch
+        batch.append(None if word is None else (word.decode(), *args))
+    return None
 
 
 def answer_text(data):
@@ -766,7 +838,219 @@ UNREACHED_GAMES = [
     ]),
 ]
 
-WORKED = GAMES + SELF_GAMES + MARK_GAMES + UNREACHED_GAMES
+# The same for batches, worked by hand. A batch's call has a list of changes; a text in it stands for a line that is no
+# change, with spaces for tabs. ("line", text, answer) is such a line outside a batch: it makes no call.
+BACK_1 = [("add", 1, 1), ("cut", 1, 1)]
+BACK_0 = [("add", 0, 0), ("cut", 0, 0)]
+FULL_MOVES = [(a, b) for a in range(32, 64) for b in range(64)]       # 2,048; none leaves the start state
+BATCH_GAMES = [
+    # one with no change keeps every look: with none and with a round
+    ("batch-empty", 4, [2], [(0, 1), (1, 2)], ("none", 2, 0), [
+        ("batch", [], ("none", 0, 2)),
+        ("batch", [], ("none", 0, 2)),
+        ("add", 2, 1, ("round", 2, 2, [0], [1, 2])),
+        ("batch", [], ("round", 0, 4, [0], [1, 2])),
+        ("add", 2, 3, ("round", 3, 2, [0], [1, 2])),
+        ("batch", [], ("round", 0, 5, [0], [1, 2])),
+        ("cut", 1, 2, ("none", 0, 1)),
+        ("batch", [], ("none", 0, 1)),
+    ]),
+    ("batch-alone", 1, [], [], ("none", 0, 0), [
+        ("batch", [], ("none", 0, 0)),
+        ("batch", [("mark", 0), ("add", 0, 0)], ("round", 2, 0, [], [0])),
+        ("batch", [], ("round", 0, 2, [], [0])),
+        ("batch", [("unmark", 0), ("cut", 0, 0), ("add", 0, 0), ("mark", 0), ("cut", 0, 0)], ("none", 0, 0)),
+        ("batch", [("cut", 0, 1)], ("no", 6, 1)),
+    ]),
+    # Game A in batches of one
+    ("batch-a", 4, [2], [(0, 1), (1, 2)], ("none", 2, 0), [
+        ("batch", [("add", 2, 1)], ("round", 2, 2, [0], [1, 2])),
+        ("batch", [("add", 2, 3)], ("round", 3, 2, [0], [1, 2])),
+        ("batch", [("cut", 1, 2)], ("none", 0, 1)),
+        ("batch", [("cut", 1, 2)], ("no", 10, 1)),
+        ("batch", [("add", 2, 0)], ("none", 0, 1)),
+    ]),
+    # none of the moves had been come to; with one change that had, the others count too
+    ("batch-spared", 5, [3], [(0, 4), (0, 1), (0, 2), (1, 4), (1, 3), (1, 2), (3, 1), (2, 0)],
+     ("round", 6, 0, [0], [1, 3]), [
+        ("batch", [("cut", 0, 2), ("cut", 1, 2), ("add", 1, 0), ("add", 0, 3), ("cut", 2, 0), ("add", 2, 2), ("mark", 2)],
+         ("round", 0, 6, [0], [1, 3])),
+        ("batch", [("cut", 1, 0), ("add", 1, 0)], ("round", 0, 6, [0], [1, 3])),
+        ("batch", [("mark", 4)], ("round", 5, 1, [0], [1, 3])),
+        ("batch", [("cut", 0, 3), ("cut", 1, 4)], ("round", 5, 0, [0], [1, 3])),    # 1 4 alone would keep two
+        ("batch", [("add", 1, 2), ("add", 3, 3)], ("round", 4, 2, [0], [1, 3])),    # 3 3 alone would keep three
+        ("batch", [("cut", 1, 2), ("cut", 1, 0)], ("round", 0, 6, [0], [1, 3])),
+    ]),
+    # marks of states never met, beside moves of such states, and beside a mark of one that was met
+    ("batch-unmet", 5, [1], [(0, 1), (1, 0), (2, 3), (3, 4)], ("round", 3, 0, [], [0, 1]), [
+        ("batch", [("mark", 2), ("mark", 3), ("unmark", 2)], ("round", 0, 3, [], [0, 1])),
+        ("batch", [("mark", 4), ("unmark", 3), ("add", 3, 3), ("cut", 2, 3)], ("round", 0, 3, [], [0, 1])),
+        ("batch", [("mark", 2), ("mark", 0)], ("round", 3, 0, [], [0, 1])),
+        ("batch", [("unmark", 2), ("unmark", 1)], ("round", 3, 1, [], [0, 1])),
+        ("batch", [("unmark", 0), ("mark", 2), ("cut", 1, 0)], ("none", 1, 0)),
+        ("batch", [("mark", 3), ("unmark", 4), ("add", 4, 4)], ("none", 0, 1)),
+        ("batch", [("mark", 1), ("add", 4, 1)], ("none", 0, 1)),                    # 1 is met by the last look
+        ("batch", [("add", 1, 4), ("mark", 4)], ("round", 4, 1, [0, 1], [4])),
+        ("batch", [("mark", 0), ("unmark", 0)], ("round", 5, 0, [0, 1], [4])),
+    ]),
+    # of all sorts; the round found changes
+    ("batch-mixed", 3, [1, 2], [(0, 1), (0, 2), (1, 0), (2, 0)], ("round", 3, 0, [], [0, 1]), [
+        ("batch", [("cut", 0, 1), ("add", 0, 1)], ("round", 3, 0, [], [0, 2])),
+        ("batch", [("add", 2, 2), ("cut", 0, 1)], ("round", 4, 0, [], [0, 2])),
+        ("batch", [("unmark", 2), ("mark", 0)], ("round", 5, 0, [], [0, 2])),
+        ("batch", [("mark", 2), ("cut", 2, 0), ("add", 2, 1)], ("round", 4, 1, [], [0, 2, 1])),
+        ("batch", [("unmark", 1), ("add", 0, 1), ("cut", 1, 0)], ("round", 4, 0, [0], [2])),
+    ]),
+    # a refused one does nothing; the changes behind it find the table as it was
+    ("batch-refused", 4, [3], [(0, 1), (1, 2), (2, 3), (3, 2)], ("round", 5, 0, [0, 1], [2, 3]), [
+        ("batch", [("cut", 2, 3), ("unmark", 3), ("cut", 2, 3), ("add", 0, 0)], ("no", 10, 3)),
+        ("cut", 2, 3, ("none", 0, 2)),
+        ("mark", 3, ("no", 13)),
+        ("batch", [("add", 2, 3), ("mark", 3)], ("no", 13, 2)),
+        ("add", 2, 3, ("round", 3, 2, [0, 1], [2, 3])),
+        ("batch", [("add", 0, 4)], ("no", 6, 1)),
+        ("batch", [("add", 0, 3), ("add", 0, 3)], ("no", 8, 2)),
+        ("batch", [("mark", 0), ("unmark", 0), ("unmark", 0), ("mark", 9)], ("no", 14, 3)),
+        ("batch", [("add", 0, 3), ("cut", 0, 3), ("cut", 0, 3), "x"], ("no", 10, 3)),
+        ("batch", [("add", 0, 3), ("unmark", 4)], ("no", 6, 2)),
+        ("batch", [], ("round", 0, 5, [0, 1], [2, 3])),
+        ("batch", [("add", 0, 3), ("mark", 1), ("cut", 0, 3), "", ("mark", 1)], ("no", 1, 4)),
+        ("mark", 1, ("round", 4, 1, [0, 1], [2, 3])),
+        ("add", 0, 3, ("round", 0, 5, [0, 1], [2, 3])),
+        ("batch", [("cut", 0, 3)], ("round", 0, 5, [0, 1], [2, 3])),
+    ]),
+    # nor does a refused one change the order of the moves
+    ("batch-order", 3, [1, 2], [(0, 1), (0, 2), (1, 0), (2, 0)], ("round", 3, 0, [], [0, 1]), [
+        ("batch", [("cut", 0, 1), ("add", 0, 1), ("add", 0, 1)], ("no", 8, 3)),
+        ("mark", 0, ("round", 3, 0, [], [0, 1])),
+        ("batch", [("cut", 0, 1), "x"], ("no", 1, 2)),
+        ("unmark", 0, ("round", 3, 0, [], [0, 1])),
+        ("batch", [("cut", 0, 1), ("add", 0, 1)], ("round", 3, 0, [], [0, 2])),
+        ("batch", [("cut", 0, 2), ("add", 0, 2), ("cut", 0, 2), ("cut", 0, 2)], ("no", 10, 4)),
+        ("batch", [("mark", 0), ("unmark", 0)], ("round", 3, 0, [], [0, 2])),
+    ]),
+    # there and back: at states of the stem, at the paying state and at one without moves, which have finished
+    ("batch-back", 4, [2], [(0, 1), (1, 2), (2, 1), (0, 3)], ("round", 4, 0, [0], [1, 2]), [
+        ("batch", [("add", 0, 2), ("cut", 0, 2)], ("round", 0, 4, [0], [1, 2])),
+        ("batch", [("cut", 0, 3), ("add", 0, 3)], ("round", 0, 4, [0], [1, 2])),
+        ("batch", [("cut", 0, 1), ("add", 0, 1)], ("round", 5, 0, [0], [1, 2])),    # newest now
+        ("batch", [("add", 2, 3), ("cut", 2, 3)], ("round", 2, 3, [0], [1, 2])),
+        ("batch", [("cut", 2, 1), ("add", 2, 1)], ("round", 2, 3, [0], [1, 2])),
+        ("batch", [("add", 3, 0), ("cut", 3, 0)], ("round", 4, 1, [0], [1, 2])),
+        ("batch", [("cut", 1, 2), ("add", 1, 2)], ("round", 3, 2, [0], [1, 2])),
+        ("batch", [("add", 1, 0), ("cut", 1, 0)], ("round", 0, 5, [0], [1, 2])),
+        ("batch", [("unmark", 2), ("mark", 2)], ("round", 2, 3, [0], [1, 2])),
+        ("batch", [("add", 1, 0), ("add", 1, 0)], ("no", 8, 2)),
+        ("batch", [("cut", 1, 2), ("cut", 1, 2)], ("no", 10, 2)),
+        ("cut", 2, 1, ("none", 0, 3)),
+        ("batch", [("add", 2, 1), ("cut", 2, 1)], ("none", 0, 3)),
+        ("batch", [("add", 0, 0), ("cut", 0, 0)], ("none", 3, 0)),
+        ("batch", [("mark", 0), ("unmark", 0)], ("none", 3, 0)),
+        ("batch", [("mark", 3), ("unmark", 3)], ("none", 2, 1)),
+    ]),
+    # 63, 64, 65 and more lines
+    ("batch-64", 2, [1], C_MOVES, ("round", 3, 0, [], [0, 1]), [
+        ("batch", BACK_1 * 32, ("round", 2, 1, [], [0, 1])),
+        ("batch", BACK_0 * 32, ("round", 0, 3, [], [0, 1])),
+        ("batch", BACK_0 * 31 + BACK_1, ("round", 3, 0, [], [0, 1])),
+        ("batch", BACK_1 * 32 + [("add", 1, 1)], ("no", 15, 65)),
+        ("batch", BACK_1 * 32 + [("add", 1, 0)], ("no", 15, 65)),
+        ("batch", BACK_1 * 32 + [("cut", 2, 65535)], ("no", 15, 65)),
+        ("batch", BACK_1 * 32 + [("mark", 1), "x"], ("no", 15, 65)),
+        ("batch", BACK_1 * 32 + ["x"], ("no", 1, 65)),
+        ("batch", BACK_1 * 32 + ["begin", ("unmark", 0)], ("no", 1, 65)),
+        ("batch", BACK_1 * 31 + [("add", 1, 1), ("add", 1, 1)], ("no", 8, 64)),
+        ("batch", BACK_1 * 31 + [("add", 1, 1), ("add", 1, 1)] + ["x"] * 6, ("no", 8, 64)),
+        ("batch", BACK_1 * 31 + [("add", 1, 1), "x", ("add", 1, 1)], ("no", 1, 64)),
+        ("batch", BACK_1 * 31 + ["add 1"] + BACK_1 * 3, ("no", 1, 63)),
+        ("batch", ["add 1"] + BACK_1 * 34, ("no", 1, 1)),
+        ("batch", BACK_1 * 35, ("no", 15, 65)),
+        ("batch", [], ("round", 0, 3, [], [0, 1])),
+        ("batch", BACK_1 * 31 + [("add", 1, 1)], ("round", 3, 1, [], [0, 1])),
+        ("batch", BACK_1[::-1] * 32, ("round", 3, 1, [], [0, 1])),
+        ("batch", [("unmark", 1), ("mark", 1)] * 31 + [("unmark", 1), ("cut", 1, 1)], ("none", 1, 1)),
+    ]),
+    # one after another
+    ("batch-again", 5, [4], [(0, 1), (1, 2)], ("none", 2, 0), [
+        ("batch", [("add", 2, 3), ("add", 3, 4), ("add", 4, 2)], ("round", 4, 2, [0, 1], [2, 3, 4])),
+        ("batch", [("add", 0, 2), ("add", 1, 3), ("add", 3, 2)], ("round", 0, 6, [0, 1], [2, 3, 4])),
+        ("batch", [("cut", 1, 2), ("unmark", 4), ("mark", 3)], ("round", 8, 1, [0, 1], [3, 4, 2])),
+        ("batch", [("cut", 0, 2), ("add", 1, 0), ("add", 0, 4)], ("round", 0, 9, [0, 1], [3, 4, 2])),
+        ("batch", [("cut", 3, 4), ("cut", 3, 2), ("mark", 0)], ("round", 9, 0, [], [0, 1])),
+        ("batch", [], ("round", 0, 9, [], [0, 1])),
+        ("batch", [("unmark", 0), ("unmark", 3)], ("none", 6, 0)),
+        ("batch", [("mark", 3), ("mark", 2)], ("none", 5, 2)),
+    ]),
+    # words out of place, and lines inside that are no change
+    ("batch-lines", 2, [1], C_MOVES, ("round", 3, 0, [], [0, 1]), [
+        ("line", "end", ("no", 1)),
+        ("line", "begin 1", ("no", 1)),
+        ("add", 0, 0, ("round", 0, 3, [], [0, 1])),
+        ("line", "end", ("no", 1)),
+        ("batch", ["begin"], ("no", 1, 1)),
+        ("batch", [("cut", 0, 0), "begin", ("cut", 0, 0)], ("no", 1, 2)),
+        ("line", "end", ("no", 1)),
+        ("line", "", ("no", 1)),
+        ("cut", 0, 0, ("round", 0, 3, [], [0, 1])),
+        ("batch", ["end "], ("no", 1, 1)),
+        ("batch", ["end 1"], ("no", 1, 1)),
+        ("batch", [("add", 0, 0), ("cut", 0, 0), "END"], ("no", 1, 3)),
+        ("batch", [("add", 0, 0), "go"], ("no", 1, 2)),
+        ("batch", ["game 2 0"], ("no", 1, 1)),
+        ("batch", ["pay 0"], ("no", 1, 1)),
+        ("batch", ["move 0 0"], ("no", 1, 1)),
+        ("batch", [""], ("no", 1, 1)),
+        ("batch", ["", ""], ("no", 1, 1)),
+        ("batch", [("mark", 0), "x" * 33, ("mark", 0)], ("no", 1, 2)),
+        ("batch", [("mark", 0), ("unmark", 0), "mark 0 1"], ("no", 1, 3)),
+        ("batch", ["add 0", ("add", 0, 2)], ("no", 1, 1)),
+        ("batch", [("add", 0, 65535), "add 0 65536"], ("no", 6, 1)),
+        ("batch", ["ways 0"], ("no", 1, 1)),
+        ("batch", ["kinds 1"], ("no", 1, 1)),
+        ("batch", [], ("round", 0, 3, [], [0, 1])),
+    ]),
+    # a full table: a cut makes room for one add
+    ("batch-full", 64, [0, 1], FULL_MOVES, ("none", 0, 0), [
+        ("batch", [("add", 0, 1)], ("no", 9, 1)),
+        ("batch", [("add", 32, 0)], ("no", 8, 1)),
+        ("batch", [("cut", 32, 0), ("add", 0, 1), ("add", 0, 2)], ("no", 9, 3)),
+        ("batch", [("cut", 32, 0), ("add", 32, 0), ("add", 0, 1)], ("no", 9, 3)),
+        ("batch", [("cut", 32, 0), ("add", 0, 1), ("add", 0, 1)], ("no", 8, 3)),
+        ("batch", [("cut", 32, 0), ("add", 0, 1), ("add", 0, 64)], ("no", 6, 3)),
+        ("batch", [("cut", 0, 1), ("add", 0, 1)], ("no", 10, 1)),
+        ("batch", [("cut", 32, 0), ("add", 32, 0)], ("none", 0, 0)),
+        ("batch", [("cut", 32, 0), ("add", 0, 1), ("cut", 32, 1), ("add", 1, 0)], ("round", 3, 0, [], [0, 1])),
+        ("add", 0, 2, ("no", 9)),
+        ("batch", [("add", 0, 2)], ("no", 9, 1)),
+        ("batch", [("cut", 33, 0), ("add", 0, 33), ("cut", 33, 1), ("add", 33, 0)], ("round", 0, 3, [], [0, 1])),
+        ("batch", [("cut", 1, 0), ("cut", 0, 33)], ("none", 2, 0)),
+        ("batch", [("add", 0, 2), ("add", 1, 0), ("add", 0, 3)], ("no", 9, 3)),
+        ("batch", [("add", 0, 2), ("add", 1, 0)], ("round", 3, 0, [], [0, 1])),
+    ]),
+]
+
+SINGLES = GAMES + SELF_GAMES + MARK_GAMES + UNREACHED_GAMES
+WORKED = SINGLES + BATCH_GAMES
+
+
+def made(table, call, room):
+    """A call of these tables, made: its answer. A line outside a batch that is no change makes none, and gets 1."""
+    word, *named = call
+    if word == "line":
+        return ("no", 1)
+    if word == "batch":
+        named = [[line if isinstance(line, tuple) else None for line in named[0]]]
+    return getattr(table, word)(*named, room)
+
+
+def rows_of(call):
+    """The lines of such a call, with spaces for tabs."""
+    word, *named = call
+    if word == "line":
+        return named
+    if word == "batch":
+        return ["begin", *(" ".join(map(str, line)) if isinstance(line, tuple) else line for line in named[0]), "end"]
+    return [" ".join(map(str, call))]
 
 
 def flat(moves):
@@ -887,11 +1171,69 @@ def check_change(table, before, word, named, answer):
         if spared:
             assert now == before                         # in verdict and walk too
             kept = count
+    check_counts(table, before, kept, answer)
+
+
+def check_counts(table, before, kept, answer):
+    """An accepted change or batch that must keep so many looks."""
+    now = told_of(table)
+    count = len(now.looks)
     assert answer[1:3] == (count - kept, kept)
     assert before.looks[:kept] == now.looks[:kept]       # up to there both runs are one and the same
+    assert again(table)[1] == (answer[0], count, 0, *answer[3:])
+
+
+def again(table):
+    """Another table that holds the same, by a load with the marks of this moment; and the answer of that load."""
+    other = Table()
     pay = [s for s in range(table.size) if table.pays[s]]
-    fresh = Table().load(table.size, table.start, words_of(pay), flat(table.moves), table.size)
-    assert fresh == (answer[0], count, 0, *answer[3:])
+    return other, other.load(table.size, table.start, words_of(pay), flat(table.moves), table.size)
+
+
+def check_batch(table, before, lines, answer):
+    """An accepted batch. before: the recursive search on the table that it found."""
+    check_run(table)
+    now = told_of(table)
+    if all(spared_by(before, *line) if len(line) == 3 else line[1] not in before.met for line in lines):
+        assert now == before
+        kept = len(now.looks)
+    else:                                                # up to the first look that leads to a named state
+        named = {line[1] for line in lines}
+        leads = (at for at, (_, target) in enumerate(now.looks, 1) if target in named)
+        kept = 0 if table.start in named else next(leads, len(now.looks))
+        assert kept == min(now.met.get(s, len(now.looks)) for s in named)
+    check_counts(table, before, kept, answer)
+
+
+def one_by_one(table, lines):
+    """What a batch of these lines must be refused with, or else the last answer of its changes made alone; None if there
+    are none."""
+    answer = None
+    for position, line in enumerate(lines, 1):
+        if line is None or position > 64:
+            return ("no", 1 if line is None else 15, position)
+        answer = getattr(table, line[0])(*line[1:], table.size)
+        if answer[0] == "no":
+            return (*answer, position)
+    return answer
+
+
+def batched(table, lines, room):
+    """A batch held against its changes made alone."""
+    before, run = told_of(table), table.run
+    singles, first = again(table)
+    untouched, _ = again(table)
+    alone = one_by_one(singles, lines) or first
+    answer = table.batch(lines, room)
+    if room < table.size or alone[0] == "no":
+        assert answer == (("no", 11, 0) if room < table.size else alone)
+        assert (table.run, table.moves, table.pays) == (run, untouched.moves, untouched.pays)
+        return answer
+    assert (table.moves, table.pays) == (singles.moves, singles.pays)
+    assert (answer[0], sum(answer[1:3]), *answer[3:]) == (alone[0], sum(alone[1:3]), *alone[3:])
+    assert len(lines) != 1 or answer == alone
+    check_batch(table, before, lines, answer)
+    return answer
 
 
 def switch(table, word, state, room):
@@ -925,20 +1267,22 @@ def moved(table, word, a, b, room):
 
 
 def test_games():
-    for name, size, pay, moves, first, changes in WORKED:
+    for name, size, pay, moves, first, calls in WORKED:
         table = Table()
         assert table.load(size, 0, words_of(pay), flat(moves), size) == first, name
-        check_run(table)
-        text = ["game\t%d\t0" % size] + ["pay\t%d" % s for s in pay]
-        text += ["move\t%d\t%d" % m for m in moves] + ["go"]
+        checked = check_run if size <= 8 else lambda table: None       # that of a full table takes too long
+        checked(table)
+        rows = ["game %d 0" % size] + ["pay %d" % s for s in pay] + ["move %d %d" % m for m in moves] + ["go"]
         lines = b"game\t%d\t%d\t%d\n" % (size, len(moves), len(pay)) + answer_line(first)
-        for word, *named, answer in changes:
-            assert getattr(table, word)(*named, size) == answer, (name, word, named)
-            check_run(table)
-            text.append("\t".join([word, *map(str, named)]))
+        for *call, answer in calls:
+            got = made(table, call, size)
+            assert got == answer, (name, call, got)
+            checked(table)
+            rows += rows_of(call)
             lines += answer_line(answer)
-        assert answer_text("\n".join(text).encode()) == lines, name
-        assert answer_text("\n".join(text).encode() + b"\n") == lines, name
+        text = as_text("|".join(rows))
+        assert answer_text(text + b"\n") == lines, name
+        assert answer_text(text) == lines, name
 
 
 def as_text(rows):
@@ -1190,6 +1534,128 @@ def test_there_and_back():
             assert t.run.looks == before and first[2] <= len(before) and second[2] <= sum(first[1:3])
 
 
+def test_batch_lines():
+    head, heard = "game 3 0|pay 1|move 0 1|move 1 0|go|", "game 3 2 1|round 3 0 0 2 0 1|"
+    for row in ("begin", "end", "begin|end"):             # misplaced before `go`
+        for at in range(5):
+            says("|".join(head.split("|")[:at] + [row, "go", "end"]), "no 1|")
+    says(head + "begin|cut 0 1|add 0 2|end|begin|end|cut 0 1", heard + "none 1 0|none 0 1|no 10|")
+    # an input that ends inside a batch, refused by then or not, prints nothing for it
+    rows = ["begin", "cut 0 1", "add 0 1", "add 0 1", "", "x", "mark 9", "begin", "end "]
+    for count in range(1, len(rows) + 1):
+        for ending in ("", "|", "|e", "|end ", "|end\r", "|END|"):
+            says(head + "mark 2|" + "|".join(rows[:count]) + ending, heard + "round 0 3 0 2 0 1|")
+    says(head + "begin|mark 0|begin|end", heard + "no 1 2|")
+    says(head + "begin|mark 0|begin|end|end|unmark 0", heard + "no 1 2|no 1|no 14|")
+    says(head + "begin 1|mark 2|end|end ", heard + "no 1|round 0 3 0 2 0 1|no 1|no 1|")
+    says(head + "begin|" + "mark 2|unmark 2|" * 32 + "end|begin|" + "mark 2|unmark 2|" * 32 + "mark 9|x|end",
+         heard + "round 0 3 0 2 0 1|no 15 65|")
+    for bad in ("begin ", "begin\r", "begin\0", " begin", "Begin", "BEGIN", "begin 0", "begi", "begins", "begin x", "end",
+                "end ", "end\r", "end 1", "End", "END", " end", "ends", "en", "begin" + " " * 30, "x" * 33):
+        says(head + bad + "|unmark 1", heard + "no 1|none 1 1|")
+        if bad != "end":
+            says(head + "begin|mark 2|" + bad + "|unmark 1|end|mark 2", heard + "no 1 2|round 0 3 0 2 0 1|")
+    # the only line of a batch is that of its end
+    given = as_text(head + "begin|unmark 0|end|cut 0 1")
+    wanted = as_text(heard + "no 14 1|none 0 0|")
+    at = len(as_text(heard + "no 14 1|"))
+    assert bench_answer(given, at) == (wanted[:at], 2 * at + 1)
+    assert bench_answer(given, at - 1) == (as_text(heard), 2 * len(heard) + 1)
+    assert bench_answer(given, 65536) == (wanted, 2 * len(wanted))
+
+
+def test_batch_numbers():
+    """Each number at each place, and with it more behind; on a full table, of which no search meets more than the start."""
+    t = Table()
+    t.load(64, 0, words_of([0, 1]), flat(FULL_MOVES), 64)
+    back = [("mark", 3), ("unmark", 3)] * 32
+    cases = ((1, None), (6, ("add", 0, 64)), (6, ("cut", 64, 64)), (6, ("mark", 65535)), (6, ("unmark", 64)),
+             (8, ("add", 32, 0)), (9, ("add", 0, 1)), (10, ("cut", 0, 1)), (13, ("mark", 0)), (14, ("unmark", 2)))
+    for (number, line), ahead in itertools.product(cases, (0, 1, 2, 31, 62, 63, 64)):
+        wanted = number if ahead < 64 or line is None else 15
+        for behind in ([], [None], [line] * 3, [("mark", 5)] * 5, back):
+            lines = back[:ahead] + [line] + behind
+            assert t.batch(lines, 64) == ("no", wanted, ahead + 1)
+            assert t.batch(lines, 63) == t.batch([], 63) == t.batch(lines, 0) == ("no", 11, 0)
+    assert t.moves == FULL_MOVES and t.pays == [True, True] + [False] * 62
+    assert t.batch([], 64) == t.batch(back, 600) == ("none", 0, 0)
+    for lines in ([], [None], [("mark", 0)]):
+        try:
+            Table().batch(lines, 600)
+        except RuntimeError:
+            continue
+        assert False, "a batch without a session"
+
+
+def random_lines(rng, table, count):
+    """So many changes that are accepted one after another. In some batches the run before had come to none of them."""
+    moves, pays, run = set(table.moves), list(table.pays), table.run
+    marks = list(range(table.size))
+    any_move = [(a, b) for a in marks for b in marks]
+    if rng.random() < 0.4:
+        unmet = [s for s in marks if s not in run.met_after]
+        quiet = [m for m in any_move if m not in run.looks and (m[0] not in run.finished or m in moves)]
+        if quiet:
+            marks, any_move = unmet, quiet
+    lines = []
+    while len(lines) < count:
+        if marks and rng.random() < 0.3:
+            state = rng.choice(marks)
+            lines.append(("unmark" if pays[state] else "mark", state))
+            pays[state] = not pays[state]
+        else:
+            there = [m for m in any_move if m in moves]
+            move = rng.choice(there if there and rng.random() < 0.5 else any_move)
+            lines.append(("cut" if move in moves else "add", *move))
+            moves ^= {move}
+    return lines
+
+
+def spoilt(rng, table, lines):
+    """The same with one line more that is refused, or may be."""
+    state = rng.randint(0, table.size)
+    line = rng.choice((None, ("mark", state), ("unmark", state), ("add", state, 0), ("cut", state, state), ("cut", 0, state)))
+    at = rng.randint(0, len(lines))
+    return lines[:at] + [line] + lines[at:]
+
+
+def test_batches():
+    rng = random.Random(10)
+    seen = Counter()
+    for _ in range(900):
+        t = Table()
+        random_load(rng, t, 8)
+        for _ in range(6):
+            count = rng.choice((0, 1, 1, 2, 2, 3, 4, 6, 10, rng.choice((20, 63, 64, 65, 66))))
+            lines = random_lines(rng, t, count)
+            if rng.random() < 0.3:
+                lines = spoilt(rng, t, lines)
+            room = rng.randint(0, t.size) if rng.random() < 0.03 else rng.randint(t.size, t.size + 2)
+            met = {line[1] for line in lines if line} & set(t.run.met_after)
+            answer = batched(t, lines, room)
+            if answer[0] == "no":
+                seen["no", answer[1]] += 1
+            else:
+                seen[answer[0], "met" if met else "unmet", "spent" if answer[1] else "spent 0"] += 1
+            if rng.random() < 0.3:
+                rng.choice((random_switch, random_move))(rng, t)
+    assert all(seen["no", number] > 20 for number in (1, 6, 8, 10, 11, 13, 14, 15)), seen
+    for verdict, what in itertools.product(("round", "none"), (("met", "spent"), ("met", "spent 0"), ("unmet", "spent 0"))):
+        assert seen[(verdict, *what)] > 100, seen
+
+
+def test_small_batches():
+    """Every batch of up to two changes on some small tables, each after each."""
+    rng = random.Random(11)
+    words = [("add", a, b) for a in range(3) for b in range(2)] + [("cut", a, b) for a in range(2) for b in range(2)]
+    words += [("mark", 0), ("mark", 1), ("mark", 2), ("unmark", 0), ("unmark", 1), None]
+    for _ in range(25):
+        t = Table()
+        random_load(rng, t, 2)
+        for lines in itertools.chain([()], itertools.product(words, repeat=1), itertools.product(words, repeat=2)):
+            batched(again(t)[0], list(lines), t.size)
+
+
 def selftest():
     test_games()
     test_game_a_as_printed()
@@ -1200,6 +1666,10 @@ def selftest():
     test_random()
     test_lines_of_states()
     test_there_and_back()
+    test_batch_lines()
+    test_batch_numbers()
+    test_batches()
+    test_small_batches()
     print("ok")
 
 

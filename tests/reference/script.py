@@ -7,73 +7,106 @@
     python3 script.py --replay < script               expected output of any script
     python3 script.py --stats SEED                    what the scripts contain
 
-KIND is games, edges, small, full, or all (the four as one script, one end).
+KIND is games, edges, small, full, or all (the four as one script, one end); batches; or blocks (all, and batches behind it).
 """
 
+import itertools
 import random
 import struct
 import sys
 from collections import Counter, namedtuple
 
 import reference
+from batches import LENGTHS, NUMBERS, some_lines
 from reference import Table, flat, not_come_to, pairs, words_of
 
 LENT = 600
+BLOCK = 65536                                   # bytes of a block, padded with zeros, but for the last
+MOST_LINES = 70                                 # of a batch in a script
 OPS = {2: "add", 3: "cut", 4: "mark", 5: "unmark"}
+NO_CHANGE = (0, 0, 0), (9, 0, 1), (9, 0, 0), (0, 1, 0)         # lines of a batch that are none
 CODES = {word: op for op, word in OPS.items()}
 ALREADY = {"add": 8, "cut": 10, "mark": 13, "unmark": 14}      # the number where it is so already
 # About each border of two words, and some other states.
 PROBES = [1, 15, 16, 31, 32, 62, 63, 64, 65, 127, 128, 191, 192, 255, 256, 319, 320, 383, 384, 447, 448, 510, 511]
 LIMITS = {"games": 11300, "edges": 33000, "small": 8400, "full": 11300}   # bytes
 assert sum(LIMITS.values()) <= 64000
+LIMITS["batches"] = 64000
 
 
 # ------------------------------------------------------- expected output
 
 def replay(script):
     """Read a script as the test program does; give its output as bytes."""
-    numbers = iter(struct.unpack("<%dH" % (len(script) // 2), script))
+    blocks = (script[at:at + BLOCK] for at in range(0, len(script), BLOCK))
+    return "".join("%d\n" % n for block in blocks for n in replay_block(block)).encode()
+
+
+def replay_block(block):
+    """The output for one block, which starts without a session."""
+    numbers = iter(struct.unpack("<%dH" % (len(block) // 2), block))
     take = lambda count: [next(numbers) for _ in range(count)]
     table = Table()
-    out = []
     while True:
         op = next(numbers)
         if op == 0:
             break
-        lent = [40000 + i for i in range(LENT)]
-        if op == 1:
-            size, start = take(2)
-            parts = take(32)
-            words = [sum(parts[4 * w + i] << (16 * i) for i in range(4)) for w in range(8)]
-            count = next(numbers)
-            moves = take(count)
-            room = next(numbers)
-            call = lambda: table.load(size, start, words, moves, room)
-        else:
-            *named, room = take(3)
-            if OPS[op] in ("mark", "unmark"):   # these name one state
-                assert named.pop() == 0
-            call = lambda: getattr(table, OPS[op])(*named, room)
+        answer, room = (read_load if op == 1 else read_batch if op == 6 else read_change)(table, op, take)
         assert room <= LENT
-        answer = call()
-        if answer[0] == "no":
-            out += [0, answer[1]]
-        elif answer[0] == "none":
-            out += [1, answer[1], answer[2]]
-        else:
-            _, spent, kept, stem, round_ = answer
-            walk = stem + round_
-            assert len(walk) <= room
-            lent[:len(walk)] = walk
-            out += [2, spent, kept, len(stem), len(round_)] + walk
-        out.append(sum((i + 1) * x for i, x in enumerate(lent)) % 65521)
-    assert next(numbers, None) is None
-    return "".join("%d\n" % n for n in out).encode()
+        yield from told(answer, room)
+    assert not any(numbers)
+
+
+def read_load(table, _, take):
+    """Each of these three makes the call that is read next: its answer and the room lent."""
+    size, start = take(2)
+    parts = take(32)
+    words = [sum(parts[4 * w + i] << (16 * i) for i in range(4)) for w in range(8)]
+    moves = take(*take(1))
+    room, = take(1)
+    return table.load(size, start, words, moves, room), room
+
+
+def read_change(table, op, take):
+    *states, room = take(3)
+    word, *named = as_change(op, *states)
+    return getattr(table, word)(*named, room), room
+
+
+def read_batch(table, _, take):
+    room, count = take(2)
+    assert count <= MOST_LINES
+    lines = [take(3) for _ in range(count)]
+    return table.batch([as_change(*line) if line[0] in OPS else None for line in lines], room), room
+
+
+def as_change(op, first, second):
+    if OPS[op] in ("add", "cut"):
+        return OPS[op], first, second
+    assert second == 0                          # a mark names one state
+    return OPS[op], first
+
+
+def told(answer, room):
+    """The numbers printed for one call."""
+    lent = [40000 + i for i in range(LENT)]
+    if answer[0] == "no":
+        out = [3 if len(answer) == 3 else 0, *answer[1:]]
+    elif answer[0] == "none":
+        out = [1, answer[1], answer[2]]
+    else:
+        _, spent, kept, stem, round_ = answer
+        walk = stem + round_
+        assert len(walk) <= room
+        lent[:len(walk)] = walk
+        out = [2, spent, kept, len(stem), len(round_)] + walk
+    return out + [sum((i + 1) * x for i, x in enumerate(lent)) % 65521]
 
 
 # ------------------------------------------------------- making of scripts
 
-Call = namedtuple("Call", "word own answer place")   # own: a self-move is named; place: what place_of says
+# own: a self-move is named; place: what place_of says, or of a batch the count of its lines
+Call = namedtuple("Call", "word own answer place")
 
 
 def place_of(run, word, move):
@@ -92,10 +125,11 @@ class Script:
         self.numbers = []
         self.table = Table()
         self.calls = []
+        self.no_change = itertools.cycle(NO_CHANGE)
 
     def _said(self, word, moves, answer, want, place=None):
         if want is not None:
-            got = answer[1] if answer[0] == "no" else answer[0]
+            got = answer[0] if answer[0] != "no" else answer[1] if len(answer) == 2 else answer[1:]
             assert got == want, (got, want)
         self.calls.append(Call(word, any(a == b for a, b in moves), answer, place))
         return answer
@@ -121,6 +155,16 @@ class Script:
             return self._said(word, [], answer, want)
         place = None if answer[0] == "no" else place_of(before, word, named)
         return self._said(word, [named], answer, want, place)
+
+    def batch(self, lines, room=None, want=None):
+        """lines: as Table.batch takes them; want: the verdict, or the number and the position."""
+        assert self.table.loaded and len(lines) <= MOST_LINES
+        room = self.table.size if room is None else room
+        self.numbers += [6, room, len(lines)]
+        for line in lines:
+            self.numbers += next(self.no_change) if line is None else (CODES[line[0]], *line[1:], *[0] * (3 - len(line)))
+        moves = [line[1:] for line in lines if line and len(line) == 3]
+        return self._said("batch", moves, self.table.batch(lines, room), want, len(lines))
 
     def add(self, a, b, room=None, want=None):
         return self.change("add", a, b, room=room, want=want)
@@ -164,7 +208,7 @@ class Script:
 
 
 def make_games(s, rng):
-    for name, size, pay, moves, first, changes in reference.WORKED:
+    for name, size, pay, moves, first, changes in reference.SINGLES:
         if len(name) == 1:                      # of games A to I
             s.load(size, 0, pay, flat(moves), size - 1, want=11)
         assert s.load(size, 0, pay, flat(moves)) == first, name
@@ -745,24 +789,136 @@ def make_full(s, rng, limit):
                 s.add(*move, room)
 
 
-MAKERS = {"games": make_games, "edges": make_edges, "small": make_small, "full": make_full}
+# ------------------------------------------------------------- batches
+
+def make_batches(s, rng, limit):
+    worked_batches(s)
+    lent_batches(s)
+    line_batches(s, rng)
+    full_batches(s, rng)
+    while limit - s.size_in_bytes() > 1200:     # room for a load and a batch
+        random_batches(s, rng, limit)
+
+
+def worked_batches(s):
+    """The games of the reference."""
+    for name, size, pay, moves, first, calls in reference.BATCH_GAMES:
+        assert s.load(size, 0, pay, flat(moves)) == first, name
+        for word, *named, wanted in calls:
+            if word == "batch":
+                lines = [line if isinstance(line, tuple) else None for line in named[0]]
+                assert s.batch(lines) == wanted, name
+            elif word != "line":
+                assert s.change(word, *named) == wanted, name
+
+
+def lent_batches(s):
+    """The lent list is tried once, ahead of all lines."""
+    for pay, verdict in (([1], "round"), ([], "none")):
+        s.load(4, 1, pay, [1, 2, 2, 1, 2, 3], want=verdict)
+        back = [("add", 3, 0), ("cut", 3, 0)]
+        for lines, want in (([], verdict), (back, verdict), ([None], (1, 1)), (back + [None], (1, 3)), ([("cut", 4, 4)], (6, 1)),
+                            (back + [("cut", 3, 0)], (10, 3))):
+            for room in (0, 3):
+                s.batch(lines, room, want=(11, 0))
+            for room in (4, 5, LENT):
+                s.batch(lines, room, want=want)
+        for lines, want in ((back * 32, verdict), (back * 32 + [None], (1, 65)), (back * 35, (15, 65)), ([None] * 70, (1, 1))):
+            s.batch(lines, 3, want=(11, 0))
+            s.batch(lines, want=want)
+        s.batch([("cut", 1, 2)], 3, want=(11, 0))                 # would be none
+        s.batch([("cut", 1, 2)], LENT, want="none")
+        s.batch([("add", 1, 2)], 4, want=verdict)
+
+
+def line_batches(s, rng):
+    """A line of 64 states to one that pays, each with a move before and one behind that which leads along it."""
+    last = 63
+    moves = [m for t in range(last) for m in ((t, 0), (t, t + 1), (t, last))][:-1]
+    s.load(64, 0, [last], flat(moves + [(last, last - 1)]), want="round")
+    looks = len(s.table.run.looks)
+    behind = [("cut", t, last) for t in range(last - 1)]
+    assert s.batch(behind)[1:3] == (0, looks)
+    assert s.batch([("add", t, last) for t in range(last - 1)] + [("add", 0, 5), ("cut", 0, 5)])[1:3] == (0, looks)
+    s.batch(behind + [("add", 5, 9), ("add", 6, 9), ("add", 7, 9)], want=(15, 65))
+    s.batch(behind[:40] + [("cut", 9, 0)] + behind[40:], want="round")        # one that had been looked at
+    for count in LENGTHS:
+        for quiet in (True, False):
+            lines = some_lines(rng, s.table, count, quiet)
+            s.batch(lines, want=(15, 65) if len(lines) > 64 else None)
+        if not s.table.run.found:
+            s.load(64, 0, [last], flat(moves + [(last, last - 1)]), want="round")
+
+
+def full_batches(s, rng):
+    """512 states on the walk, and 2,048 moves, most of them not come to. Each number at each place."""
+    size = 512
+    line = [(t, t + 1) for t in range(size - 1)] + [(size - 1, 300)]
+    s.load(size, 0, [size - 1], flat(line + distinct_moves(rng, size, 2048 - len(line), line)), want="round")
+    for number in NUMBERS:
+        for place in (1, 2, 33, 64, 65):
+            draws = iter(lambda: some_lines(rng, s.table, place, place % 2 == 0, (number, place)), None)
+            lines = next(lines for lines in draws if (lines[-1] is None) == (number == 1))
+            refused = number if place < 65 or number == 1 else 15
+            s.batch(lines + [None] * rng.choice((0, 0, 1, 5)), want=(refused, place))
+    new = distinct_moves(rng, size, 3, s.table.moves)
+    old = s.table.moves[700]
+    s.batch([("cut", *old), ("add", *new[0]), ("add", *new[1])], want=(9, 3))
+    s.batch([("cut", *old), ("add", *new[0]), ("add", *new[0])], want=(8, 3))
+    s.batch([("cut", *old), ("add", *new[0])])
+    s.batch([("add", *new[1])], want=(9, 1))
+    for quiet, count in ((True, 64), (True, 63), (False, 64), (False, 2), (True, 64), (False, 64)):
+        s.batch(some_lines(rng, s.table, count, quiet), room=rng.choice((size, LENT)))
+
+
+def random_batches(s, rng, limit):
+    """A session of 1 to 8 states or of up to 40, often with a line to a paying state; batches, and singles between them."""
+    size = rng.choice((1, 2, 3, 4, 5, 6, 7, 8, rng.randint(9, 40)))
+    every = [(a, b) for a in range(size) for b in range(size)]
+    line = [(t, t + 1) for t in range(size - 1)] + [(size - 1, rng.randrange(size))] if rng.random() < 0.6 else []
+    moves = list(dict.fromkeys(line + rng.sample(every, min(len(every), int(size * rng.uniform(0.5, 2))))))
+    if rng.random() < 0.5:
+        rng.shuffle(moves)
+    s.load(size, 0, sorted({size - 1, rng.randrange(size)}), flat(moves))
+    for _ in range(rng.randint(6, 14)):
+        if s.size_in_bytes() + 430 > limit:     # the longest batch and two changes
+            return
+        count = rng.choice((0, 1, 1, 2, 2, 3, 3, 4, 5, 6, 9, rng.choice((17, *LENGTHS))))
+        fault = (rng.choice(NUMBERS), rng.choice((1, max(1, count // 2), max(1, count)))) if rng.random() < 0.35 else None
+        s.batch(some_lines(rng, s.table, count, rng.random() < 0.45, fault), small_room(rng, size))
+        if rng.random() < 0.3:
+            some_switch(s, rng, rng.randrange(size), small_room(rng, size))
+        if rng.random() < 0.3:
+            move = rng.choice(every)
+            s.change(s.move_words(move)[rng.random() < 0.1], *move, room=small_room(rng, size))
+
+
+MAKERS = {"games": make_games, "edges": make_edges, "small": make_small, "full": make_full, "batches": make_batches}
+ALL = "games", "edges", "small", "full"
 
 
 def make(seed, kind):
     """The finished Script of a kind."""
     whole = Script()
-    for name in MAKERS if kind == "all" else [kind]:
+    for name in ALL if kind == "all" else [kind]:
         part = Script()
         rng = random.Random("%d %s" % (seed, name))
-        if name in ("small", "full"):
-            MAKERS[name](part, rng, LIMITS[name] - 2)
-        else:
+        if name in ("games", "edges"):
             MAKERS[name](part, rng)
+        else:
+            MAKERS[name](part, rng, LIMITS[name] - 2)
         assert part.size_in_bytes() + 2 <= LIMITS[name], (name, part.size_in_bytes())
         whole.numbers += part.numbers
         whole.calls += part.calls
     whole.numbers.append(0)
     return whole
+
+
+def script_of(seed, kind):
+    """The bytes of a script."""
+    if kind == "blocks":
+        return script_of(seed, "all").ljust(BLOCK, b"\0") + script_of(seed, "batches")
+    return make(seed, kind).data()
 
 
 def counted(answers):
@@ -782,6 +938,16 @@ def looks(what, answers):
         sum(a[0] == "round" and min(len(a[4]), 3) == n for a in done) for n in (1, 2, 3)))
 
 
+def batch_stats(calls):
+    counts("batches", [call.answer for call in calls])
+    looks("batches", [call.answer for call in calls])
+    lengths = Counter(min(call.place, 65) for call in calls)
+    print("    batches of 0 lines: %d, 1: %d, 63: %d, 64: %d, more: %d" % tuple(lengths[n] for n in (0, 1, 63, 64, 65)))
+    places = {(a[1], min(a[2], 65)) for call in calls for a in [call.answer] if a[0] == "no"}
+    for number in sorted({number for number, _ in places}):
+        print("    no %2d at" % number, *sorted(at for n, at in places if n == number))
+
+
 def stats(seed):
     for kind in list(MAKERS) + ["all"]:
         s = make(seed, kind)
@@ -793,6 +959,7 @@ def stats(seed):
         counts("marks and unmarks", marks)
         looks("calls", every)
         looks("marks and unmarks", marks)
+        batch_stats([call for call in s.calls if call.word == "batch"])
         for word in ("add", "cut"):
             places = Counter(call.place for call in s.calls if call.word == word)
             print("    %s accepted: not come to, of a state on the stem %d, on the round %d, never met %d; come to %d" % (
@@ -805,15 +972,15 @@ def main(args):
     elif args == ["--replay"]:
         sys.stdout.buffer.write(replay(sys.stdin.buffer.read()))
     elif len(args) == 3 and args[0] == "--expected":
-        sys.stdout.buffer.write(replay(make(int(args[1]), args[2]).data()))
+        sys.stdout.buffer.write(replay(script_of(int(args[1]), args[2])))
     elif len(args) == 5 and args[0] == "--write":
-        data = make(int(args[1]), args[2]).data()
+        data = script_of(int(args[1]), args[2])
         with open(args[3], "wb") as f:
             f.write(data)
         with open(args[4], "wb") as f:
             f.write(replay(data))
     elif len(args) == 2:
-        sys.stdout.buffer.write(make(int(args[0]), args[1]).data())
+        sys.stdout.buffer.write(script_of(int(args[0]), args[1]))
     else:
         sys.exit(__doc__)
 

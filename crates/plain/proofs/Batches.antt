@@ -1,12 +1,13 @@
 -- Ticket 5: a batch that is accepted makes its changes one by one, and what holds of each holds of all. Then the same for every call, be it one change or a batch.
 -- Assumes nothing.
 use mathlib.Core.Path.{_≡_, refl, sym, ap, subst, _∙_}
-use mathlib.Core.Logic.{_≢_, inl, inr, ⊎-elim}
-use mathlib.Core.Bool.{Bool, true, false, not}
-use mathlib.Core.List.{List, [], _∷_, _++_, map}
-use Prim.Native.Nat.{ℕ, suc, _≤_}
+use mathlib.Core.Logic.{_≢_, _⊎_, inl, inr, ⊎-elim}
+use mathlib.Core.Bool.{Bool, true, false, _&&_, not}
+use mathlib.Core.List.{List, [], _∷_, _++_, append-nil, map}
+use Prim.Native.Nat.{ℕ, suc, _+_, _≤_}
 use native.Mathlib.Omega.{arith}
-use borrow.Author.Tests.{ltb-false, not-true as untrue}
+use lib.ListN.{length}
+use borrow.Author.Tests.{ltb-false, not-false, not-true as untrue}
 use Rattle.plain.specs.Lists.{any, all, elem, In}
 use Rattle.plain.specs.Search.{Graph, Config, discoveredOf, meets, run}
 use Rattle.plain.specs.Unexplored.{Shared}
@@ -14,8 +15,8 @@ use Rattle.plain.specs.Table.{Table, searched, budget, final}
 use Rattle.plain.specs.Refusals.{Trial, accepted, refused, firstHeld, shortRoom, roomCondition}
 use Rattle.plain.specs.Machine.{Change, add, cut, mark, unmark, named, apply, conditions, changeTrial, BatchLine, makes, other, lineConditions, BatchTrial, changesIn, applyAll, namedAll, linesTrial, batchTrial, Update, single, batch, applied, namedBy, updateTrial, unexplored, passedOver, keepsAll}
 use Rattle.plain.specs.Claims.{Arises, changed, AllAccepted}
-use Rattle.plain.proofs.Tests.{contra, either, or-true, and-true, not-in, in-append, in-left, in-right, any-in}
-use Rattle.plain.proofs.Trials.{passed, passed-both, unheld, never-handed, change-never-7}
+use Rattle.plain.proofs.Tests.{contra, either, or-true, or-false, and-true, not-in, in-left, in-right, any-in, any-some}
+use Rattle.plain.proofs.Trials.{passed, last-free, unheld, never-handed, change-never-7}
 use Rattle.plain.proofs.Prefix.{Agree}
 use Rattle.plain.proofs.Rows.{agree}
 use Rattle.plain.proofs.Tables.{Valid, valid-change, room-enough, changed-size, changed-start}
@@ -35,7 +36,7 @@ pub line-refused : (i : ℕ) (x : BatchLine) (xs : List BatchLine) (t : Table) (
 unfolding linesTrial
 line-refused i x xs t n e = rw (e, linesTrial)
 
-accepted-not : (n : ℕ) → refused n ≡ accepted → ⊥
+pub accepted-not : (n : ℕ) → refused n ≡ accepted → ⊥
 accepted-not n e = let z : _≡_ {A = ℕ} 0 1 = cc in omega arith
 
 -- the trial of one line, either way
@@ -47,6 +48,11 @@ line-cases i x xs t e = by-trial (firstHeld (lineConditions i x t)) refl
     by-trial accepted k = (k, ap (λ (b : BatchTrial). b .trial) (sym (line-accepted i x xs t k)) ∙ e)
     by-trial (refused n) k = absurd (accepted-not n (ap (λ (b : BatchTrial). b .trial) (sym (line-refused i x xs t n k)) ∙ e))
 
+-- a line that makes no change is not accepted
+not-other : (i : ℕ) (t : Table) → firstHeld (lineConditions i other t) ≡ accepted → ⊥
+unfolding lineConditions
+not-other i t e = contra refl (unheld 1 ((1, true) ∷ []) e)
+
 -- all that is tried ahead of the lines
 abbrev Roomy : ℕ → Table → Type 0
 Roomy room t = firstHeld (roomCondition (t .size) room) ≡ accepted
@@ -55,14 +61,11 @@ Roomy room t = firstHeld (roomCondition (t .size) room) ≡ accepted
 lines-made : (room i : ℕ) (xs : List BatchLine) (t : Table) → Roomy room t → linesTrial i xs t .trial ≡ accepted → (map makes (changesIn xs) ≡ xs) × AllAccepted room (changesIn xs) t
 unfolding changesIn applyAll lineConditions changeTrial
 lines-made room i [] t f e = (refl, tt)
-lines-made room i (other ∷ xs) t f e = absurd (true-not (unheld 1 ((1, true) ∷ []) (line-cases i other xs t e .0)))
-  where
-    true-not : true ≡ false → ⊥
-    true-not z = contra refl z
+lines-made room i (other ∷ xs) t f e = absurd (not-other i t (line-cases i other xs t e .0))
 lines-made room i (makes c ∷ xs) t f e =
     let k = line-cases i (makes c) xs t e in
     let w = lines-made room (suc i) xs (apply c t) (rw (changed-size c t) f) (k .1) in
-    (ap (λ (l : List BatchLine). makes c ∷ l) (w .0), (passed-both (conditions c t) (roomCondition (t .size) room) (passed 15 _ (conditions c t) (k .0) .1) f, w .1))
+    (ap (λ (l : List BatchLine). makes c ∷ l) (w .0), (last-free (conditions c t) (roomCondition (t .size) room) f ∙ passed 15 _ (conditions c t) (k .0) .1, w .1))
 
 pub batch-tried : (xs : List BatchLine) (t : Table) (room : ℕ) → Roomy room t → batchTrial xs t room ≡ linesTrial 1 xs t
 unfolding batchTrial
@@ -81,6 +84,36 @@ batch-roomy xs t room e = by-trial (firstHeld (roomCondition (t .size) room)) re
 
 pub batch-made : (xs : List BatchLine) (t : Table) (room : ℕ) → batchTrial xs t room .trial ≡ accepted → (map makes (changesIn xs) ≡ xs) × AllAccepted room (changesIn xs) t
 batch-made xs t room e = let w = batch-roomy xs t room e in lines-made room 1 xs t (w .0) (w .1)
+
+-- no line behind the 64th is accepted
+pub line-few : (i : ℕ) (x : BatchLine) (t : Table) → firstHeld (lineConditions i x t) ≡ accepted → i ≤ 64
+unfolding lineConditions
+line-few i (makes c) t e = ltb-false 64 i (passed 15 _ (conditions c t) e .0)
+line-few i other t e = absurd (not-other i t e)
+
+-- so an accepted batch has at most 64 changes
+lines-few : (i : ℕ) (xs : List BatchLine) (t : Table) → i ≤ 65 → linesTrial i xs t .trial ≡ accepted → i + length (changesIn xs) ≤ 65
+unfolding changesIn applyAll
+lines-few i [] t h e = omega arith
+lines-few i (other ∷ xs) t h e = absurd (not-other i t (line-cases i other xs t e .0))
+lines-few i (makes c ∷ xs) t h e =
+    let k = line-cases i (makes c) xs t e in
+    omega (arith, line-few i (makes c) t (k .0), lines-few (suc i) xs (apply c t) (omega (arith, line-few i (makes c) t (k .0))) (k .1))
+
+pub batch-few : (xs : List BatchLine) (t : Table) (room : ℕ) → batchTrial xs t room .trial ≡ accepted → length (changesIn xs) ≤ 64
+batch-few xs t room e = omega (arith, lines-few 1 xs t (omega arith) (batch-roomy xs t room e .1))
+
+-- ---- states that are met
+
+meets-left : (xs ys : List ℕ) (c : Config) → meets xs c ≡ true → meets (xs ++ ys) c ≡ true
+meets-left xs ys c m =
+    let s = any-some (λ s. elem s (discoveredOf c)) xs m in
+    any-in (λ s. elem s (discoveredOf c)) (s .0) (xs ++ ys) (in-left (s .0) xs ys (s .1)) (s .2)
+
+meets-right : (xs ys : List ℕ) (c : Config) → meets ys c ≡ true → meets (xs ++ ys) c ≡ true
+meets-right xs ys c m =
+    let s = any-some (λ s. elem s (discoveredOf c)) ys m in
+    any-in (λ s. elem s (discoveredOf c)) (s .0) (xs ++ ys) (in-right (s .0) xs ys (s .1)) (s .2)
 
 -- ---- what holds of each change holds of all
 
@@ -122,16 +155,26 @@ agree-all (c ∷ cs) t =
     second : (x : ℕ) → elem x (named c ++ namedAll cs) ≡ false → elem x (namedAll cs) ≡ false
     second x o = not-in x (namedAll cs) (λ i. contra (in-right x (named c) (namedAll cs) i) o)
 
+-- a change that is passed over: ticket 4, or its state was never met
+passed-cases : (c : Change) (t : Table) → passedOver c t ≡ true → (unexplored c t ≡ true) ⊎ (not (meets (named c) (final t)) ≡ true)
+unfolding passedOver
+passed-cases c t e = or-true (unexplored c t) (not (meets (named c) (final t))) e
+
+-- one that is not: neither
+reached-one : (c : Change) (t : Table) → passedOver c t ≡ false → (unexplored c t ≡ false) × (meets (named c) (final t) ≡ true)
+unfolding passedOver
+reached-one c t e =
+    let z = or-false (unexplored c t) (not (meets (named c) (final t))) e in
+    (z .0, not-false (meets (named c) (final t)) (z .1))
+
 -- A change that is passed over leaves the rows as far as the run on t has taken them, whatever table it is made on.
 module _ (t : Table) (v : Valid t) where
-  abbrev Taken : Table → Type 0
+  abbrev pub Taken : Table → Type 0
   Taken u = (x : ℕ) → Shared (searched t) (searched u) (run (searched t) (budget t)) x
 
   pub passed-step : (b : Change) (u : Table) → passedOver b t ≡ true → Taken u → Taken (apply b u)
-  unfolding passedOver final
-  passed-step b u e s x = ⊎-elim
-      (λ k. unexplored-step t v b u k s x)
-      (λ k. unmet (untrue (meets (named b) (final t)) k)) (or-true (unexplored b t) (not (meets (named b) (final t))) e)
+  unfolding final
+  passed-step b u e s x = ⊎-elim (λ k. unexplored-step t v b u k s x) (λ k. unmet (untrue (meets (named b) (final t)) k)) (passed-cases b t e)
     where
       unmet : meets (named b) (run (searched t) (budget t)) ≡ false → Shared (searched t) (searched (apply b u)) (run (searched t) (budget t)) x
       unmet f = ⊎-elim
@@ -146,7 +189,50 @@ module _ (t : Table) (v : Valid t) where
       let k = and-true (passedOver c t) (all (λ c. passedOver c t) cs) e in
       passed-all cs (apply c u) (k .1) (passed-step c u (k .0) s)
 
+and-false : (a : Bool) → (a && true) ≡ false → a ≡ false
+and-false true e = e
+and-false false e = refl
+
+-- where one of some is not, the run has met a state that one names
+reached-met : (t : Table) (cs : List Change) → all (λ c. passedOver c t) cs ≡ false → meets (namedAll cs) (final t) ≡ true
+unfolding all namedAll
+reached-met t [] e = absurd (contra refl e)
+reached-met t (c ∷ cs) e = ⊎-elim
+    (λ k. meets-right (named c) (namedAll cs) (final t) (reached-met t cs (rw k at e)))
+    (λ k. meets-left (named c) (namedAll cs) (final t) (reached-one c t k .1)) (either (passedOver c t))
+
 -- ---- of every call
+
+-- the changes that it makes
+unfoldable pub changesOf : Update → List Change
+changesOf (single c) = c ∷ []
+changesOf (batch xs) = changesIn xs
+
+-- an accepted call, as its changes
+pub record Made (u : Update) (t : Table) (room : ℕ) : Type 0 where
+  pub each-accepted : AllAccepted room (changesOf u) t
+  pub few : length (changesOf u) ≤ 64
+  pub named-are : namedBy u ≡ namedAll (changesOf u)
+  -- all of them are passed over, or one is not
+  pub passed : all (λ c. passedOver c t) (changesOf u) ≡ true → (keepsAll u t ≡ true) ⊎ (meets (namedBy u) (final t) ≡ false)
+  pub reached : all (λ c. passedOver c t) (changesOf u) ≡ false → (keepsAll u t ≡ false) × (meets (namedBy u) (final t) ≡ true)
+
+pub update-made : (u : Update) (t : Table) (room : ℕ) → updateTrial u t room ≡ accepted → Made u t room
+unfolding updateTrial changesOf namedBy namedAll keepsAll all
+update-made (single c) t room e = record {
+  each-accepted = (e, tt);
+  few = omega arith;
+  named-are = sym (append-nil (named c));
+  passed = λ k. ⊎-elim inl (λ m. inr (untrue (meets (named c) (final t)) m)) (passed-cases c t (and-true (passedOver c t) true k .0));
+  reached = λ k. let z = reached-one c t (and-false (passedOver c t) k) in (z .0, z .1);
+}
+update-made (batch xs) t room e = record {
+  each-accepted = batch-made xs t room e .1;
+  few = batch-few xs t room e;
+  named-are = refl;
+  passed = inl;
+  reached = λ k. (k, reached-met t (changesIn xs) k);
+}
 
 pub update-valid : (u : Update) (t : Table) (room : ℕ) → Valid t → updateTrial u t room ≡ accepted → Valid (applied u t)
 unfolding updateTrial applied

@@ -20,6 +20,7 @@ pub mod Tables
 pub mod Unexplored
 pub mod Batches
 pub mod Demands
+pub mod OneByOne
 pub mod Answers
 pub mod Loops
 pub mod Fresh

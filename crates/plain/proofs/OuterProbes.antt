@@ -4,11 +4,11 @@ use mathlib.Core.Logic.{⊎-elim}
 use mathlib.Core.Bool.{Bool, true, false}
 use mathlib.Core.List.{List, [], _∷_, _++_}
 use Prim.Native.Nat.{ℕ, zero, suc}
-use Rattle.plain.specs.Lists.{elem}
+use Rattle.plain.specs.Lists.{elem, In}
 use Rattle.plain.specs.Search.{Graph, Edge, Frame, frame, onPath, Config, outer, nested, exhausted, found, discoveredOf, probesOf, visit, finish, probe, step, steps, run}
 use Rattle.plain.specs.Unexplored.{unfinishedPath}
-use Rattle.plain.proofs.Tests.{contra, in-nil}
-use Rattle.plain.proofs.Paths.{pending-on}
+use Rattle.plain.proofs.Tests.{contra, in-nil, in-head}
+use Rattle.plain.proofs.Paths.{pending-here, pending-on}
 use Rattle.plain.proofs.Edges.{Has, has-head, has-tail, has-cases, has-nil}
 use Rattle.plain.proofs.Invariant.{Settled, settled-taken, settled-push, settled-done, settled-up, Nested, Inv, next-edge, inv-run}
 
@@ -130,3 +130,22 @@ module _ (g : Graph) where
   unfolding steps outerProbes
   outer-probed zero e h = h
   outer-probed (suc n) e h = outer-step (outerProbes n) (run g n) (outer-probed n) e h
+
+  -- a probe follows an edge that is there
+  probe-edge : (es : List Edge) (c : Config) → Inv g c → ((e : Edge) → Has es e → In (e .1) (g .successors (e .0))) → (e : Edge) → Has (outerProbe c ++ es) e → In (e .1) (g .successors (e .0))
+  unfolding outerProbe
+  probe-edge es (outer [] d k l) v h e i = h e i
+  probe-edge es (outer (frame s [] ∷ p) d k l) v h e i = h e i
+  probe-edge es (outer (frame s (t ∷ ts) ∷ p) d k l) (o, m) h e i =
+      ⊎-elim (λ z. rw z (o .genuine s t (pending-here s t (t ∷ ts) p (in-head t ts)))) (h e) (has-cases e (s, t) es i)
+  probe-edge es (nested s p q d k l) v h e i = h e i
+  probe-edge es (exhausted d k l) v h e i = h e i
+  probe-edge es (found t p q d k l) v h e i = h e i
+
+  outer-edge : (n : ℕ) (e : Edge) → Has (outerProbes n) e → In (e .1) (g .successors (e .0))
+  unfolding outerProbes
+  outer-edge zero e h = has-nil e h
+  outer-edge (suc n) e h = probe-edge (outerProbes n) (run g n) (inv-run g n) (outer-edge n) e h
+
+  pub looked-edge : (n : ℕ) (e : Edge) → Has (probesOf (run g n)) e → In (e .1) (g .successors (e .0))
+  looked-edge n e h = outer-edge n e (outer-first n e h)

@@ -60,10 +60,13 @@ pub passed-behind : (cs ds : List Condition) → firstHeld (cs ++ ds) ≡ accept
 passed-behind [] ds e = e
 passed-behind (c ∷ cs) ds e = passed-behind cs ds (passed (c .0) (c .1) (cs ++ ds) e .1)
 
--- where none of some and none of others holds, none of all does
-pub passed-both : (cs ds : List Condition) → firstHeld cs ≡ accepted → firstHeld ds ≡ accepted → firstHeld (cs ++ ds) ≡ accepted
-passed-both [] ds e f = f
-passed-both (c ∷ cs) ds e f = let p = passed (c .0) (c .1) cs e in held-later c (cs ++ ds) (p .0) ∙ passed-both cs ds (p .1) f
+-- where none of the last ones holds, the first decide
+pub last-free : (cs ds : List Condition) → firstHeld ds ≡ accepted → firstHeld (cs ++ ds) ≡ firstHeld cs
+unfolding firstHeld
+last-free [] ds f = f
+last-free (c ∷ cs) ds f = ⊎-elim
+    (λ h. held-first c (cs ++ ds) h ∙ sym (held-first c cs h))
+    (λ h. held-later c (cs ++ ds) h ∙ last-free cs ds f ∙ sym (held-later c cs h)) (either (c .1))
 
 -- "a number is handed back when its condition holds and no earlier one .. does"
 pub handed-when : (n : ℕ) (cs : List Condition) → Handed n cs → firstHeld cs ≡ refused n

@@ -79,7 +79,7 @@ module _ (t : Table) (v : Valid t) where
   }
 
   -- a state that has finished has the same row in both
-  shared-finished : (h : Graph) (x : ℕ) → In x (discoveredOf c) → Off x (unfinishedPath c) → Shared g h c x → h .successors x ≡ g .successors x
+  pub shared-finished : (h : Graph) (x : ℕ) → In x (discoveredOf c) → Off x (unfinishedPath c) → Shared g h c x → h .successors x ≡ g .successors x
   shared-finished h x i f s = ⊎-elim
       (flat-row h x s)
       (λ u. ⊎-elim (λ n. absurd (contra i n)) (λ w. absurd (contra (untaken-on x (s .left) (unfinishedPath c) w) f)) u) (s .untaken)

@@ -3,14 +3,14 @@ use Prim.Native.Nat.{ℕ, _+_, _*_, _≤_}
 use mathlib.Core.Path.{_≡_}
 use mathlib.Core.Logic.{_≢_}
 use mathlib.Core.Bool.{Bool, true, false}
-use mathlib.Core.List.{List, [], _∷_, _++_}
+use mathlib.Core.List.{List, [], _∷_, _++_, map}
 use lib.ListN.{length, take, drop}
 use Rattle.plain.specs.Lists.{any, filter}
 use Rattle.plain.specs.Search.{Edge, Verdict, none, lasso, unfinished, verdict, count, taken}
 use Rattle.plain.specs.Cycles.{FreeRound, AcceptingLoop, Lasso}
 use Rattle.plain.specs.Table.{Table, graphOf, final, firstMeeting}
-use Rattle.plain.specs.Refusals.{accepted, flat, Load, loadTrial, sameEdge}
-use Rattle.plain.specs.Machine.{Change, apply, changeTrial, Update, applied, namedBy, keepsAll, keptPart, answer, tableOf, loadAnswer, Call, answerTo, tableAfter, Line, gameLine, roundLine, noneLine, noLine}
+use Rattle.plain.specs.Refusals.{accepted, refused, flat, Load, loadTrial, sameEdge}
+use Rattle.plain.specs.Machine.{Change, apply, changeTrial, BatchLine, makes, changesIn, Update, applied, namedBy, atLine, keepsAll, keptPart, Answer, refusal, answer, tableOf, loadAnswer, Call, callFor, batchCall, trialOf, answerTo, tableAfter, answers, Line, gameLine, roundLine, noneLine, noLine}
 
 -- the tables that a session can hold: those that a load accepts, and those to which accepted changes lead
 pub data Arises : Table → Type 0 where
@@ -83,6 +83,38 @@ loadFrom t = record { size = t .size; start = t .start; words = t .words; number
 abbrev pub AsFresh : Call → Table → Type 0
 AsFresh c t = (v : Verdict) (spent kept : ℕ) → answerTo c t ≡ answer v spent kept
     → loadAnswer (loadTrial (loadFrom (tableAfter c t)) (c .room)) (tableOf (loadFrom (tableAfter c t))) ≡ answer v (kept + spent) 0
+
+-- the answer tells the verdict and the walk of a table, and its looks are those of its search, kept and spent together
+pub record Reports (a : Answer) (t : Table) : Type 0 where
+  pub spent : ℕ
+  pub kept : ℕ
+  pub answer-is : a ≡ answer (verdict (final t)) spent kept
+  pub total : kept + spent ≡ count (final t)
+
+-- the table behind some calls, and the last of some answers
+unfoldable pub tableBehind : List Call → Table → Table
+tableBehind [] t = t
+tableBehind (c ∷ cs) t = tableBehind cs (tableAfter c t)
+
+unfoldable pub lastOf : Answer → List Answer → Answer
+lastOf a [] = a
+lastOf a (b ∷ bs) = lastOf b bs
+
+-- Document 02, ticket 5, of a batch that is accepted: its changes are accepted one by one too, and end in the same table. The batch's answer and the last of theirs
+-- tell that table: the same verdict and walk, and the same total of kept and spent. Of an empty batch the last answer is the one before it.
+pub record OneByOne (xs : List BatchLine) (t : Table) (room : ℕ) : Type 0 where
+  pub each-accepted : AllAccepted room (changesIn xs) t
+  pub same-table : tableBehind (map (callFor room) (changesIn xs)) t ≡ tableAfter (batchCall room xs) t
+  pub batch-tells : Reports (answerTo (batchCall room xs) t) (tableAfter (batchCall room xs) t)
+  pub last-tells : (before : Answer) → Reports before t → Reports (lastOf before (answers (map (callFor room) (changesIn xs)) t)) (tableAfter (batchCall room xs) t)
+
+-- A batch of one change is that change: where the lent list has room it is refused with the same number, the line's position being 1, and where it is accepted the
+-- answer is the same, the counts too. Either way it leaves the same table.
+pub record AsOne (c : Change) (t : Table) (room : ℕ) : Type 0 where
+  pub same-number : t .size ≤ room → trialOf (batchCall room (makes c ∷ [])) t ≡ trialOf (callFor room c) t
+  pub position-1 : t .size ≤ room → (n : ℕ) → trialOf (callFor room c) t ≡ refused n → answerTo (batchCall room (makes c ∷ [])) t ≡ refusal (record { number = n; position = atLine 1 })
+  pub same-answer : trialOf (callFor room c) t ≡ accepted → answerTo (batchCall room (makes c ∷ [])) t ≡ answerTo (callFor room c) t
+  pub same-table : tableAfter (batchCall room (makes c ∷ [])) t ≡ tableAfter (callFor room c) t
 
 -- What an answer's line says of the table as the call leaves it is true. Of a `no` line: "refusal 7 no longer occurs" (document 02, ticket 1).
 abbrev pub LineTrue : Line → Table → Type 0

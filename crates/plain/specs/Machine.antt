@@ -192,9 +192,12 @@ pub record Call : Type 0 where
   pub update : Update
   pub room : ℕ
 
--- a call that makes one change
+-- a call that makes one change, and one that makes a batch
 abbrev pub callFor : ℕ → Change → Call
 callFor room c = record { update = single c; room = room }
+
+abbrev pub batchCall : ℕ → List BatchLine → Call
+batchCall room xs = record { update = batch xs; room = room }
 
 unfoldable pub trialOf : Call → Table → Trial
 trialOf c t = updateTrial (c .update) t (c .room)

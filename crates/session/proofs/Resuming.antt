@@ -80,22 +80,6 @@ pub switched-mark : (on : Bool) (x : Subject) (state : ℕ) (rows : Rows) (index
 switched-mark true x state rows index walk tip e = ap (λ (y : Subject). unexploredIn (switching true y) rows index walk tip) e
 switched-mark false x state rows index walk tip e = ap (λ (y : Subject). unexploredIn (switching false y) rows index walk tip) e
 
-module _ (op : Op) (rows : Rows) (number index walk : List ℕ) (height : ℕ) where
-  pub nowhere-unmet : getD number (namedBy op) 0 ≡ noNumber → resumptionOf op rows number index walk height ≡ Nowhere
-  unfolding resumptionOf
-  nowhere-unmet e = ap (λ (b : Bool). cond (b || unexploredIn op rows index walk (height - 1)) Nowhere (At (namedBy op))) (eq-eqb (getD number (namedBy op) 0) noNumber e)
-
-  resumption-met : (getD number (namedBy op) 0 ≡ noNumber → ⊥)
-      → resumptionOf op rows number index walk height ≡ cond (unexploredIn op rows index walk (height - 1)) Nowhere (At (namedBy op))
-  unfolding resumptionOf
-  resumption-met n = ap (λ (b : Bool). cond (b || unexploredIn op rows index walk (height - 1)) Nowhere (At (namedBy op))) (ne-eqb (getD number (namedBy op) 0) noNumber n)
-
-  pub nowhere-unexplored : (getD number (namedBy op) 0 ≡ noNumber → ⊥) → unexploredIn op rows index walk (height - 1) ≡ true → resumptionOf op rows number index walk height ≡ Nowhere
-  nowhere-unexplored n u = resumption-met n ∙ ap (λ (b : Bool). cond b Nowhere (At (namedBy op))) u
-
-  pub at-explored : (getD number (namedBy op) 0 ≡ noNumber → ⊥) → unexploredIn op rows index walk (height - 1) ≡ false → resumptionOf op rows number index walk height ≡ At (namedBy op)
-  at-explored n u = resumption-met n ∙ ap (λ (b : Bool). cond b Nowhere (At (namedBy op))) u
-
 -- ---- the walk, and the states that have not finished
 
 entries-front : (xs ys : List ℕ) → entries (length xs) 0 (xs ++ ys) ≡ xs
@@ -104,49 +88,66 @@ entries-front xs ys = ext-getD 0 (entries (length xs) 0 (xs ++ ys)) xs (entries-
     sym (entries-first (length xs) (xs ++ ys) i k) ∙ List·getD-append xs ys 0 i k)
 
 module _ (g : Graph) where
-  -- what is left of a state's row stands behind the edge that discovered the next state of the path, whose newest state is followed by z
-  left-behind : (r : Notes) (x z : ℕ) (p : List Frame) (rest : List ℕ) → Below g r z p → In x (statesOf p)
-      → Untaken x (drop (suc (r .of (getD (statesOf p ++ (z ∷ rest)) (suc (placeOf x (statesOf p))) 0) .index)) (g .successors x)) p
+  -- the edge that discovered the next state of the path is the last one taken of a state's row, and what is left stands behind it
+  abbrev LastTaken : Notes → ℕ → ℕ → List Frame → Type 0
+  LastTaken r x next p = Untaken x (drop (suc (r .of next .index)) (g .successors x)) p × (r .of next .index < length (g .successors x))
+
+  -- an index stands within the row of the parent, where that has an entry
+  abbrev Within : Notes → ℕ → Type 0
+  Within r x = r .of x .index ≤ length (g .successors (r .of x .parent)) - 1
+
+  -- the path's newest state is followed by z
+  last-taken : (r : Notes) (a x z : ℕ) (p : List Frame) (rest : List ℕ) → Below g r z p → Linked g a z p → ((y : ℕ) → (y ≡ z) ⊎ On y p → Within r y) → In x (statesOf p)
+      → LastTaken r x (getD (statesOf p ++ (z ∷ rest)) (suc (placeOf x (statesOf p))) 0) p
   unfolding statesOf
-  left-behind r x z [] rest b i = absurd (in-nil x i)
-  left-behind r x z (frame y ts ∷ p) rest b i = ⊎-elim (λ j. below j (left-behind r x y p (z ∷ rest) (b .2) j)) here (either (elem x (statesOf p)))
+  last-taken r a x z [] rest b l n i = absurd (in-nil x i)
+  last-taken r a x z (frame y ts ∷ p) rest b l n i = ⊎-elim (λ j. below j (last-taken r a x y p (z ∷ rest) (b .2) (l .1) (λ w k. n w (inr (later w k))) j)) here (either (elem x (statesOf p)))
     where
+      later : (w : ℕ) → (w ≡ y) ⊎ On w p → On w (frame y ts ∷ p)
+      later w (inl e) = rw e (on-head y ts p)
+      later w (inr o) = on-tail w y ts p o
+
       next : ℕ
       next = getD ((statesOf p ++ (y ∷ [])) ++ (z ∷ rest)) (suc (placeOf x (statesOf p ++ (y ∷ [])))) 0
 
-      below : In x (statesOf p) → Untaken x (drop (suc (r .of (getD (statesOf p ++ (y ∷ (z ∷ rest))) (suc (placeOf x (statesOf p))) 0) .index)) (g .successors x)) p
-          → Untaken x (drop (suc (r .of next .index)) (g .successors x)) (frame y ts ∷ p)
+      below : In x (statesOf p) → LastTaken r x (getD (statesOf p ++ (y ∷ (z ∷ rest))) (suc (placeOf x (statesOf p))) 0) p → LastTaken r x next (frame y ts ∷ p)
       below j w =
           let e : getD (statesOf p ++ (y ∷ (z ∷ rest))) (suc (placeOf x (statesOf p))) 0 ≡ next =
           λ k. getD (sym (append-assoc (statesOf p) (y ∷ []) (z ∷ rest)) k) (suc (sym (place-front x (statesOf p) (y ∷ []) j) k)) 0 in
-          inr (subst (λ (n : ℕ). Untaken x (drop (suc (r .of n .index)) (g .successors x)) p) e w)
+          let q = subst (λ (m : ℕ). LastTaken r x m p) e w in
+          (inr (q .0), q .1)
 
-      here : elem x (statesOf p) ≡ false → Untaken x (drop (suc (r .of next .index)) (g .successors x)) (frame y ts ∷ p)
+      here : elem x (statesOf p) ≡ false → LastTaken r x next (frame y ts ∷ p)
       here f =
           let e : x ≡ y = ⊎-elim (λ j. absurd (contra j f)) (in-one x y) (in-append x (statesOf p) (y ∷ []) i) in
           let at : suc (placeOf x (statesOf p ++ (y ∷ []))) ≡ length (statesOf p ++ (y ∷ [])) =
           omega (arith, place-behind x (statesOf p) (y ∷ []) f, place-hit x y [] (eq-eqb x y e), length-append (statesOf p) (y ∷ [])) in
           let is : next ≡ z = getD-at (statesOf p ++ (y ∷ [])) z rest 0 (suc (placeOf x (statesOf p ++ (y ∷ [])))) (sym at) in
-          inl (e, (λ k. drop (suc (r .of (is k) .index)) (g .successors (e k))) ∙ sym (b .1))
+          let few : r .of z .index ≤ length (g .successors y) - 1 = subst (λ (m : ℕ). r .of z .index ≤ length (g .successors m) - 1) (b .0) (n z (inl refl)) in
+          let some : 0 < length (g .successors y) = in-some z (g .successors y) (l .0) in
+          let row : length (g .successors x) ≡ length (g .successors y) = ap (λ (m : ℕ). length (g .successors m)) e in
+          let index : r .of next .index ≡ r .of z .index = ap (λ (m : ℕ). r .of m .index) is in (
+            inl (e, (λ k. drop (suc (r .of (is k) .index)) (g .successors (e k))) ∙ sym (b .1)),
+            omega (arith, few, some, row, index),
+          )
 
   -- what the walk and the height of the open path tell of a search that is over, and stands at c
   pub record PathTold (r : Notes) (c : Config) (tip : ℕ) (walk : List ℕ) : Type 0 where
     pub unfinished-are : entries tip 0 walk ≡ statesOf (unfinishedPath c)
     pub tip-is : tip ≡ length (statesOf (unfinishedPath c))
-    pub left-is : (x : ℕ) → In x (statesOf (unfinishedPath c))
-        → Untaken x (drop (suc (r .of (getD walk (suc (placeOf x (statesOf (unfinishedPath c)))) 0) .index)) (g .successors x)) (unfinishedPath c)
+    pub last-is : (x : ℕ) → In x (statesOf (unfinishedPath c)) → LastTaken r x (getD walk (suc (placeOf x (statesOf (unfinishedPath c)))) 0) (unfinishedPath c)
 
   pub path-told : (c : Config) (r r′ : Notes) (stem length height : ℕ) (walk : List ℕ) → Inv g c → ShapeOf g r′ c → ((x : ℕ) → In x (discoveredOf c) → r .of x ≡ r′ .of x)
-      → Tells stem length walk (verdict c) → height ≡ heightOf c → PathTold r c (height - 1) walk
+      → ((x : ℕ) → Within r′ x) → Tells stem length walk (verdict c) → height ≡ heightOf c → PathTold r c (height - 1) walk
   unfolding verdict statesOf entries stemOf cycleOf onPath
-  path-told (outer p d k l) r r′ stem n height walk v h same t e = absurd t
-  path-told (nested s p q d k l) r r′ stem n height walk v h same t e = absurd t
-  path-told (exhausted d k l) r r′ stem n height walk v h same t e =
+  path-told (outer p d k l) r r′ stem n height walk v h same few t e = absurd t
+  path-told (nested s p q d k l) r r′ stem n height walk v h same few t e = absurd t
+  path-told (exhausted d k l) r r′ stem n height walk v h same few t e =
       let z : height - 1 ≡ 0 = omega (arith, e) in
-      record { unfinished-are = ap (λ (k : ℕ). entries k 0 walk) z; tip-is = z; left-is = λ x i. absurd (in-nil x i) }
-  path-told (found y [] q d k l) r r′ stem n height walk v h same t e = absurd v
-  path-told (found y (frame s us ∷ p) [] d k l) r r′ stem n height walk v h same t e = absurd v
-  path-told (found y (frame s us ∷ p) (frame x ts ∷ q) d k l) r r′ stem n height walk v h same t e =
+      record { unfinished-are = ap (λ (k : ℕ). entries k 0 walk) z; tip-is = z; last-is = λ x i. absurd (in-nil x i) }
+  path-told (found y [] q d k l) r r′ stem n height walk v h same few t e = absurd v
+  path-told (found y (frame s us ∷ p) [] d k l) r r′ stem n height walk v h same few t e = absurd v
+  path-told (found y (frame s us ∷ p) (frame x ts ∷ q) d k l) r r′ stem n height walk v h same few t e =
       let states = statesOf p ++ (s ∷ []) in
       let behind = drop 1 (statesOf q ++ (x ∷ [])) in
       let high : height - 1 ≡ length (statesOf p) = omega (arith, e, states-length p) in
@@ -158,9 +159,13 @@ module _ (g : Graph) where
       record {
         unfinished-are = (λ k. entries (high k) 0 (is k)) ∙ entries-front (statesOf p) (s ∷ (behind ++ t .2 .0));
         tip-is = high;
-        left-is = λ z i. subst (λ (w : List ℕ). Untaken z (drop (suc (r .of (getD w (suc (placeOf z (statesOf p))) 0) .index)) (g .successors z)) p) (sym is)
-            (left-behind r z s p (behind ++ t .2 .0) b i);
+        last-is = λ z i. subst (λ (w : List ℕ). LastTaken r z (getD w (suc (placeOf z (statesOf p))) 0) p) (sym is)
+            (last-taken r (g .start) z s p (behind ++ t .2 .0) b (v .chain) (λ w o. subst⁻¹ (λ (m : Note). m .index ≤ length (g .successors (m .parent)) - 1) (same w (known w o)) (few w)) i);
       }
+    where
+      known : (w : ℕ) → (w ≡ s) ⊎ On w p → In w d
+      known w (inl z) = rw z (v .known s (on-head s [] p))
+      known w (inr o) = v .known w (on-tail w s [] p o)
 
 -- ---- the test on the session is the plain one, of a state that was met
 
@@ -200,11 +205,11 @@ module _ (t : Table) (v : Valid t) (r : Notes) (rows : Rows) (index walk : List 
   abbrev left : List ℕ
   left = drop (suc last) targets
 
-  left-open : On from path → Untaken from left path
-  left-open h =
+  last-open : On from path → Untaken from left path × (last < length targets)
+  last-open h =
       let e : r .of (getD walk (suc (placeOf from (statesOf path))) 0) .index ≡ last =
       (λ k. r .of (getD walk (suc (placeOf from (sym (o .unfinished-are) k))) 0) .index) ∙ index-is (getD walk (suc (placeOf from (entries tip 0 walk))) 0) in
-      subst (λ (i : ℕ). Untaken from (drop (suc i) targets) path) e (o .left-is from (on-states from path h))
+      subst (λ (i : ℕ). Untaken from (drop (suc i) targets) path × (i < length targets)) e (o .last-is from (on-states from path h))
 
   looked-cut : Has (probesOf c) (from, to) → unexplored (cut (from, to)) t ≡ false
   unfolding unexplored final
@@ -214,56 +219,127 @@ module _ (t : Table) (v : Valid t) (r : Notes) (rows : Rows) (index walk : List 
   unfolding unexplored final
   unlooked-cut n = ap not (not-true (present (probesOf c) (from, to)) n)
 
-  -- an edge stands behind the last one taken exactly when it was not looked at
-  cut-open : On from path → In to targets → ltb last (placeOf to (rowAt (rows .targets) (rows .starts) from)) ≡ unexplored (cut (from, to)) t
-  cut-open h i = ap (λ (l : List ℕ). ltb last (placeOf to l)) (rows-are ∙ sym (take-append-drop (suc last) targets)) ∙ ⊎-elim taken untaken (either (elem to front))
+  -- an edge stands behind the last one taken, or is not there, exactly when it was not looked at
+  cut-open : On from path → ltb last (placeOf to (rowAt (rows .targets) (rows .starts) from)) ≡ unexplored (cut (from, to)) t
+  cut-open h = ap (λ (l : List ℕ). ltb last (placeOf to l)) (rows-are ∙ sym (take-append-drop (suc last) targets)) ∙ ⊎-elim taken untaken (either (elem to front))
     where
-      w : Untaken from left path
-      w = left-open h
+      w : Untaken from left path × (last < length targets)
+      w = last-open h
 
       taken : In to front → ltb last (placeOf to (front ++ left)) ≡ unexplored (cut (from, to)) t
       taken j =
           let short : placeOf to (front ++ left) ≤ last = omega (arith, place-front to front left j, ltb-true (placeOf to front) (length front) (has-place to front ∙ j), length-take (suc last) targets) in
           le-ltb last (placeOf to (front ++ left)) short
-          ∙ sym (looked-cut (front-looked (searched t) (rows-once t v) (budget t) from to front left met w (sym (take-append-drop (suc last) targets)) j))
+          ∙ sym (looked-cut (front-looked (searched t) (rows-once t v) (budget t) from to front left met (w .0) (sym (take-append-drop (suc last) targets)) j))
 
       untaken : elem to front ≡ false → ltb last (placeOf to (front ++ left)) ≡ unexplored (cut (from, to)) t
       untaken f =
-          let j : In to left = ⊎-elim (λ k. absurd (contra k f)) (λ k. k) (in-append to front left (rw (take-append-drop (suc last) targets) i)) in
-          let some = ltb-true (placeOf to left) (length left) (has-place to left ∙ j) in
-          let far : last < placeOf to (front ++ left) = omega (arith, place-behind to front left f, some, length-drop (suc last) targets, length-take (suc last) targets) in
-          lt-ltb last (placeOf to (front ++ left)) far
-          ∙ sym (unlooked-cut (left-unlooked (searched t) (rows-once t v) (budget t) from to left w j))
+          let far : last < placeOf to (front ++ left) = omega (arith, place-behind to front left f, w .1, length-take (suc last) targets) in
+          lt-ltb last (placeOf to (front ++ left)) far ∙ sym (unlooked-cut (λ k.
+          let i : In to (front ++ left) = rw (take-append-drop (suc last) targets) (looked-edge (searched t) (budget t) (from, to) k) in
+          ⊎-elim (λ j. contra j f) (λ j. left-unlooked (searched t) (rows-once t v) (budget t) from to left (w .0) j k) (in-append to front left i)))
 
-  cut-decided : In to targets → unexploredEdge false from to rows index walk tip ≡ unexplored (cut (from, to)) t
+  -- of a state that has finished it has to be there
+  cut-decided : (Off from path → In to targets) → unexploredEdge false from to rows index walk tip ≡ unexplored (cut (from, to)) t
   cut-decided i = by-path (onPath from path) refl
     where
       by-path : (b : Bool) → onPath from path ≡ b → unexploredEdge false from to rows index walk tip ≡ unexplored (cut (from, to)) t
-      by-path true e = edge-goes from to rows index walk tip (placed-open ∙ e) ∙ cut-open e i
-      by-path false e = edge-off from to rows index walk tip false (placed-open ∙ e) ∙ sym (looked-cut (finished-looked (searched t) (rows-once t v) (budget t) from to met e i))
+      by-path true e = edge-goes from to rows index walk tip (placed-open ∙ e) ∙ cut-open e
+      by-path false e = edge-off from to rows index walk tip false (placed-open ∙ e) ∙ sym (looked-cut (finished-looked (searched t) (rows-once t v) (budget t) from to met e (i e)))
 
 -- ---- of a session
+
+-- a state that is named, or was met
+pub named-one : (c : Change) → named c ≡ namedBy (opFor c) ∷ []
+unfolding named
+named-one (add e) = refl
+named-one (cut e) = refl
+named-one (mark s) = refl
+named-one (unmark s) = refl
 
 -- what the session's search had not come to, the plain one had not
 module _ (s : Session) (t : Table) (h : Holds s t) (v : Valid t) where
   abbrev held : Notes
   held = notesOf (run (searched t) (h .steps)) (s .number) (s .parent) (s .index) (s .probes) (s .stamp)
 
+  abbrev ran : Config
+  ran = run (searched t) (h .steps)
+
+  ran-final : ran ≡ final t
+  ran-final = run-final t v (h .steps) (h .ended)
+
   path-held : PathTold (searched t) held (run (searched t) (budget t)) (s .height - 1) (s .walk)
   unfolding final
-  path-held =
-      let e : run (searched t) (h .steps) ≡ run (searched t) (budget t) = run-final t v (h .steps) (h .ended) in
-      path-told (searched t) (run (searched t) (budget t)) held (notes (searched t) (h .steps)) (s .stem) (s .length) (s .height) (s .walk)
-      (inv-run (searched t) (budget t)) (rw e at (noted-run (searched t) (h .steps) .shape)) (λ x i. h .archived .holds .notes-right x (rw e i)) (h .told) (h .height-is)
+  path-held = path-told (searched t) (run (searched t) (budget t)) held (notes (searched t) (h .steps)) (s .stem) (s .length) (s .height) (s .walk)
+      (inv-run (searched t) (budget t)) (rw ran-final at (noted-run (searched t) (h .steps) .shape)) (λ x i. h .archived .holds .notes-right x (rw ran-final i))
+      (notes-index (searched t) (h .steps)) (h .told) (h .height-is)
 
-  pub decided : (op : Op) (room : ℕ) → changeTrial (changeOf op) t room ≡ accepted → In (namedBy op) (discoveredOf (run (searched t) (h .steps)))
-      → unexploredIn op (arraysHeld s .rows) (s .index) (s .walk) (s .height - 1) ≡ unexplored (changeOf op) t
+  -- a state was met exactly when it has a number
+  pub numbered-met : (x : ℕ) → In x (discoveredOf ran) → getD (s .number) x 0 < noNumber
+  numbered-met x i =
+      let n = noted-run (searched t) (h .steps) in
+      omega (
+        arith,
+        ap (λ (m : Note). m .number) (h .archived .holds .notes-right x i),
+        n .counted .0 x i,
+        limits (searched t) (t .size) (small t v) (h .steps) .few,
+      )
+
+  pub numbered-unmet : (x : ℕ) → x < t .size → elem x (discoveredOf ran) ≡ false → getD (s .number) x 0 ≡ noNumber
+  numbered-unmet x b f = h .archived .undiscovered x (omega (arith, b, size-few (t .size) (v .size-ok))) f
+
+  -- of a state that was met: the plain test
+  decided : (c : Change) (u : Table) (room : ℕ) → Taken t v u → changeTrial c u room ≡ accepted → In (namedBy (opFor c)) (discoveredOf ran)
+      → unexploredIn (opFor c) (arraysHeld s .rows) (s .index) (s .walk) (s .height - 1) ≡ unexplored c t
   unfolding changeTrial conditions unexplored final
-  decided (Add from to) room e i =
-      add-decided t v held (arraysHeld s .rows) (s .index) (s .walk) (s .height - 1) from to (h .stored .filed .rows-are from) (λ x. refl) path-held
-      (rw (← run-final t v (h .steps) (h .ended)) i)
-  decided (Cut from to) room e i =
-      cut-decided t v held (arraysHeld s .rows) (s .index) (s .walk) (s .height - 1) from to (h .stored .filed .rows-are from) (λ x. refl) path-held
-      (rw (← run-final t v (h .steps) (h .ended)) i) (has-row (t .edges) from to (not-false (present (t .edges) (from, to)) (unheld 10 _ e)))
-  decided (Mark state) room e i = refl
-  decided (Unmark state) room e i = refl
+  decided (add e) u room k a i =
+      add-decided t v held (arraysHeld s .rows) (s .index) (s .walk) (s .height - 1) (e .0) (e .1) (h .stored .filed .rows-are (e .0)) (λ x. refl) path-held (rw ran-final at i)
+  decided (cut e) u room k a i =
+      let met : In (e .0) (discoveredOf (run (searched t) (budget t))) = rw ran-final at i in
+      cut-decided t v held (arraysHeld s .rows) (s .index) (s .walk) (s .height - 1) (e .0) (e .1) (h .stored .filed .rows-are (e .0)) (λ x. refl) path-held met
+      (λ f. rw (← shared-finished t v (searched u) (e .0) met f (k (e .0))) (has-row (u .edges) (e .0) (e .1) (not-false (present (u .edges) e) (unheld 10 _ a))))
+  decided (mark s) u room k a i = refl
+  decided (unmark s) u room k a i = refl
+
+  -- A change that is accepted on a table whose rows begin with what the run has taken: the session's judgement is the plain one.
+  passed-decided : (c : Change) (u : Table) (room : ℕ) → u .size ≡ t .size → Taken t v u → changeTrial c u room ≡ accepted
+      → passedOverIn (makes c) (arraysHeld s .rows) (s .number) (s .index) (s .walk) (s .height) ≡ passedOver c t
+  unfolding passedOver
+  passed-decided c u room size k a = ⊎-elim met unmet (either (elem (namedBy (opFor c)) (discoveredOf ran)))
+    where
+      state : ℕ
+      state = namedBy (opFor c)
+
+      unexploredHere : Bool
+      unexploredHere = unexploredIn (opFor c) (arraysHeld s .rows) (s .index) (s .walk) (s .height - 1)
+
+      met : In state (discoveredOf ran) → passedOverIn (makes c) (arraysHeld s .rows) (s .number) (s .index) (s .walk) (s .height) ≡ (unexplored c t || not (meets (named c) (final t)))
+      met i =
+          let m : meets (named c) (final t) ≡ true = rw (named-one c, ← ran-final) (meets-one (searched t) state ran i) in
+          ap (λ (b : Bool). b || unexploredHere) (ne-eqb (getD (s .number) state 0) noNumber (λ z. omega (arith, numbered-met state i)))
+          ∙ decided c u room k a i ∙ sym (or-none (unexplored c t) (not (meets (named c) (final t))) (ap not m))
+
+      unmet : elem state (discoveredOf ran) ≡ false → passedOverIn (makes c) (arraysHeld s .rows) (s .number) (s .index) (s .walk) (s .height) ≡ (unexplored c t || not (meets (named c) (final t)))
+      unmet f =
+          let below : state < t .size = omega (arith, size, named-below (opFor c) u room (ap (λ (d : Change). changeTrial d u room) (change-back c) ∙ a)) in
+          let m : meets (named c) (final t) ≡ false = rw (named-one c, ← ran-final) (unmet-one (searched t) state ran f) in
+          ap (λ (b : Bool). b || unexploredHere) (eq-eqb (getD (s .number) state 0) noNumber (numbered-unmet state below f))
+          ∙ sym (or-second (unexplored c t) (not (meets (named c) (final t))) (ap not m))
+
+  -- and so is that of a list of changes
+  pub all-decided : (room : ℕ) (cs : List Change) (u : Table) → u .size ≡ t .size → Taken t v u → AllAccepted room cs u
+      → allPassedOver (map makes cs) (arraysHeld s .rows) (s .number) (s .index) (s .walk) (s .height) ≡ all (λ c. passedOver c t) cs
+  unfolding all
+  all-decided room [] u size k a = refl
+  all-decided room (c ∷ cs) u size k a = by-first (passedOver c t) refl (λ p. all-decided room cs (apply c u) (changed-size c u ∙ size) (passed-step t v c u p k) (a .1))
+    where
+      rest : Bool
+      rest = allPassedOver (map makes cs) (arraysHeld s .rows) (s .number) (s .index) (s .walk) (s .height)
+
+      here : passedOverIn (makes c) (arraysHeld s .rows) (s .number) (s .index) (s .walk) (s .height) ≡ passedOver c t
+      here = passed-decided c u room size k (a .0)
+
+      by-first : (b : Bool) → passedOver c t ≡ b → (passedOver c t ≡ true → rest ≡ all (λ c. passedOver c t) cs)
+          → (passedOverIn (makes c) (arraysHeld s .rows) (s .number) (s .index) (s .walk) (s .height) && rest) ≡ (passedOver c t && all (λ c. passedOver c t) cs)
+      by-first true e below = (λ i. here i && below e i)
+      by-first false e below = ap (λ (b : Bool). b && rest) (here ∙ e) ∙ sym (ap (λ (b : Bool). b && all (λ c. passedOver c t) cs) e)

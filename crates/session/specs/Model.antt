@@ -2,16 +2,23 @@
 use Prim.Native.Nat.{ℕ, suc, _-_, _≤_}
 use mathlib.Core.Path.{_≡_}
 use mathlib.Core.Bool.{Bool, true, false, cond, _&&_, _||_}
-use mathlib.Core.List.{List, _++_}
+use mathlib.Core.List.{List, [], _∷_, _++_}
 use lib.Dec.{eqb, ltb}
 use lib.ListN.{length, getD, take, drop, replicate}
+use Rattle.plain.specs.Lists.{all}
 use Rattle.plain.specs.Refusals.{accepted, refused}
+use Rattle.plain.specs.Machine.{BatchLine as PlainLine, makes, other}
 use Rattle.rows.specs.Rows.{entries, rowAt, placeOf}
 use Rattle.rows.specs.Change.{Rows}
 use Rattle.table.specs.declared.Op.{Op}
 use Rattle.table.specs.declared.Op.the-variants.{Add, Cut, Mark, Unmark}
-use Rattle.table.specs.Trials.{Arrays, arraysOf, trialIn}
-use Rattle.table.specs.Filing.{namedBy, filedIn}
+use Rattle.table.specs.declared.Position.{Position}
+use Rattle.table.specs.declared.Update.{Update}
+use Rattle.table.specs.declared.Update.the-variants as Update
+use Rattle.table.specs.declared.BatchLine.{BatchLine}
+use Rattle.table.specs.Trials.{Arrays, arraysOf}
+use Rattle.table.specs.Filing.{namedBy}
+use Rattle.table.specs.Batches.{lineFor, lineTo, linesIn, statesIn, opFor, positionAt, callTriedIn}
 use Rattle.look.specs.Numbers.{noNumber}
 use Rattle.search.specs.declared.Phase.{Phase}
 use Rattle.search.specs.declared.Phase.the-variants.{Outer, Nested, Exhausted, Found}
@@ -85,9 +92,23 @@ noGame = record {
   total = 0;
 }
 
+-- what is asked for: is it one change, and which line is it then?
+abbrev pub isAlone : Update → Bool
+isAlone (Update.Change op) = true
+isAlone Update.Batch = false
+
+abbrev pub onlyLine : Update → BatchLine
+onlyLine (Update.Change op) = lineTo op
+onlyLine Update.Batch = lineFor 0 0 0
+
 -- the answer to a refused call
-abbrev pub refusing : ℕ → Answer
-refusing n = Refused (record { number = n })
+abbrev pub refusing : ℕ → Position → Answer
+refusing n position = Refused (record { number = n; position = position })
+
+abbrev pub isRefused : Answer → Bool
+isRefused (Refused refusal) = true
+isRefused (Clear spent kept) = false
+isRefused (Round spent kept stem cycle) = false
 
 -- the answer that a verdict makes
 unfoldable pub answerIs : Verdict → Answer
@@ -111,11 +132,32 @@ unexploredIn (Cut from to) rows index walk tip = unexploredEdge false from to ro
 unexploredIn (Mark state) rows index walk tip = false
 unexploredIn (Unmark state) rows index walk tip = false
 
--- Where a search is taken up for a change: nowhere if the state that it names was never discovered, or the search had not come to its edge. The tip is the last state of
--- the open path, which is so many states high.
-unfoldable pub resumptionOf : Op → Rows → List ℕ → List ℕ → List ℕ → ℕ → Resumption
-resumptionOf op rows number index walk height =
-    cond (eqb (getD number (namedBy op) 0) noNumber || unexploredIn op rows index walk (height - 1)) Nowhere (At (namedBy op))
+-- Had the search not come to what a line changes: was the state that it names never discovered, or its edge not come to? The tip is the last state of the open
+-- path, which is so many states high. A line that makes no change is passed over.
+abbrev pub passedOverIn : PlainLine → Rows → List ℕ → List ℕ → List ℕ → ℕ → Bool
+passedOverIn (makes c) rows number index walk height = eqb (getD number (namedBy (opFor c)) 0) noNumber || unexploredIn (opFor c) rows index walk (height - 1)
+passedOverIn other rows number index walk height = true
+
+abbrev pub allPassedOver : List PlainLine → Rows → List ℕ → List ℕ → List ℕ → ℕ → Bool
+allPassedOver xs rows number index walk height = all (λ x. passedOverIn x rows number index walk height) xs
+
+-- the most states that a batch names
+abbrev pub namedMost : ℕ
+namedMost = 64
+
+-- the state with the least discovery number of some, where the least so far is that of another; nowhere where none is discovered
+unfoldable pub earliestFrom : ℕ → ℕ → List ℕ → List ℕ → Resumption
+earliestFrom least state [] number = cond (eqb least noNumber) Nowhere (At state)
+earliestFrom least state (s ∷ ss) number = cond (ltb (getD number s 0) least) (earliestFrom (getD number s 0) s ss number) (earliestFrom least state ss number)
+
+abbrev pub earliestOf : List ℕ → List ℕ → Resumption
+earliestOf states number = earliestFrom noNumber 0 states number
+
+-- Where a search is taken up for the lines of a call, given as numbers: nowhere where all are passed over, else where the first of the states that they name was
+-- discovered.
+unfoldable pub resumptionOf : List ℕ → Rows → List ℕ → List ℕ → List ℕ → ℕ → Resumption
+resumptionOf ns rows number index walk height =
+    cond (allPassedOver (linesIn ns) rows number index walk height) Nowhere (earliestOf (take namedMost (statesIn ns)) number)
 
 -- has the search found a cycle?
 abbrev pub isFound : Phase → Bool
@@ -156,9 +198,10 @@ pub record Settles (g : Game) (size start : ℕ) (from : Resumption) (old : Verd
   pub answer-is : r .answer ≡ answerIs (r .verdict)
   pub wrote : r .verdict .stem ≤ r .verdict .length → r .verdict .length ≤ 512 → r .verdict .length ≤ length lent → lent′ ≡ shownWalk (r .verdict .length) (a′ .walk) lent
 
--- What a change leaves: a refusal, and all is as it was; or the table's arrays changed, and what searching and answering leaves.
-pub record ChangedIn (op : Op) (size start : ℕ) (old : Verdict) (b : Arrays) (a : Records) (lent : List ℕ) (r : Settled) (b′ : Arrays) (a′ : Records) (lent′ : List ℕ) : Type 0 where
-  pub on-refusal : (n : ℕ) → trialIn op size b (length lent) ≡ refused n
-      → (r ≡ record { answer = refusing n; verdict = old }) × (b′ ≡ b) × (a′ ≡ a) × (lent′ ≡ lent)
-  pub on-acceptance : trialIn op size b (length lent) ≡ accepted
-      → (b′ ≡ filedIn op size b) × Settles (gameIn b′) size start (resumptionOf op (b .rows) (a .number) (a .index) (a .walk) (old .height)) old a lent r a′ lent′
+-- What a call leaves, whose lines are given as numbers: a refusal, and all is as it was; or the table's arrays changed, and what searching and answering leaves.
+pub record UpdatedIn (alone : Bool) (ns : List ℕ) (size start : ℕ) (old : Verdict) (b : Arrays) (a : Records) (lent : List ℕ) (r : Settled) (b′ : Arrays) (a′ : Records) (lent′ : List ℕ) : Type 0 where
+  pub on-refusal : (n : ℕ) → callTriedIn alone (linesIn ns) size b (length lent) .trial ≡ refused n
+      → (r ≡ record { answer = refusing n (positionAt alone (callTriedIn alone (linesIn ns) size b (length lent) .position)); verdict = old }) × (b′ ≡ b) × (a′ ≡ a) × (lent′ ≡ lent)
+  pub on-acceptance : callTriedIn alone (linesIn ns) size b (length lent) .trial ≡ accepted
+      → (b′ ≡ callTriedIn alone (linesIn ns) size b (length lent) .arrays)
+      × Settles (gameIn b′) size start (resumptionOf ns (b .rows) (a .number) (a .index) (a .walk) (old .height)) old a lent r a′ lent′

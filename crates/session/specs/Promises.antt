@@ -1,4 +1,4 @@
--- What load and the changes promise, in terms of the plain table. Assumes nothing.
+-- What load and the calls behind it promise, in terms of the plain table. Assumes nothing.
 use Prim.Native.Nat.{ℕ, suc, _+_, _<_}
 use mathlib.Core.Path.{_≡_}
 use mathlib.Core.Logic.{_≢_}
@@ -7,22 +7,34 @@ use lib.ListN.{length, take}
 use Rattle.plain.specs.Search.{Config, outer, nested, exhausted, found, Verdict, none, lasso, unfinished, verdict, count, run}
 use Rattle.plain.specs.Table.{Table, searched, final}
 use Rattle.plain.specs.Refusals.{Load, accepted, refused, loadTrial}
-use Rattle.plain.specs.Machine.{numbered, loadAnswer, tableOf, Call, answerTo, tableAfter, answers, written, Line, roundLine, noneLine, noLine, answerLine, answerLines}
+use Rattle.plain.specs.Machine.{Position as PlainPosition, alone, atLine, Refusal as PlainRefusal, Update as PlainUpdate, single, batch, loadAnswer, tableOf, Call, answerTo, tableAfter, answers, written, Line, roundLine, noneLine, noLine, answerLine, answerLines}
 use Rattle.plain.specs.Claims.{Arises, LineTrue, LineCounted, LoopTold}
 use Rattle.search.specs.Archive.{Begins, Archived}
 use Rattle.session.specs.declared.Answer.{Answer}
 use Rattle.session.specs.declared.Answer.the-variants.{Refused, Clear, Round}
 use Rattle.table.specs.declared.Refusal.{Refusal}
-use Rattle.table.specs.declared.Op.{Op}
+use Rattle.table.specs.declared.Position.{Position}
+use Rattle.table.specs.declared.Position.the-variants as Position
+use Rattle.table.specs.declared.Update.{Update}
+use Rattle.table.specs.declared.Update.the-variants as Update
 use Rattle.session.specs.declared.Session.{Session}
 use Rattle.session.specs.declared.Outcome.{Outcome}
 use Rattle.table.specs.Filing.{changeOf, Stored}
+use Rattle.table.specs.Batches.{linesIn}
 use Rattle.session.specs.Model.{arraysHeld, noGame}
 
--- The document's number and values for each case of the answer: `no` and the refusal's number; `none`, spent, kept; `round`, spent, kept, the lengths of
+-- the plain table's word for where a refusal stands, and for the refusal
+abbrev pub positionOf : Position → PlainPosition
+positionOf Position.Alone = alone
+positionOf (Position.Line i) = atLine i
+
+abbrev pub refusalOf : Refusal → PlainRefusal
+refusalOf r = record { number = r .number; position = positionOf (r .position) }
+
+-- The document's number and values for each case of the answer: `no` and the refusal's number, of a batch with its position; `none`, spent, kept; `round`, spent, kept, the lengths of
 -- stem and round, and the walk, which stands at the head of the lent list as the call leaves it.
 unfoldable pub shown : Answer → List ℕ → Line
-shown (Refused r) list = noLine (numbered (r .number))
+shown (Refused r) list = noLine (refusalOf r)
 shown (Clear spent kept) list = noneLine spent kept
 shown (Round spent kept stem cycle) list = roundLine spent kept stem cycle (take (stem + cycle) list)
 
@@ -32,9 +44,20 @@ NoRefusal (Refused r) = ⊥
 NoRefusal (Clear spent kept) = Unit {0}
 NoRefusal (Round spent kept stem cycle) = Unit {0}
 
--- the call: the change of the plain table, and the length of the list that is lent
-abbrev pub callOf : Op → List ℕ → Call
-callOf op lent = record { change = changeOf op; room = length lent }
+-- what is asked of the plain table: one change, or a batch, whose lines stand in a list of numbers
+abbrev pub updateOf : Update → List ℕ → PlainUpdate
+updateOf (Update.Change op) ns = single (changeOf op)
+updateOf Update.Batch ns = batch (linesIn ns)
+
+-- the call: what is asked, and the length of the list that is lent
+abbrev pub callOf : PlainUpdate → List ℕ → Call
+callOf u lent = record { update = u; room = length lent }
+
+-- What a session without a game answers: a change names a state outside it; a batch is refused ahead of its lines, since the count of states is 0, so that an empty
+-- one is refused too.
+abbrev pub withoutGame : PlainUpdate → Refusal
+withoutGame (single c) = record { number = 6; position = Position.Alone }
+withoutGame (batch xs) = record { number = 2; position = Position.Line 0 }
 
 -- the walk that is kept, with the length of its stem and its own, is that of the verdict
 abbrev pub Tells : ℕ → ℕ → List ℕ → Verdict → Type 0
@@ -67,37 +90,37 @@ pub record Loads (l : Load) (lent : List ℕ) (r : Outcome) (lent′ : List ℕ)
   pub answers : answerLine (loadAnswer (loadTrial l (length lent)) (tableOf l)) ≡ shown (r .answer) lent′ ∷ []
   pub writes : lent′ ≡ written (loadAnswer (loadTrial l (length lent)) (tableOf l)) lent
   pub holds : loadTrial l (length lent) ≡ accepted → Holds (r .session) (tableOf l)
-  -- what a refused load hands back in place of a session has no state, so every change of it is refused
+  -- what a refused load hands back in place of a session has no state, so every call on it is refused
   pub empty : (n : ℕ) → loadTrial l (length lent) ≡ refused n → r .session ≡ noGame
 
--- A CHANGE. For every plain table that the session holds: the answer and the lent list are the plain table's, and the new session holds the table
--- that the call leaves. For every session, forged too: a refusal gives back the session and the list as they were. What a refused load hands back holds no
--- table, and every change of it is refused.
-pub record Changes (op : Op) (s : Session) (lent : List ℕ) (r : Outcome) (lent′ : List ℕ) : Type 0 where
-  pub answers : (t : Table) → Holds s t → answerLine (answerTo (callOf op lent) t) ≡ shown (r .answer) lent′ ∷ []
-  pub writes : (t : Table) → Holds s t → lent′ ≡ written (answerTo (callOf op lent) t) lent
-  pub holds : (t : Table) → Holds s t → Holds (r .session) (tableAfter (callOf op lent) t)
+-- A CALL: one change, or a batch. For every plain table that the session holds: the answer and the lent list are the plain table's, and the new session holds the
+-- table that the call leaves. For every session, forged too: a refusal gives back the session and the list as they were. What a refused load hands back holds no
+-- table, and every call on it is refused.
+pub record Updates (u : PlainUpdate) (s : Session) (lent : List ℕ) (r : Outcome) (lent′ : List ℕ) : Type 0 where
+  pub answers : (t : Table) → Holds s t → answerLine (answerTo (callOf u lent) t) ≡ shown (r .answer) lent′ ∷ []
+  pub writes : (t : Table) → Holds s t → lent′ ≡ written (answerTo (callOf u lent) t) lent
+  pub holds : (t : Table) → Holds s t → Holds (r .session) (tableAfter (callOf u lent) t)
   pub refused : (n : Refusal) → r .answer ≡ Refused n → (r .session ≡ s) × (lent′ ≡ lent)
-  pub no-game : s .size ≡ 0 → r .answer ≡ Refused (record { number = 6 })
+  pub no-game : s .size ≡ 0 → r .answer ≡ Refused (withoutGame u)
 
 -- ---- a list of calls
 
 -- one call as it was made: what it was given, what it answered, and what the lent list then held
 pub record Exchange : Type 0 where
-  pub op : Op
+  pub asked : PlainUpdate
   pub lent : List ℕ
   pub answered : Answer
   pub after : List ℕ
 
 abbrev pub callIn : Exchange → Call
-callIn x = callOf (x .op) (x .lent)
+callIn x = callOf (x .asked) (x .lent)
 
--- calls on a session, each given the session that the call before it returned; each is known by its contract alone
+-- calls on a session, single changes and batches in any order, each given the session that the call before it returned; each is known by its contract alone
 pub data Served : Session → List Exchange → Type 0 where
   done : {s : Session} → Served s []
-  call : {s : Session} (op : Op) (lent : List ℕ) (r : Outcome) (lent′ : List ℕ) (xs : List Exchange)
-      → Changes op s lent r lent′ → Served (r .session) xs
-      → Served s (record { op = op; lent = lent; answered = r .answer; after = lent′ } ∷ xs)
+  call : {s : Session} (u : PlainUpdate) (lent : List ℕ) (r : Outcome) (lent′ : List ℕ) (xs : List Exchange)
+      → Updates u s lent r lent′ → Served (r .session) xs
+      → Served s (record { asked = u; lent = lent; answered = r .answer; after = lent′ } ∷ xs)
 
 -- ---- demand 3
 
@@ -106,7 +129,7 @@ pub data Served : Session → List Exchange → Type 0 where
 pub record CallRight (x : Exchange) (t : Table) : Type 0 where
   pub answers : answerLine (answerTo (callIn x) t) ≡ shown (x .answered) (x .after) ∷ []
   pub writes : x .after ≡ written (answerTo (callIn x) t) (x .lent)
-  pub counts : LineCounted (shown (x .answered) (x .after)) (callIn x .change) t
+  pub counts : LineCounted (shown (x .answered) (x .after)) (x .asked) t
   pub truth : LineTrue (shown (x .answered) (x .after)) (tableAfter (callIn x) t)
 
 -- something of each call, on the table that those before it leave

@@ -1,10 +1,11 @@
 // One session: the game's table and the records of its search. It is made by a load and by nothing else.
 use rows::wide;
-use table::Op;
+use table::BatchLine;
+use table::Position;
 use table::Refusal;
 use table::Subject;
-use table::Switch;
 use table::Trial;
+use table::Update;
 ghost use mathlib.Core.Path.{_≡_};
 ghost use mathlib.Core.List.{_++_};
 ghost use Prim.Native.Nat.{_+_, _≤_};
@@ -13,9 +14,10 @@ ghost use Rattle.rows.specs.Rows.{Tabled};
 ghost use Rattle.rows.specs.Change.{rowsOf};
 ghost use Rattle.look.specs.Numbers.{plus};
 ghost use Rattle.search.specs.Core.{gameOf, Lengths};
-ghost use Rattle.table.specs.Trials.{arraysOf, opOf};
-ghost use Rattle.session.specs.Model.{unexploredEdge, resumptionOf, isFound, verdictOf, noVerdict, recordsOf, Sought, answerIs, refusing, noGame, shownWalk, Settles, ChangedIn};
-ghost use Rattle.session.specs.Promises.{Loads, Changes};
+ghost use Rattle.table.specs.Trials.{arraysOf};
+ghost use Rattle.table.specs.Batches.{lineIn, linesIn, statesIn, numbersIn};
+ghost use Rattle.session.specs.Model.{unexploredEdge, passedOverIn, allPassedOver, namedMost, earliestOf, resumptionOf, isFound, verdictOf, noVerdict, recordsOf, Sought, answerIs, isAlone, onlyLine, isRefused, refusing, noGame, shownWalk, Settles, UpdatedIn};
+ghost use Rattle.session.specs.Promises.{updateOf, Loads, Updates};
 
 // The answer to a call: a refusal, or the probes spent and kept, and with a round the lengths of stem and round.
 pub enum Answer {
@@ -82,6 +84,9 @@ pub struct Outcome {
     pub session: Session,
 }
 
+// The most states that a batch names.
+const NAMED: usize = 64;
+
 // 2 × 2,048 + 3 × 512 + 2: no search takes more steps, and a phase of it is one step or more.
 const PHASES: u16 = 5634;
 
@@ -111,9 +116,110 @@ fn is_unexplored(
     look::get(index, next) < rows::place(targets, starts, from, to)
 }
 
-// Where the search is taken up for a change. It is asked before the change is made, while an edge that goes still has its place.
+// Had the search not come to what a line changes: has it never met the state, or not come to the edge? A line that makes no change is passed over: its batch is
+// refused.
+fn is_passed_over(
+    line: BatchLine,
+    targets: &[u16; 2048],
+    starts: &[u16; 513],
+    number: &[u16; 512],
+    index: &[u16; 512],
+    walk: &[u16; 512],
+    height: u16,
+) -> bool
+    requires { ⌜ Tabled (now targets) (now starts) × (length (now number) ≡ 512) × (length (now index) ≡ 512) × (length (now walk) ≡ 512) ⌝ }
+    ensures { λ r. ⌜ r ≡ passedOverIn (lineIn line) (rowsOf (now (targets .entry)) (now (starts .entry))) (now (number .entry)) (now (index .entry)) (now (walk .entry)) height ⌝ }
+{
+    if !table::is_change(line) {
+        return true;
+    }
+    if look::get(number, line.first) == look::NO_NUMBER {
+        return true;
+    }
+    let switch = table::switch_in(line);
+    let subject = switch.subject;
+    if let Subject::Edge { from, to } = subject {
+        let tip = look::down(height);
+        return is_unexplored(switch.on, from, to, targets, starts, index, walk, tip);
+    }
+    false
+}
+
+// Are all lines of a call passed over? It is asked before they are tried, while the rows are those that the search has read.
+fn all_passed_over(
+    alone: bool,
+    only: BatchLine,
+    lines: &[u16],
+    targets: &[u16; 2048],
+    starts: &[u16; 513],
+    number: &[u16; 512],
+    index: &[u16; 512],
+    walk: &[u16; 512],
+    height: u16,
+) -> bool
+    requires { ⌜ Tabled (now targets) (now starts) × (length (now number) ≡ 512) × (length (now index) ≡ 512) × (length (now walk) ≡ 512) ⌝ }
+    ensures { λ r. ⌜ r ≡ allPassedOver (linesIn (numbersIn alone only (now (lines .entry)))) (rowsOf (now (targets .entry)) (now (starts .entry))) (now (number .entry)) (now (index .entry)) (now (walk .entry)) height ⌝ }
+{
+    let end = table::lines_end(alone, lines);
+    let mut at: usize = 0;
+    while at < end {
+        let line = table::line_at(alone, only, lines, at);
+        if !is_passed_over(line, targets, starts, number, index, walk, height) {
+            return false;
+        }
+        at += table::LINE;
+    }
+    true
+}
+
+// The states that the lines of a call name, as many as a batch may name, at the head of a list: how many they are.
+fn name_states(alone: bool, only: BatchLine, lines: &[u16], states: &mut [u16; NAMED]) -> usize
+    requires { ⌜ length (now states) ≡ namedMost ⌝ }
+    ensures { λ r. ⌜ (r ≤ namedMost) × (take r (now (states .exit)) ≡ take namedMost (statesIn (numbersIn alone only (now (lines .entry))))) ⌝ }
+{
+    let end = table::lines_end(alone, lines);
+    let mut at: usize = 0;
+    let mut n: usize = 0;
+    while at < end {
+        if n == NAMED {
+            return n;
+        }
+        let line = table::line_at(alone, only, lines, at);
+        states[n] = line.first;
+        n += 1;
+        at += table::LINE;
+    }
+    n
+}
+
+// Where the search is taken up that first discovers one of some states: the earliest of them, or nowhere, since it discovered none.
+fn earliest(states: &[u16], number: &[u16; 512]) -> Resumption
+    requires { ⌜ length (now number) ≡ 512 ⌝ }
+    ensures { λ r. ⌜ r ≡ earliestOf (now (states .entry)) (now (number .entry)) ⌝ }
+{
+    let mut first: u16 = look::NO_NUMBER;
+    let mut state: u16 = 0;
+    let mut i: usize = 0;
+    while i < states.len() {
+        let s = states[i];
+        let n = look::get(number, s);
+        if n < first {
+            first = n;
+            state = s;
+        }
+        i += 1;
+    }
+    if first == look::NO_NUMBER {
+        return Resumption::Nowhere;
+    }
+    Resumption::At(state)
+}
+
+// Where the search is taken up for a call.
 fn where_to_resume(
-    switch: Switch,
+    alone: bool,
+    only: BatchLine,
+    lines: &[u16],
     targets: &[u16; 2048],
     starts: &[u16; 513],
     number: &[u16; 512],
@@ -122,20 +228,24 @@ fn where_to_resume(
     height: u16,
 ) -> Resumption
     requires { ⌜ Tabled (now targets) (now starts) × (length (now number) ≡ 512) × (length (now index) ≡ 512) × (length (now walk) ≡ 512) ⌝ }
-    ensures { λ r. ⌜ r ≡ resumptionOf (opOf switch) (rowsOf (now (targets .entry)) (now (starts .entry))) (now (number .entry)) (now (index .entry)) (now (walk .entry)) height ⌝ }
+    ensures { λ r. ⌜ r ≡ resumptionOf (numbersIn alone only (now (lines .entry))) (rowsOf (now (targets .entry)) (now (starts .entry))) (now (number .entry)) (now (index .entry)) (now (walk .entry)) height ⌝ }
 {
-    let s = table::named_by(switch);
-    if look::get(number, s) == look::NO_NUMBER {
+    if all_passed_over(
+        alone,
+        only,
+        lines,
+        targets,
+        starts,
+        number,
+        index,
+        walk,
+        height,
+    ) {
         return Resumption::Nowhere;
     }
-    let subject = switch.subject;
-    if let Subject::Edge { from, to } = subject {
-        let tip = look::down(height);
-        if is_unexplored(switch.on, from, to, targets, starts, index, walk, tip) {
-            return Resumption::Nowhere;
-        }
-    }
-    Resumption::At(s)
+    let mut states: [u16; NAMED] = [0; NAMED];
+    let n = name_states(alone, only, lines, &mut states);
+    earliest(&states[..n], number)
 }
 
 // Has the search found a cycle?
@@ -274,10 +384,10 @@ fn write_walk(v: Verdict, walk: &[u16; 512], lent: &mut [u16])
 }
 
 // The answer to a refused call.
-fn refused(number: u16) -> Answer
-    ensures { λ r. ⌜ r ≡ refusing number ⌝ }
+fn refused(number: u16, position: Position) -> Answer
+    ensures { λ r. ⌜ r ≡ refusing number position ⌝ }
 {
-    Answer::Refused(Refusal { number })
+    Answer::Refused(Refusal { number, position })
 }
 
 // What stands in place of a session where a load is refused: it has no state, so every change of it is refused.
@@ -382,7 +492,7 @@ pub fn load(size: u16, start: u16, words: [u64; 8], numbers: &[u16], lent: &mut 
     );
     if let Trial::Refused(n) = trial {
         return Outcome {
-            answer: refused(n),
+            answer: refused(n, Position::Alone),
             session: no_game(),
         };
     }
@@ -440,9 +550,11 @@ pub fn load(size: u16, start: u16, words: [u64; 8], numbers: &[u16], lent: &mut 
     }
 }
 
-// A change on the arrays of a session: tried and made in the table's, then searched and answered.
-fn change_in(
-    switch: Switch,
+// A call on the arrays of a session: tried and made in the table's, then searched and answered. Where it is refused, the table's arrays have to be put back.
+fn update_in(
+    alone: bool,
+    only: BatchLine,
+    lines: &[u16],
     targets: &mut [u16; 2048],
     starts: &mut [u16; 513],
     words: &mut [u64; 8],
@@ -458,13 +570,25 @@ fn change_in(
     lent: &mut [u16],
 ) -> Settled
     requires { ⌜ Tabled (now targets) (now starts) × Lengths (now number) (now parent) (now index) (now probes) (now stamp) (now walk) ⌝ }
-    ensures { λ r. ⌜ ChangedIn (opOf switch) size start old (arraysOf (now (targets .entry)) (now (starts .entry)) (now (words .entry))) (recordsOf (now (number .entry)) (now (parent .entry)) (now (index .entry)) (now (probes .entry)) (now (stamp .entry)) (now (walk .entry))) (now (lent .entry)) r (arraysOf (now (targets .exit)) (now (starts .exit)) (now (words .exit))) (recordsOf (now (number .exit)) (now (parent .exit)) (now (index .exit)) (now (probes .exit)) (now (stamp .exit)) (now (walk .exit))) (now (lent .exit)) ⌝ }
+    ensures { λ r. ⌜ UpdatedIn alone (numbersIn alone only (now (lines .entry))) size start old (arraysOf (now (targets .entry)) (now (starts .entry)) (now (words .entry))) (recordsOf (now (number .entry)) (now (parent .entry)) (now (index .entry)) (now (probes .entry)) (now (stamp .entry)) (now (walk .entry))) (now (lent .entry)) r (arraysOf (now (targets .exit)) (now (starts .exit)) (now (words .exit))) (recordsOf (now (number .exit)) (now (parent .exit)) (now (index .exit)) (now (probes .exit)) (now (stamp .exit)) (now (walk .exit))) (now (lent .exit)) ⌝ }
 {
-    let from = where_to_resume(switch, targets, starts, number, index, walk, old.height);
-    let trial = table::attempt(switch, size, targets, starts, words, lent.len());
+    let from = where_to_resume(
+        alone,
+        only,
+        lines,
+        targets,
+        starts,
+        number,
+        index,
+        walk,
+        old.height,
+    );
+    let attempt = table::attempt_call(alone, only, lines, size, targets, starts, words, lent.len());
+    let trial = attempt.trial;
     if let Trial::Refused(n) = trial {
+        let position = attempt.position;
         return Settled {
-            answer: refused(n),
+            answer: refused(n, position),
             verdict: old,
         };
     }
@@ -486,12 +610,54 @@ fn change_in(
     )
 }
 
-// A change of the game: a move added or cut, a state marked or unmarked. The list lent for the walk comes last. It has one exit, so that the session is
-// copied out and in once.
-pub fn change(s: Session, op: Op, lent: &mut [u16]) -> Outcome
-    ensures { λ r. ⌜ Changes op s (now (lent .entry)) r (now (lent .exit)) ⌝ }
+// Is it one change?
+fn is_alone(asked: Update) -> bool
+    ensures { λ r. ⌜ r ≡ isAlone asked ⌝ }
 {
-    let switch = table::switch_of(op);
+    match asked {
+        Update::Change(op) => true,
+        Update::Batch => false,
+    }
+}
+
+// Its line, if it is one change.
+fn only_line(asked: Update) -> BatchLine
+    ensures { λ r. ⌜ r ≡ onlyLine asked ⌝ }
+{
+    match asked {
+        Update::Change(op) => table::line_of(op),
+        Update::Batch => BatchLine {
+            what: 0,
+            first: 0,
+            second: 0,
+        },
+    }
+}
+
+// Is the answer a refusal?
+pub fn is_refused(answer: Answer) -> bool
+    ensures { λ r. ⌜ r ≡ isRefused answer ⌝ }
+{
+    match answer {
+        Answer::Refused(refusal) => true,
+        Answer::Clear { spent, kept } => false,
+        Answer::Round {
+            spent,
+            kept,
+            stem,
+            cycle,
+        } => false,
+    }
+}
+
+// A call on a session: one change of the game, or a batch of lines, which are all made or none. Of a batch, `lines` has three numbers for each line (BatchLine); a
+// change alone does not read it. The list lent for the walk comes last. There is one exit, so that the session is copied out and in once; a refused call gets the
+// table's arrays back from it.
+pub fn update(s: Session, asked: Update, lines: &[u16], lent: &mut [u16]) -> Outcome
+    ensures { λ r. ⌜ Updates (updateOf asked (now (lines .entry))) s (now (lent .entry)) r (now (lent .exit)) ⌝ }
+{
+    let alone = is_alone(asked);
+    let only = only_line(asked);
     let mut words = s.words;
     let mut targets = s.targets;
     let mut starts = s.starts;
@@ -508,8 +674,10 @@ pub fn change(s: Session, op: Op, lent: &mut [u16]) -> Outcome
         spent: 0,
         kept: s.total,
     };
-    let r = change_in(
-        switch,
+    let r = update_in(
+        alone,
+        only,
+        lines,
         &mut targets,
         &mut starts,
         &mut words,

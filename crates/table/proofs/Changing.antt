@@ -99,7 +99,7 @@ module _ (t : Table) (before : Rows) (f : Filed (t .size) (t .edges) before) whe
 
 module _ (t : Table) (before : Arrays) (f : Stored t before) where
   -- the conditions read off the arrays are the table's
-  conditions-same : (op : Op) → conditionsIn op (t .size) before ≡ conditions (changeOf op) t
+  pub conditions-same : (op : Op) → conditionsIn op (t .size) before ≡ conditions (changeOf op) t
   unfolding addConditions cutConditions markConditions unmarkConditions conditions full
   conditions-same (Add from to) = λ i.
       (6, outside (t .size) (from, to)) ∷ (8, present-here t (before .rows) (f .filed) from to i) ∷ (9, leb 2048 (f .filed .count-is i)) ∷ []

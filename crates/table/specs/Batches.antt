@@ -147,3 +147,10 @@ pub record AttemptedLines (alone : Bool) (w : TriedIn) (r : Attempt) (a′ : Arr
   pub trial-is : r .trial ≡ tried (w .trial)
   pub position-is : r .position ≡ positionAt alone (w .position)
   pub arrays-are : a′ ≡ w .arrays
+
+-- a call that was tried: its changes are made where all are accepted
+pub record AttemptedCall (alone : Bool) (w : TriedIn) (a : Arrays) (r : Attempt) (a′ : Arrays) : Type 0 where
+  pub trial-is : r .trial ≡ tried (w .trial)
+  pub position-is : r .position ≡ positionAt alone (w .position)
+  pub filed : r .trial ≡ Accepted → a′ ≡ w .arrays
+  pub unfiled : (n : ℕ) → r .trial ≡ Refused n → a′ ≡ a

@@ -1,13 +1,14 @@
 // The game's table in its arrays: calls are tried on it, and accepted ones are filed in its rows and its marks. No search.
 use rows::wide;
 ghost use mathlib.Core.Path.{_≡_};
+ghost use mathlib.Core.Bool.{true};
 ghost use Prim.Native.Nat.{_<_};
 ghost use lib.ListN.{length, drop};
 ghost use Rattle.plain.specs.Lists.{any};
 ghost use Rattle.plain.specs.Refusals.{firstHeld, badMarks, outside, roomCondition, pairs};
 ghost use Rattle.rows.specs.Rows.{Tabled};
 ghost use Rattle.table.specs.Trials.{arraysOf, opOf, stateOf, tried, earlyTrial, there, addConditions, cutConditions, markConditions, unmarkConditions, conditionsIn, trialIn};
-ghost use Rattle.table.specs.Batches.{lineFor, lineTo, isChange, subjectIn, switchIn, lineIn, numbersIn, endIn, headLine, linesIn, isRefused, positionAt, triedIn, aheadTrial, callTriedIn, AttemptedLine, AttemptedLines};
+ghost use Rattle.table.specs.Batches.{lineFor, lineTo, isChange, subjectIn, switchIn, lineIn, numbersIn, endIn, headLine, linesIn, isRefused, positionAt, triedIn, aheadTrial, callTriedIn, AttemptedLine, AttemptedLines, AttemptedCall};
 ghost use Rattle.table.specs.Filing.{filedIn, Attempted, Empty, Limits, FiledAll, Tried};
 
 // Where a refusal stands: it is that of the call, or that of a line of a batch, with its position.
@@ -436,7 +437,7 @@ pub fn named_by(switch: Switch) -> u16
 
 // The line at a place in the list of a call: a change alone is the only one.
 pub fn line_at(alone: bool, only: BatchLine, lines: &[u16], at: usize) -> BatchLine
-    requires { ⌜ at < length (numbersIn alone only (now lines)) ⌝ }
+    requires { ⌜ (at < length (numbersIn alone only (now lines))) × (alone ≡ true → at ≡ 0) ⌝ }
     ensures { λ r. ⌜ r ≡ headLine (drop at (numbersIn alone only (now (lines .entry)))) ⌝ }
 {
     if alone {
@@ -547,7 +548,8 @@ fn ahead_trial(alone: bool, size: u16, room: usize) -> Trial
     room_trial(size, room)
 }
 
-// Tries a call, and makes its changes in the arrays. Where a line is refused, those before it are made: the caller has to put the arrays back.
+// Tries a call, and makes its changes in the arrays where all are accepted. Where a line of a batch is refused, the arrays are put back as they were. The old ones
+// are held here, and by a batch alone: so the compiler has no copy of them to make for a change (docs/DECISIONS.md, 83).
 pub fn attempt_call(
     alone: bool,
     only: BatchLine,
@@ -559,11 +561,24 @@ pub fn attempt_call(
     room: usize,
 ) -> Attempt
     requires { ⌜ Tabled (now targets) (now starts) ⌝ }
-    ensures { λ r. ⌜ AttemptedLines alone (callTriedIn alone (linesIn (numbersIn alone only (now (lines .entry)))) size (arraysOf (now (targets .entry)) (now (starts .entry)) (now (words .entry))) room) r (arraysOf (now (targets .exit)) (now (starts .exit)) (now (words .exit))) ⌝ }
+    ensures { λ r. ⌜ AttemptedCall alone (callTriedIn alone (linesIn (numbersIn alone only (now (lines .entry)))) size (arraysOf (now (targets .entry)) (now (starts .entry)) (now (words .entry))) room) (arraysOf (now (targets .entry)) (now (starts .entry)) (now (words .entry))) r (arraysOf (now (targets .exit)) (now (starts .exit)) (now (words .exit))) ⌝ }
 {
     let ahead = ahead_trial(alone, size, room);
     if is_refused(ahead) {
         return ended(alone, ahead, 0);
     }
-    attempt_lines(alone, only, lines, size, targets, starts, words, room)
+    if alone {
+        return attempt_lines(alone, only, lines, size, targets, starts, words, room);
+    }
+    let old_targets = *targets;
+    let old_starts = *starts;
+    let old_words = *words;
+    let r = attempt_lines(alone, only, lines, size, targets, starts, words, room);
+    let trial = r.trial;
+    if is_refused(trial) {
+        *targets = old_targets;
+        *starts = old_starts;
+        *words = old_words;
+    }
+    r
 }

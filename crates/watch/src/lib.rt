@@ -9,6 +9,8 @@ use rows::wide;
 use session::Answer;
 use session::Outcome;
 use session::Session;
+use table::Position;
+use table::Refusal;
 ghost use mathlib.Core.Path.{_≡_};
 ghost use mathlib.Core.List.{_∷_, []};
 ghost use Prim.Native.Nat.{_≤_, min};
@@ -64,28 +66,25 @@ fn least(a: usize, b: usize) -> usize
 pub fn serve(s: Session, lead: Lead, ask: Ask, numbers: &[u16], walk: &mut [u16]) -> Outcome
     ensures { λ r. ⌜ Serves ask lead (now (numbers .entry)) s (now (walk .entry)) r (now (walk .exit)) ⌝ }
 {
+    let n = least(wide(lead.count), numbers.len());
     match ask {
         Ask::Load => {
             let words = lead.words;
-            let n = least(wide(lead.count), numbers.len());
             session::load(lead.size, lead.start, words, &numbers[..n], walk)
         }
-        Ask::Change(op) => session::change(s, op, walk),
+        Ask::Update(asked) => session::update(s, asked, &numbers[..n], walk),
     }
 }
 
-fn is_refused(answer: Answer) -> bool
-    ensures { λ r. ⌜ r ≡ isRefused answer ⌝ }
+// Puts the line of a refusal at a place.
+fn put_refusal(out: &mut [u8], at: usize, refusal: Refusal) -> usize
+    requires { ⌜ (at ≤ gameMost) × (linesMost ≤ length (now out)) ⌝ }
+    ensures { λ r. ⌜ Put (now (out .entry)) at (render (noLine (refusalOf refusal))) (now (out .exit)) r ⌝ }
 {
-    match answer {
-        Answer::Refused(refusal) => true,
-        Answer::Clear { spent, kept } => false,
-        Answer::Round {
-            spent,
-            kept,
-            stem,
-            cycle,
-        } => false,
+    let position = refusal.position;
+    match position {
+        Position::Alone => answer::put_no(out, at, refusal.number),
+        Position::Line(i) => answer::put_no_at(out, at, refusal.number, i),
     }
 }
 
@@ -95,7 +94,7 @@ fn put_answer(out: &mut [u8], at: usize, answer: Answer, walk: &[u16]) -> usize
     ensures { λ r. ⌜ Put (now (out .entry)) at (render (shown answer (now (walk .entry)))) (now (out .exit)) r ⌝ }
 {
     match answer {
-        Answer::Refused(refusal) => answer::put_no(out, at, refusal.number),
+        Answer::Refused(refusal) => put_refusal(out, at, refusal),
         Answer::Clear { spent, kept } => answer::put_none(out, at, spent, kept),
         Answer::Round {
             spent,
@@ -123,7 +122,7 @@ fn put_load(lead: Lead, answer: Answer, walk: &[u16], out: &mut [u8]) -> LineLen
     requires { ⌜ (length (now walk) ≤ room) × (linesMost ≤ length (now out)) ⌝ }
     ensures { λ r. ⌜ Laid (linesOfLoad lead answer (now (walk .entry))) (now (out .entry)) (now (out .exit)) (r .first) (r .len) ⌝ }
 {
-    if is_refused(answer) {
+    if session::is_refused(answer) {
         return put_one(answer, walk, out);
     }
     let words = lead.words;
@@ -145,7 +144,7 @@ fn put_lines(plan: Plan, answer: Answer, walk: &[u16], out: &mut [u8]) -> LineLe
         Task::Refuse(refusal) => put_one(Answer::Refused(refusal), walk, out),
         Task::Ask(ask) => match ask {
             Ask::Load => put_load(lead, answer, walk, out),
-            Ask::Change(op) => put_one(answer, walk, out),
+            Ask::Update(asked) => put_one(answer, walk, out),
         },
     }
 }
@@ -154,7 +153,7 @@ fn put_lines(plan: Plan, answer: Answer, walk: &[u16], out: &mut [u8]) -> LineLe
 fn lead_loaded(lead: Lead, answer: Answer) -> Lead
     ensures { λ r. ⌜ r ≡ leadLoaded lead answer ⌝ }
 {
-    if is_refused(answer) {
+    if session::is_refused(answer) {
         return staged(Stage::Over, lead);
     }
     staged(Stage::Playing, lead)
@@ -171,7 +170,7 @@ fn lead_behind(plan: Plan, answer: Answer) -> Lead
         Task::Refuse(refusal) => lead,
         Task::Ask(ask) => match ask {
             Ask::Load => lead_loaded(lead, answer),
-            Ask::Change(op) => lead,
+            Ask::Update(asked) => lead,
         },
     }
 }

@@ -1,15 +1,14 @@
+-- `is_change` meets its contract. Assumes nothing.
+use mathlib.Core.Path.{sym}
+use Rattle.table.proofs.Batches.{is-none, is-small}
 use Rattle.table.proofs.is_change.Statement.{statement}
 use Rattle.table.proofs.is_change.Tie as tie
-use Rattle.table.proofs.is_change.Reads as reads
-use Rattle.table.proofs.is_change.Lts as lts
 
--- src/lib.rt:303:9
 returns : tie.Need-returns
-returns c = ?
+returns c = sym (is-none (c .before .before .args .line) (c .if1 .taken))
 
--- src/lib.rt:299:1
 returns-2 : tie.Need-returns-2
-returns-2 c = ?
+returns-2 c = sym (is-small (c .before .before .before .args .line) (c .before .if1 .left))
 
 pub is-change-spec : {M : Type 1} → statement M
 is-change-spec = tie.close (tie.spec returns returns-2)

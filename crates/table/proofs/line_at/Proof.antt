@@ -1,65 +1,66 @@
+-- `line_at` meets its contract. Assumes nothing.
+use mathlib.Core.Path.{sym, ap, _∙_}
+use Prim.Native.Nat.{ℕ}
+use native.Mathlib.Omega.{arith}
+use denote.Ref.{now}
+use lib.ListN.{length}
+use Rattle.table.proofs.Batches.{head-three, head-few, head-lent, numbers-lent, only-first}
 use borrow.Author.Needs.{needs}
 use Rattle.table.proofs.line_at.Statement.{statement}
 use Rattle.table.proofs.line_at.Tie as tie
-use Rattle.table.proofs.line_at.Reads as reads
-use Rattle.table.proofs.line_at.Lts as lts
-use Rattle.table.proofs.line.Reads as line-reads
 
--- src/lib.rt:443:9
 returns : tie.Need-returns
-returns c = ?
+returns c =
+    let a = c .before .before .args in
+    only-first (a .alone) (a .only) (now (a .lines)) (a .at) (c .if1 .taken) (c .before .before .pre .1 (c .if1 .taken))
 
--- src/lib.rt:445:8
 sub-if2 : tie.Need-sub-if2
-sub-if2 c = ?
+sub-if2 c =
+    let a = c .before .before .args in
+    omega (arith, c .before .before .pre .0, ap (length {A = ℕ}) (numbers-lent (a .alone) (a .only) (now (a .lines)) (c .if1 .left)))
 
--- src/lib.rt:446:9
 line-requires : tie.Need-line-requires
 line-requires c κs = search needs
 
--- src/lib.rt:446:9
 returns-2 : tie.Need-returns-2
-returns-2 c = ?
+returns-2 c =
+    let b = c .before .before in
+    let a = b .before .before .args in
+    c .line .ensures ∙ sym (head-lent (a .alone) (a .only) (now (a .lines)) (a .at) (b .if1 .left) ∙ head-few (now (a .lines)) (a .at) (c .before .if2 .taken))
 
--- src/lib.rt:448:10
 mul-line : tie.Need-mul-line
 mul-line c = search needs
 
--- src/lib.rt:448:10
 shared-slice-read-line : tie.Need-shared-slice-read-line
 shared-slice-read-line c = search needs
 
--- src/lib.rt:448:27
 add-line : tie.Need-add-line
 add-line c = search needs
 
--- src/lib.rt:448:21
 mul-line-2 : tie.Need-mul-line-2
 mul-line-2 c = search needs
 
--- src/lib.rt:448:21
 shared-slice-read-line-2 : tie.Need-shared-slice-read-line-2
 shared-slice-read-line-2 c = search needs
 
--- src/lib.rt:448:42
 add-line-2 : tie.Need-add-line-2
 add-line-2 c = search needs
 
--- src/lib.rt:448:36
 mul-line-3 : tie.Need-mul-line-3
 mul-line-3 c = search needs
 
--- src/lib.rt:448:36
 shared-slice-read-line-3 : tie.Need-shared-slice-read-line-3
 shared-slice-read-line-3 c = search needs
 
--- src/lib.rt:448:5
 line-requires-2 : tie.Need-line-requires-2
 line-requires-2 c κs = search needs
 
--- src/lib.rt:438:1
 returns-3 : tie.Need-returns-3
-returns-3 c = ?
+returns-3 c =
+    let k = c .before .before .before .before in
+    let b = k .before in
+    let a = b .before .before .args in
+    c .line2 .ensures ∙ sym (head-lent (a .alone) (a .only) (now (a .lines)) (a .at) (b .if1 .left) ∙ head-three (now (a .lines)) (a .at) (omega (arith, k .if2 .left)))
 
 pub line-at-spec : {M : Type 1} → statement M
 line-at-spec =
