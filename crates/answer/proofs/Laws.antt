@@ -12,7 +12,7 @@ use lib.Dec.{ltb}
 use lib.ListN.{length, getD, take, drop, set, length-append, length-drop, take-append-drop}
 use lib.Seq.{length-take-le, take-append-seam, drop-append-add, drop-drop, take-length, set-split, paste}
 use Rattle.plain.proofs.Tests.{and-true}
-use Rattle.plain.specs.Machine.{numbered, gameLine, roundLine, noneLine, noLine}
+use Rattle.plain.specs.Machine.{numbered, atLine, gameLine, roundLine, noneLine, noLine}
 use Rattle.line.specs.Fields.{bytes, newline}
 use Rattle.line.specs.Numbers.{all, isDigit, valueFrom, value, leadingZero, isNumber}
 use Rattle.answer.specs.Bytes.{overwritten, Put}
@@ -265,3 +265,7 @@ length-none s k p q = length-line (bytes "none") (s ∷ k ∷ []) (short-cons p 
 pub length-no : (n : ℕ) → n < 65536 → length (render (noLine (numbered n))) ≤ 9
 unfolding render bytes
 length-no n p = length-line (bytes "no") (n ∷ []) (short-cons p short-nil .below)
+
+pub length-no-at : (n i : ℕ) → n < 65536 → i < 65536 → length (render (noLine (record { number = n; position = atLine i }))) ≤ 15
+unfolding render bytes
+length-no-at n i p q = length-line (bytes "no") (n ∷ i ∷ []) (short-cons p (short-cons q short-nil) .below)

@@ -1,19 +1,27 @@
 -- What a line asks for, one law for each way through the code. Assumes nothing.
-use Prim.Native.Nat.{_+_}
-use mathlib.Core.Path.{_≡_, sym, ap₂}
+use Prim.Native.Nat.{_+_, _≤_, _<_}
+use mathlib.Core.Path.{_≡_, refl, sym, ap₂}
 use mathlib.Core.Bool.{Bool, true, false, _&&_, cond}
-use borrow.Author.Tests.{eq-eqb, ne-eqb}
+use mathlib.Core.List.{[], _∷_}
+use mathlib.Core.Logic.{⊎-elim}
+use native.Mathlib.Omega.{arith}
+use denote.Enum.Declared.{tagOf}
+use types.Run.{OneOf}
+use borrow.Author.Tests.{eq-eqb, ne-eqb, lt-ltb, le-ltb}
 use lib.Dec.{eqb}
 use lib.ListN.{replicate}
 use Rattle.plain.specs.Table.{withMark}
 use Rattle.line.specs.Words.{isWord}
-use Rattle.line.specs.declared.Word.the-variants.{Game, Pay, Move, Go}
+use Rattle.line.specs.declared.Word.the-variants.{Game, Pay, Move, Go, End}
 use Rattle.line.specs.declared.Record.{Record}
+use Rattle.table.specs.Batches.{lineFor}
 use Rattle.lead.specs.declared.Stage.{Stage}
 use Rattle.lead.specs.declared.Stage.the-variants.{Gathering, Over}
 use Rattle.lead.specs.declared.Lead.{Lead}
 use Rattle.lead.specs.declared.Request.{Request}
-use Rattle.lead.specs.Asked.{noTask, refusing, loading, isFull, askedFirst, askedMove, askedBefore, askedAt, asked, gathersMove, takesMove}
+use Rattle.lead.specs.declared.Request.the-variants as R
+use Rattle.lead.specs.Asked.{noTask, refusing, loading, ending, batching, isFull, askedFirst, askedMove, askedBefore, heldMost, holding, askedInside, askedAt, asked, lineFrom}
+use Rattle.lead.proofs.Request.{the-type}
 
 -- ---- a `move`
 
@@ -26,14 +34,13 @@ module _ (l : Lead) where
   unfolding askedMove
   move-more h = rw h
 
--- is it taken?
-module _ (l : Lead) (r : Record) where
-  pub none-taken : isFull l ≡ true → false ≡ takesMove l r
-  unfolding takesMove
+-- ---- is a line taken? There has to be room, and it goes by the stage
+
+module _ (by : Stage → Record → Bool) (r : Record) (room : Bool) (stage : Stage) where
+  pub none-taken : room ≡ false → false ≡ room && by stage r
   none-taken h = rw h
 
-  pub taken-at : (g : Stage) → isFull l ≡ false → l .stage ≡ g → gathersMove g r ≡ takesMove l r
-  unfolding takesMove
+  pub taken-at : (g : Stage) → room ≡ true → stage ≡ g → by g r ≡ room && by stage r
   taken-at g h e = rw (h, e)
 
 -- ---- by the word
@@ -78,11 +85,38 @@ module _ (l : Lead) (r : Record) where
 -- ---- after `go`
 
 -- a line in the order of the words: this one, or one behind it
-pub request-is : (b : Bool) (x y : Request) → b ≡ true → x ≡ cond b x y
-request-is b x y e = rw e
+module _ (x y : Request) {b : Bool} {q : Request} where
+  pub request-is : b ≡ true → cond b x y ≡ q → x ≡ q
+  request-is e h = rw e at h
 
-pub request-behind : (b : Bool) (x y z : Request) → b ≡ false → z ≡ y → z ≡ cond b x y
-request-behind b x y z e h = rw e h
+  pub request-behind : b ≡ false → cond b x y ≡ q → y ≡ q
+  request-behind e h = rw e at h
+
+-- a line that requests no change: the tags of the others
+pub no-change : (q : Request) → OneOf (1 ∷ 2 ∷ 3 ∷ []) (tagOf the-type q) → lineFor 0 0 0 ≡ lineFrom q
+no-change (R.Change op) o = absurd (⊎-elim (λ z. omega arith) (⊎-elim (λ z. omega arith) (λ z. omega arith)) o)
+no-change R.Begin o = refl
+no-change R.End o = refl
+no-change R.Unknown o = refl
+
+-- ---- inside a batch
+
+module _ (l : Lead) where
+  pub held : l .count < heldMost → noTask (batching l (l .count + 3)) ≡ holding l
+  unfolding holding
+  held h = rw (lt-ltb (l .count) heldMost h)
+
+  pub not-held : heldMost ≤ l .count → noTask l ≡ holding l
+  unfolding holding
+  not-held h = rw (le-ltb (l .count) heldMost h)
+
+  pub inside-end : (r : Record) → isWord (r .word) End ≡ true → ending l ≡ askedInside l r
+  unfolding askedInside
+  inside-end r e = rw e
+
+  pub inside-other : (r : Record) → isWord (r .word) End ≡ false → holding l ≡ askedInside l r
+  unfolding askedInside
+  inside-other r e = rw e
 
 -- ---- by the stage
 

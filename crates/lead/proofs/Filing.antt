@@ -1,67 +1,147 @@
--- The numbers of a `move` that is taken, put behind those of the moves before it. Assumes nothing.
+-- The numbers of a line that is taken, put behind those of the lines before it. Assumes nothing.
 use Prim.Native.Nat.{ℕ, _+_, _≤_, _<_}
-use mathlib.Core.Path.{_≡_, refl, ap, _∙_}
-use mathlib.Core.Bool.{Bool, true, false, _&&_, and-false, cond}
+use mathlib.Core.Path.{_≡_, refl, sym, ap, _∙_}
+use mathlib.Core.Bool.{Bool, true, false, _&&_, not, and-false, cond, true≢false}
 use mathlib.Core.List.{List, [], _∷_, _++_, append-assoc}
 use native.Mathlib.Omega.{arith}
 use borrow.Author.Tests.{le-leb, lt-leb, leb-true}
-use lib.Dec.{leb}
+use lib.Dec.{ltb, leb}
 use lib.ListN.{length, take, drop, set, length-set, length-append}
 use lib.Seq.{length-take-le, take-append-seam, take-append-le, take-take}
 use Rattle.plain.proofs.Tests.{and-true}
 use Rattle.line.specs.declared.Record.{Record}
-use Rattle.answer.specs.Bytes.{overwritten}
-use Rattle.answer.proofs.Laws.{put-set, put-then}
+use Rattle.answer.specs.Bytes.{overwritten, Put}
+use Rattle.answer.proofs.Laws.{length-overwritten, put-set, put-then}
+use Rattle.table.specs.declared.BatchLine.{BatchLine}
 use Rattle.lead.specs.declared.Lead.{Lead}
-use Rattle.lead.specs.Asked.{takesMove, filedMove}
+use Rattle.lead.specs.declared.Stage.{Stage}
+use Rattle.lead.specs.declared.Stage.the-variants.{Waiting, Gathering, Playing, Batching, Over}
+use Rattle.lead.specs.Asked.{isFull, heldMost, gathersMove, takesMove, filedMove, insideLine, takesLine, lineRead, numbersOf, filedLine, filed}
 
-module _ (l : Lead) (r : Record) (ns : List ℕ) where
-  -- two numbers set one behind the other
-  pub filed-both : (at : ℕ) → takesMove l r ≡ true → at ≡ l .count → at + 1 < length ns → set (set ns at (r .first)) (at + 1) (r .second) ≡ filedMove l r ns
-  unfolding filedMove
-  filed-both at t e h =
-      let k : l .count + 2 ≤ length ns = omega arith in
-      let p = put-then ns at (r .first ∷ []) (set ns at (r .first)) (at + 1) (r .second ∷ []) (set (set ns at (r .first)) (at + 1) (r .second)) (at + 1 + 1) (omega arith)
-      (put-set ns at (r .first) (omega arith))
-      (put-set (set ns at (r .first)) (at + 1) (r .second) (omega (arith, length-set ns at (r .first)))) in
-      rw (t, le-leb (l .count + 2) (length ns) k) (p .made ∙ ap (λ (n : ℕ). overwritten ns n (r .first ∷ r .second ∷ [])) e)
+-- ---- numbers set one behind the other
 
-  pub filed-not : takesMove l r ≡ false → ns ≡ filedMove l r ns
-  unfolding filedMove
-  filed-not t = rw t
+two-put : (ns : List ℕ) (at a b : ℕ) → at + 1 < length ns → Put ns at (a ∷ b ∷ []) (set (set ns at a) (at + 1) b) (at + 1 + 1)
+two-put ns at a b h =
+    put-then ns at (a ∷ []) (set ns at a) (at + 1) (b ∷ []) (set (set ns at a) (at + 1) b) (at + 1 + 1) (omega arith)
+    (put-set ns at a (omega arith))
+    (put-set (set ns at a) (at + 1) b (omega (arith, length-set ns at a)))
 
-  pub filed-full : (at : ℕ) → at ≡ l .count → length ns ≤ at + 1 → ns ≡ filedMove l r ns
-  unfolding filedMove
-  filed-full at e h =
-      let k : length ns < l .count + 2 = omega arith in
-      rw (lt-leb (l .count + 2) (length ns) k, and-false (takesMove l r))
+three-set : (ns : List ℕ) (at a b c : ℕ) → at + 2 < length ns → set (set (set ns at a) (at + 1) b) (at + 2) c ≡ overwritten ns at (a ∷ b ∷ c ∷ [])
+three-set ns at a b c h =
+    let ms = set (set ns at a) (at + 1) b in
+    let k : at + 2 < length ms = omega (arith, length-set ns at a, length-set (set ns at a) (at + 1) b) in
+    put-then ns at (a ∷ b ∷ []) ms (at + 2) (c ∷ []) (set ms (at + 2) c) (at + 2 + 1) (omega arith)
+    (record { next = refl; made = two-put ns at a b (omega arith) .made })
+    (put-set ms (at + 2) c k) .made
 
--- ---- what stands at the head of the list
+-- ---- what stands at the head of a list that was overwritten
 
 front-kept : (ns bs : List ℕ) (at : ℕ) → at ≤ length ns → take at (overwritten ns at bs) ≡ take at ns
 unfolding overwritten
 front-kept ns bs at h =
     take-append-le at (take at ns) (bs ++ drop (at + length bs) ns) (omega (arith, length-take-le at ns h)) ∙ take-take at at ns (omega arith)
 
-front-put : (ns bs : List ℕ) (at n : ℕ) → at ≤ length ns → n ≡ at + length bs → take n (overwritten ns at bs) ≡ take at ns ++ bs
+front-put : (ns bs : List ℕ) (at : ℕ) → at ≤ length ns → take (at + length bs) (overwritten ns at bs) ≡ take at ns ++ bs
 unfolding overwritten
-front-put ns bs at n h e =
-    let k : n ≡ length (take at ns ++ bs) = omega (arith, length-append (take at ns) bs, length-take-le at ns h) in
-    rw (← append-assoc (take at ns) bs (drop (at + length bs) ns), k) (take-append-seam (take at ns ++ bs) (drop (at + length bs) ns))
+front-put ns bs at h =
+    let k : at + length bs ≡ length (take at ns ++ bs) = omega (arith, length-append (take at ns) bs, length-take-le at ns h) in
+    rw (← append-assoc (take at ns) bs (drop (at + length bs) ns), k) (take-append-seam (take at ns ++ bs) (drop (length (take at ns ++ bs)) ns))
 
--- the moves before it stay
-pub moves-kept : (l : Lead) (r : Record) (ns : List ℕ) → take (l .count) (filedMove l r ns) ≡ take (l .count) ns
-unfolding filedMove
-moves-kept l r ns = by-room (takesMove l r && leb (l .count + 2) (length ns)) refl
-  where
-    by-room : (b : Bool) → takesMove l r && leb (l .count + 2) (length ns) ≡ b
-        → take (l .count) (cond b (overwritten ns (l .count) (r .first ∷ r .second ∷ [])) ns) ≡ take (l .count) ns
-    by-room true e = front-kept ns (r .first ∷ r .second ∷ []) (l .count) (omega (arith, leb-true (l .count + 2) (length ns) (and-true (takesMove l r) _ e .1)))
-    by-room false e = refl
+-- ---- numbers put behind the first n, where they are taken and the list has room for them
 
--- and its own stand behind them
-pub move-put : (l : Lead) (r : Record) (ns : List ℕ) → takesMove l r ≡ true → l .count + 2 ≤ length ns
-    → take (l .count + 2) (filedMove l r ns) ≡ take (l .count) ns ++ (r .first ∷ r .second ∷ [])
-unfolding filedMove
-move-put l r ns t h =
-    rw (t, le-leb (l .count + 2) (length ns) h) (front-put ns (r .first ∷ r .second ∷ []) (l .count) (l .count + 2) (omega arith) refl)
+module _ (taken : Bool) (n : ℕ) (bs ns : List ℕ) where
+  abbrev Behind : List ℕ
+  Behind = cond (taken && leb (n + length bs) (length ns)) (overwritten ns n bs) ns
+
+  set-behind : {ms : List ℕ} (at : ℕ) → taken ≡ true → at ≡ n → at + length bs ≤ length ns → ms ≡ overwritten ns at bs → ms ≡ Behind
+  set-behind at t e h m =
+      let k : n + length bs ≤ length ns = omega arith in
+      rw (t, le-leb (n + length bs) (length ns) k) (m ∙ ap (λ (i : ℕ). overwritten ns i bs) e)
+
+  not-taken : taken ≡ false → ns ≡ Behind
+  not-taken t = rw t
+
+  no-room : length ns < n + length bs → ns ≡ Behind
+  no-room h = rw (lt-leb (n + length bs) (length ns) h, and-false taken)
+
+  -- what holds of the list, and of the list overwritten, where there is room
+  either : (P : List ℕ → Type 0) → P ns → (n + length bs ≤ length ns → P (overwritten ns n bs)) → P Behind
+  either P p q = by-room (taken && leb (n + length bs) (length ns)) refl
+    where
+      by-room : (b : Bool) → taken && leb (n + length bs) (length ns) ≡ b → P (cond b (overwritten ns n bs) ns)
+      by-room true e = q (leb-true (n + length bs) (length ns) (and-true taken _ e .1))
+      by-room false e = p
+
+  length-behind : length Behind ≡ length ns
+  length-behind = either (λ ms. length ms ≡ length ns) refl (length-overwritten ns n bs)
+
+  head-kept : take n Behind ≡ take n ns
+  head-kept = either (λ ms. take n ms ≡ take n ns) refl (λ h. front-kept ns bs n (omega arith))
+
+  head-put : taken ≡ true → n + length bs ≤ length ns → take (n + length bs) Behind ≡ take n ns ++ bs
+  head-put t h = rw (t, le-leb (n + length bs) (length ns) h) (front-put ns bs n (omega arith))
+
+-- ---- the list behind a line
+
+-- at a stage at which moves are gathered no line of a batch is
+apart : (g : Stage) (r : Record) → gathersMove g r ≡ true → insideLine g r ≡ false
+apart Waiting r e = refl
+apart Gathering r e = refl
+apart Playing r e = refl
+apart Batching r e = absurd (true≢false (sym e))
+apart Over r e = refl
+
+module _ (l : Lead) (r : Record) (ns : List ℕ) where
+  -- a `move`
+  pub filed-both : (at : ℕ) → takesMove l r ≡ true → at ≡ l .count → at + 1 < length ns → set (set ns at (r .first)) (at + 1) (r .second) ≡ filedMove l r ns
+  unfolding filedMove
+  filed-both at t e h = set-behind (takesMove l r) (l .count) (r .first ∷ r .second ∷ []) ns at t e (omega arith) (two-put ns at (r .first) (r .second) h .made)
+
+  pub filed-not : takesMove l r ≡ false → ns ≡ filedMove l r ns
+  unfolding filedMove
+  filed-not t = not-taken (takesMove l r) (l .count) (r .first ∷ r .second ∷ []) ns t
+
+  pub filed-full : (at : ℕ) → at ≡ l .count → length ns ≤ at + 1 → ns ≡ filedMove l r ns
+  unfolding filedMove
+  filed-full at e h = no-room (takesMove l r) (l .count) (r .first ∷ r .second ∷ []) ns (omega arith)
+
+  -- a line of a batch
+  pub line-filed : (at : ℕ) (x : BatchLine) → takesLine l r ≡ true → at ≡ l .count → at + 2 < length ns → x ≡ lineRead r
+      → set (set (set ns at (x .what)) (at + 1) (x .first)) (at + 2) (x .second) ≡ filedLine l r ns
+  unfolding filedLine
+  line-filed at x t e h k =
+      set-behind (takesLine l r) (l .count) (numbersOf (lineRead r)) ns at t e (omega arith)
+      (three-set ns at (x .what) (x .first) (x .second) h ∙ ap (λ (y : BatchLine). overwritten ns at (numbersOf y)) k)
+
+  pub line-not : takesLine l r ≡ false → ns ≡ filedLine l r ns
+  unfolding filedLine
+  line-not t = not-taken (takesLine l r) (l .count) (numbersOf (lineRead r)) ns t
+
+  pub line-full : (at : ℕ) → at ≡ l .count → length ns ≤ at + 2 → ns ≡ filedLine l r ns
+  unfolding filedLine
+  line-full at e h = no-room (takesLine l r) (l .count) (numbersOf (lineRead r)) ns (omega arith)
+
+  -- a `move` is none
+  no-line : takesMove l r ≡ true → takesLine l r ≡ false
+  unfolding takesMove takesLine
+  no-line t = rw (apart (l .stage) r (and-true (not (isFull l)) _ t .1)) (and-false (ltb (l .count) heldMost))
+
+  -- ---- the head of the list: the numbers before the line stay
+
+  pub numbers-kept : take (l .count) (filed l r ns) ≡ take (l .count) ns
+  unfolding filed filedMove filedLine
+  numbers-kept = head-kept (takesLine l r) (l .count) (numbersOf (lineRead r)) (filedMove l r ns) ∙ head-kept (takesMove l r) (l .count) (r .first ∷ r .second ∷ []) ns
+
+  -- and its own stand behind them
+  pub move-put : takesMove l r ≡ true → l .count + 2 ≤ length ns → take (l .count + 2) (filed l r ns) ≡ take (l .count) ns ++ (r .first ∷ r .second ∷ [])
+  unfolding filed filedMove filedLine
+  move-put t h =
+      ap (take (l .count + 2)) (sym (not-taken (takesLine l r) (l .count) (numbersOf (lineRead r)) (filedMove l r ns) (no-line t)))
+      ∙ head-put (takesMove l r) (l .count) (r .first ∷ r .second ∷ []) ns t h
+
+  pub line-put : takesLine l r ≡ true → l .count + 3 ≤ length ns → take (l .count + 3) (filed l r ns) ≡ take (l .count) ns ++ numbersOf (lineRead r)
+  unfolding filed filedMove filedLine
+  line-put t h =
+      let k : l .count + 3 ≤ length (filedMove l r ns) = omega (arith, length-behind (takesMove l r) (l .count) (r .first ∷ r .second ∷ []) ns) in
+      head-put (takesLine l r) (l .count) (numbersOf (lineRead r)) (filedMove l r ns) t k
+      ∙ ap (λ (xs : List ℕ). xs ++ numbersOf (lineRead r)) (head-kept (takesMove l r) (l .count) (r .first ∷ r .second ∷ []) ns)

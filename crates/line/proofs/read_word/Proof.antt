@@ -73,6 +73,20 @@ past-unmark : (c : tie.Else8) → Past 8 (start-unmark c)
 unfolding bytes words
 past-unmark c = row-miss _ _ _ (c .before .same8 .ensures) (c .if8 .left) (past-mark (c .before .before .before))
 
+abbrev start-begin : tie.Else9 → tie.Start
+start-begin c = start-unmark (c .before .before .before)
+
+past-begin : (c : tie.Else9) → Past 9 (start-begin c)
+unfolding bytes words
+past-begin c = row-miss _ _ _ (c .before .same9 .ensures) (c .if9 .left) (past-unmark (c .before .before .before))
+
+abbrev start-end : tie.Else10 → tie.Start
+start-end c = start-begin (c .before .before .before)
+
+past-end : (c : tie.Else10) → Past 10 (start-end c)
+unfolding bytes words
+past-end c = row-miss _ _ _ (c .before .same10 .ensures) (c .if10 .left) (past-begin (c .before .before .before))
+
 -- for each row what `same` asks, and the word returned; then the word of no row
 pub read-word-spec : {M : Type 1} → statement M
 unfolding bytes words
@@ -103,4 +117,10 @@ read-word-spec =
     (λ c. search needs)
     (λ c κs. search needs)
     (λ c. row-hit _ _ _ (c .before .same8 .ensures) (c .if8 .taken) (past-mark (c .before .before .before)))
-    (λ c. no-rows _ (past-unmark c)))
+    (λ c. search needs)
+    (λ c κs. search needs)
+    (λ c. row-hit _ _ _ (c .before .same9 .ensures) (c .if9 .taken) (past-unmark (c .before .before .before)))
+    (λ c. search needs)
+    (λ c κs. search needs)
+    (λ c. row-hit _ _ _ (c .before .same10 .ensures) (c .if10 .taken) (past-begin (c .before .before .before)))
+    (λ c. no-rows _ (past-end c)))
