@@ -304,8 +304,7 @@ module _ (u : PlainUpdate) (alone : Bool) (ns : List ℕ) (q : Asks u alone (lin
   -- without a state
   none-is : s .size ≡ 0 → (tried .trial ≡ refused (q .number)) × (refusing (q .number) (positionAt alone (tried .position)) ≡ Refused (withoutGame u))
   none-is z =
-      let e : tried ≡ callTriedIn alone (linesIn ns) 0 (arraysHeld s) (length lent) = ap (λ (n : ℕ). callTriedIn alone (linesIn ns) n (arraysHeld s) (length lent)) z in
-      (
+      let e : tried ≡ callTriedIn alone (linesIn ns) 0 (arraysHeld s) (length lent) = ap (λ (n : ℕ). callTriedIn alone (linesIn ns) n (arraysHeld s) (length lent)) z in (
         ap (λ (w : TriedIn). w .trial) e ∙ q .none (arraysHeld s) (length lent),
         ap (λ (w : TriedIn). refusing (q .number) (positionAt alone (w .position))) e ∙ q .refusal-is (arraysHeld s) (length lent),
       )

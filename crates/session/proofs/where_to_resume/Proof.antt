@@ -4,6 +4,7 @@ use mathlib.Core.List.{List}
 use Prim.Native.Nat.{ℕ}
 use native.Mathlib.Omega.{arith}
 use denote.Ref.{now}
+use lib.Seq.{length-take-le}
 use borrow.Author.Needs.{needs}
 use Rattle.session.specs.Model.{earliestOf}
 use Rattle.session.proofs.Lines.{resumption-nowhere, resumption-earliest}
@@ -23,7 +24,9 @@ array-share-prefix-states : tie.Need-array-share-prefix-states
 array-share-prefix-states c = omega (arith, c .name-states .ensures .0, c .name-states .ensures .1)
 
 slice-aggregate-earliest : tie.Need-slice-aggregate-earliest
-slice-aggregate-earliest c = search (needs, length-take-le) (c .before .name-states .ensures)
+slice-aggregate-earliest c =
+    let n = c .before .name-states in
+    sym (length-take-le (n .result) (n .last .1 .1 .1 .0) (omega (arith, n .ensures .0, n .ensures .1)))
 
 earliest-requires : tie.Need-earliest-requires
 earliest-requires c κs = search needs
