@@ -12,14 +12,15 @@ use Rattle.plain.specs.Machine.{Line, gameLine}
 use Rattle.answer.specs.Bytes.{overwritten}
 use Rattle.answer.specs.Rendering.{render, rendered}
 use Rattle.session.specs.declared.Answer.{Answer}
-use Rattle.session.specs.declared.Answer.the-variants.{Refused, Clear, Round}
+use Rattle.session.specs.declared.Answer.the-variants.{Refused}
 use Rattle.session.specs.declared.Session.{Session}
 use Rattle.session.specs.declared.Outcome.{Outcome}
-use Rattle.session.specs.Promises.{shown, Loads, Changes}
+use Rattle.session.specs.Model.{isRefused}
+use Rattle.session.specs.Promises.{shown, updateOf, Loads, Updates}
 use Rattle.lead.specs.declared.Stage.the-variants.{Playing, Over}
 use Rattle.lead.specs.declared.Lead.{Lead}
 use Rattle.lead.specs.declared.Ask.{Ask}
-use Rattle.lead.specs.declared.Ask.the-variants.{Load as AskLoad, Change}
+use Rattle.lead.specs.declared.Ask.the-variants.{Load as AskLoad, Update as AskUpdate}
 use Rattle.lead.specs.declared.Task.{Task}
 use Rattle.lead.specs.declared.Task.the-variants.{Nothing, Refuse, Ask as Asks}
 use Rattle.lead.specs.declared.Plan.{Plan}
@@ -29,14 +30,18 @@ use Rattle.watch.specs.Text.{room}
 
 -- ---- what the session is asked
 
--- what the lead and the list of the moves' numbers gathered
+-- the numbers of the list that are those of the moves, or of a batch's lines
+abbrev pub numbersHeld : Lead → List ℕ → List ℕ
+numbersHeld l ns = take (l .count) ns
+
+-- what the lead and the list gathered
 abbrev pub gathered : Lead → List ℕ → Load
-gathered l ns = record { size = l .size; start = l .start; words = l .words; numbers = take (l .count) ns }
+gathered l ns = record { size = l .size; start = l .start; words = l .words; numbers = numbersHeld l ns }
 
 -- by what is asked, the session's own promise
 abbrev pub Serves : Ask → Lead → List ℕ → Session → List ℕ → Outcome → List ℕ → Type 0
 Serves AskLoad l ns s walk r walk′ = Loads (gathered l ns) walk r walk′
-Serves (Change op) l ns s walk r walk′ = Changes op s walk r walk′
+Serves (AskUpdate asked) l ns s walk r walk′ = Updates (updateOf asked (numbersHeld l ns)) s walk r walk′
 
 -- ---- the lines that tell it
 
@@ -48,11 +53,6 @@ linesMost = 3200
 abbrev pub gameMost : ℕ
 gameMost = 23
 
-abbrev pub isRefused : Answer → Bool
-isRefused (Refused refusal) = true
-isRefused (Clear spent kept) = false
-isRefused (Round spent kept stem cycle) = false
-
 -- "An accepted load writes `game`, N, the count of moves and the count of paying states. Then come the load's answer .."
 abbrev pub linesOfLoad : Lead → Answer → List ℕ → List Line
 linesOfLoad l answer walk = cond (isRefused answer) (shown answer walk ∷ [])
@@ -63,7 +63,7 @@ abbrev pub linesFor : Task → Lead → Answer → List ℕ → List Line
 linesFor Nothing l answer walk = []
 linesFor (Refuse refusal) l answer walk = shown (Refused refusal) walk ∷ []
 linesFor (Asks AskLoad) l answer walk = linesOfLoad l answer walk
-linesFor (Asks (Change op)) l answer walk = shown answer walk ∷ []
+linesFor (Asks (AskUpdate asked)) l answer walk = shown answer walk ∷ []
 
 -- The lines told of a plan and an answer, with the list of the walk, in a buffer of so many bytes. Where that list is longer than the box's own, or the
 -- buffer too short for some answer, none is told.
@@ -78,7 +78,7 @@ abbrev pub leadFor : Task → Lead → Answer → Lead
 leadFor Nothing l answer = l
 leadFor (Refuse refusal) l answer = l
 leadFor (Asks AskLoad) l answer = leadLoaded l answer
-leadFor (Asks (Change op)) l answer = l
+leadFor (Asks (AskUpdate asked)) l answer = l
 
 -- the first line's bytes
 abbrev pub firstOf : List Line → List ℕ

@@ -9,11 +9,11 @@ use Rattle.plain.specs.Lists.{any}
 use Rattle.plain.specs.Search.{Edge}
 use Rattle.plain.specs.Table.{Table, withMark, acceptingCount}
 use Rattle.plain.specs.Refusals.{Trial, accepted, refused, flat, Load, loadTrial, full}
-use Rattle.plain.specs.Machine.{Change, add, cut, mark, unmark, numbered, tableOf, loadAnswer, answerTo, tableAfter, Line, gameLine, noLine, answerLine}
+use Rattle.plain.specs.Machine.{Change, add, cut, mark, unmark, BatchLine, makes, other, Update, single, batch, Call, numbered, tableOf, loadAnswer, answerTo, tableAfter, Line, gameLine, noLine, answerLine}
 use Rattle.line.specs.Fields.{newline, linesOf}
 use Rattle.line.specs.Words.{isWord}
 use Rattle.line.specs.Records.{recordOf}
-use Rattle.line.specs.declared.Word.the-variants.{Game, Pay, Move, Go, Add, Cut, Mark, Unmark}
+use Rattle.line.specs.declared.Word.the-variants.{Game, Pay, Move, Go, Add, Cut, Mark, Unmark, Begin, End}
 use Rattle.line.specs.declared.Record.{Record}
 use Rattle.answer.specs.Bytes.{overwritten}
 use Rattle.answer.specs.Rendering.{render}
@@ -37,6 +37,8 @@ pub data Held : Type 0 where
   gathering : Draft → Held
   -- a `go` was accepted
   playing : Play → Held
+  -- a `begin` was read, and these lines of its batch, oldest first
+  batching : Play → List BatchLine → Held
   -- a line was refused before or at `go`
   ended : Held
 
@@ -102,39 +104,57 @@ beforeGo d r =
     (cond (isWord (r .word) Go) (loadStep (loadTrial (loadOf d) room) d)
     (stop 1)))
 
--- ".. and one line for each change"
-abbrev pub changeStep : Change → Play → Step
-changeStep c p = record {
-  lines = answerLine (answerTo (record { change = c; room = room }) (p .table));
-  next = playing (playOf (tableAfter (record { change = c; room = room }) (p .table)));
-}
+-- ".. and one line for each change"; document 02, ticket 5: one for each batch
+abbrev pub callOn : Update → Call
+callOn u = record { update = u; room = room }
 
--- What a line after `go` requests: a change, or nothing that is known there. Tickets of document 02 add to it.
+abbrev pub updateStep : Update → Play → Step
+updateStep u p = record { lines = answerLine (answerTo (callOn u) (p .table)); next = playing (playOf (tableAfter (callOn u) (p .table))) }
+
+-- What a line after `go` requests: a change, the begin or the end of a batch, or nothing that is known there. Tickets of document 02 add to it.
 pub data Request : Type 0 where
   changing : Change → Request
+  beginning : Request
+  ending : Request
   unknown : Request
 
--- ".. then `add` and `cut`", "(from, to)"; document 02, ticket 2: "Lines `mark` and `unmark` name a state"
+-- ".. then `add` and `cut`", "(from, to)"; document 02, ticket 2: "Lines `mark` and `unmark` name a state"; ticket 5: `begin` and `end`
 unfoldable pub requestOf : Record → Request
 requestOf r =
     cond (isWord (r .word) Add) (changing (add (r .first, r .second)))
     (cond (isWord (r .word) Cut) (changing (cut (r .first, r .second)))
     (cond (isWord (r .word) Mark) (changing (mark (r .first)))
     (cond (isWord (r .word) Unmark) (changing (unmark (r .first)))
-    unknown)))
+    (cond (isWord (r .word) Begin) beginning
+    (cond (isWord (r .word) End) ending
+    unknown)))))
 
--- "after `go` the next line is read"
+-- "after `go` the next line is read": an `end` outside a batch is misplaced
 abbrev pub playStep : Request → Play → Step
-playStep (changing c) p = changeStep c p
+playStep (changing c) p = updateStep (single c) p
+playStep beginning p = quiet (batching p [])
+playStep ending p = noStep 1 (playing p)
 playStep unknown p = noStep 1 (playing p)
 
 unfoldable pub afterGo : Play → Record → Step
 afterGo p r = playStep (requestOf r) p
 
+-- Ticket 5: "Lines between `begin` and `end` form a batch", which is answered at `end`; "Any other line inside gets 1", at its position. "An input that ends inside a
+-- batch does none of it and prints nothing for it."
+abbrev pub batchStep : Request → Play → List BatchLine → Step
+batchStep (changing c) p xs = quiet (batching p (xs ++ (makes c ∷ [])))
+batchStep beginning p xs = quiet (batching p (xs ++ (other ∷ [])))
+batchStep ending p xs = updateStep (batch xs) p
+batchStep unknown p xs = quiet (batching p (xs ++ (other ∷ [])))
+
+unfoldable pub inBatch : Play → List BatchLine → Record → Step
+inBatch p xs r = batchStep (requestOf r) p xs
+
 unfoldable pub step : Held → Record → Step
 step waiting r = atFirst r
 step (gathering d) r = beforeGo d r
 step (playing p) r = afterGo p r
+step (batching p xs) r = inBatch p xs r
 step ended r = quiet ended
 
 -- the lines written for the records, one after the other

@@ -4,7 +4,7 @@ use mathlib.Core.List.{List, [], _∷_}
 use Rattle.plain.specs.Machine.{Line, gameLine, roundLine, noneLine, noLine}
 use Rattle.plain.specs.Claims.{LineTrue, NotNone, LoopTold}
 use Rattle.line.specs.declared.Record.{Record}
-use Rattle.watch.specs.Text.{Held, waiting, gathering, playing, ended, step}
+use Rattle.watch.specs.Text.{Held, waiting, gathering, playing, batching, ended, step}
 
 -- a line that tells no verdict; of a `no` line: "refusal 7 no longer occurs" (document 02, ticket 1)
 abbrev pub Verdictless : Line → Type 0
@@ -14,11 +14,12 @@ Verdictless (noneLine spent kept) = ⊥
 Verdictless (noLine r) = r .number ≢ 7
 
 -- A line written is true of what is held behind its record: ""None" exactly when no free round can be reached from the start state; otherwise a walk that
--- the present table really has", of the lengths printed. Where no table is held it tells no verdict.
+-- the present table really has", of the lengths printed. Where no table is held, or a batch is open, it tells no verdict.
 abbrev pub Says : Line → Held → Type 0
 Says l waiting = Verdictless l
 Says l (gathering d) = Verdictless l
 Says l (playing p) = LineTrue l (p .table)
+Says l (batching p xs) = Verdictless l
 Says l ended = Verdictless l
 
 -- Document 02, ticket 1: a line is not `none` where a paying state with a move to itself can be reached, nor where no table is held
@@ -26,6 +27,7 @@ abbrev pub SaysLoop : Line → Held → Type 0
 SaysLoop l waiting = NotNone l
 SaysLoop l (gathering d) = NotNone l
 SaysLoop l (playing p) = LoopTold l (p .table)
+SaysLoop l (batching p xs) = NotNone l
 SaysLoop l ended = NotNone l
 
 -- something of each line

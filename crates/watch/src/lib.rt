@@ -17,9 +17,10 @@ ghost use Prim.Native.Nat.{_≤_, min};
 ghost use lib.ListN.{length, take};
 ghost use Rattle.answer.specs.Bytes.{Put};
 ghost use Rattle.answer.specs.Rendering.{render};
-ghost use Rattle.session.specs.Promises.{shown};
+ghost use Rattle.plain.specs.Machine.{noLine};
+ghost use Rattle.session.specs.Promises.{shown, refusalOf};
 ghost use Rattle.session.specs.Model.{noGame};
-ghost use Rattle.watch.specs.Model.{Serves, isRefused, gameMost, linesMost, linesFor, linesOfLoad, leadLoaded, leadFor, Laid, Writes, fits};
+ghost use Rattle.watch.specs.Model.{Serves, gameMost, linesMost, linesFor, linesOfLoad, leadLoaded, leadFor, Laid, Writes, fits};
 ghost use Rattle.watch.specs.Text.{room, counted, outputOf, outputMost, Fitted, Watched};
 
 // "An input of more than 4,294,967,295 bytes counts as ending behind the last newline among these."
@@ -49,7 +50,7 @@ pub struct Written {
 
 // What stands in place of a session before the first load: a load of nothing, which is refused.
 pub fn no_session() -> Outcome
-    ensures { λ r. ⌜ (r .answer ≡ Answer.Refused (record { number = 2 })) × (r .session ≡ noGame) ⌝ }
+    ensures { λ r. ⌜ (r .answer ≡ Answer.Refused (record { number = 2; position = Position.Alone })) × (r .session ≡ noGame) ⌝ }
 {
     let numbers: [u16; 1] = [0; 1];
     let mut lent: [u16; 1] = [0; 1];
