@@ -122,20 +122,20 @@ named-begun ns states e = record { place = refl; few = omega arith; size = e; fi
 
 module _ (ns states : List ℕ) (at n : ℕ) (w : Named ns states at n) where
   -- one more
-  pub named-on : at < length ns → n < namedMost → (l : BatchLine) → l ≡ headLine (drop at ns) → Named ns (set states n (l .first)) (at + 3) (n + 1)
-  named-on h k l e =
+  pub named-on : at < length ns → n < namedMost → (l : BatchLine) → l ≡ headLine (drop at ns) → (s : ℕ) → s ≡ l .first → Named ns (set states n s) (at + 3) (n + 1)
+  named-on h k l e s f =
       let all = statesIn ns in
-      let next : drop n all ≡ l .first ∷ statesIn (drop (at + 3) ns) = w .rest-are ∙ states-next ns at h ∙ ap (λ (x : BatchLine). x .first ∷ statesIn (drop (at + 3) ns)) (sym e) in
+      let next : drop n all ≡ s ∷ statesIn (drop (at + 3) ns) = w .rest-are ∙ states-next ns at h ∙ ap (λ (x : ℕ). x ∷ statesIn (drop (at + 3) ns)) (sym (f ∙ ap (λ (x : BatchLine). x .first) e)) in
       let some : n < length all = omega (arith, ap length next, length-drop n all) in
-      let both : getD all n 0 ∷ drop (suc n) all ≡ l .first ∷ statesIn (drop (at + 3) ns) = sym (drop-cons all n 0 some) ∙ next in
-      let here : getD all n 0 ≡ l .first = cc in
+      let both : getD all n 0 ∷ drop (suc n) all ≡ s ∷ statesIn (drop (at + 3) ns) = sym (drop-cons all n 0 some) ∙ next in
+      let here : getD all n 0 ≡ s = cc in
       let rest : drop (suc n) all ≡ statesIn (drop (at + 3) ns) = cc in
       let up : n + 1 ≡ suc n = omega arith in
       record {
         place = omega (arith, w .place);
         few = omega arith;
-        size = length-set states n (l .first) ∙ w .size;
-        first-are = ap (λ (i : ℕ). take i (set states n (l .first))) up ∙ take-suc-set states n (l .first) (omega (arith, w .size))
+        size = length-set states n s ∙ w .size;
+        first-are = ap (λ (i : ℕ). take i (set states n s)) up ∙ take-suc-set states n s (omega (arith, w .size))
             ∙ (λ i. w .first-are i ++ (sym here i ∷ [])) ∙ sym (take-suc all n 0 some) ∙ ap (λ (i : ℕ). take i all) (sym up);
         rest-are = ap (λ (i : ℕ). drop i all) up ∙ rest;
       }

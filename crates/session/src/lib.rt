@@ -133,7 +133,7 @@ fn is_passed_over(
     if !table::is_change(line) {
         return true;
     }
-    if look::get(number, line.first) == look::NO_NUMBER {
+    if look::get(number, table::named_by(line)) == look::NO_NUMBER {
         return true;
     }
     let switch = table::switch_in(line);
@@ -185,7 +185,7 @@ fn name_states(alone: bool, only: BatchLine, lines: &[u16], states: &mut [u16; N
             return n;
         }
         let line = table::line_at(alone, only, lines, at);
-        states[n] = line.first;
+        states[n] = table::named_by(line);
         n += 1;
         at += table::LINE;
     }

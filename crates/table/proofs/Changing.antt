@@ -25,7 +25,7 @@ use Rattle.table.specs.declared.Op.{Op}
 use Rattle.table.specs.declared.Op.the-variants.{Add, Cut, Mark, Unmark}
 use Rattle.table.specs.declared.Subject.{Subject}
 use Rattle.table.specs.declared.Subject.the-variants as Subject
-use Rattle.table.specs.Trials.{Arrays, switching, stateOf, there, addConditions, cutConditions, markConditions, unmarkConditions, conditionsIn, trialIn}
+use Rattle.table.specs.Trials.{Arrays, there, addConditions, cutConditions, markConditions, unmarkConditions, conditionsIn, trialIn}
 use Rattle.table.specs.Filing.{changeOf, namedBy, filedIn, Filed, Stored}
 use Rattle.table.proofs.Places.{place-hit, place-miss}
 use Rattle.table.proofs.Filing.{there-present, filed-insert}
@@ -39,13 +39,6 @@ filed-tabled (Add from to) size a a′ e l = inserted-lengths size from to (a .r
 filed-tabled (Cut from to) size a a′ e l = removed-lengths size from _ (a .rows) (a′ .rows) (rows-of e) l
 filed-tabled (Mark state) size a a′ e l = subst⁻¹ (λ (r : Rows). Tabled (r .targets) (r .starts)) (rows-of e) l
 filed-tabled (Unmark state) size a a′ e l = subst⁻¹ (λ (r : Rows). Tabled (r .targets) (r .starts)) (rows-of e) l
-
--- the state that a change names is that of what it switches
-pub named-same : (on : Bool) (x : Subject) → stateOf x ≡ namedBy (switching on x)
-named-same true (Subject.Edge from to) = refl
-named-same false (Subject.Edge from to) = refl
-named-same true (Subject.Mark state) = refl
-named-same false (Subject.Mark state) = refl
 
 -- the state that an accepted change names
 pub named-below : (op : Op) (t : Table) (room : ℕ) → changeTrial (changeOf op) t room ≡ accepted → namedBy op < t .size

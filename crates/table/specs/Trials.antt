@@ -35,11 +35,6 @@ switching false (Subject.Mark state) = Unmark state
 abbrev pub opOf : Switch → Op
 opOf s = switching (s .on) (s .subject)
 
--- the state that it names, whichever way it is switched
-abbrev pub stateOf : Subject → ℕ
-stateOf (Subject.Edge from to) = from
-stateOf (Subject.Mark state) = state
-
 -- what a trial comes to, as the code's enum
 abbrev pub tried : PlainTrial → Trial
 tried accepted = Accepted

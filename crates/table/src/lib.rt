@@ -7,7 +7,7 @@ ghost use lib.ListN.{length, drop};
 ghost use Rattle.plain.specs.Lists.{any};
 ghost use Rattle.plain.specs.Refusals.{firstHeld, badMarks, outside, roomCondition, pairs};
 ghost use Rattle.rows.specs.Rows.{Tabled};
-ghost use Rattle.table.specs.Trials.{arraysOf, opOf, stateOf, tried, earlyTrial, there, addConditions, cutConditions, markConditions, unmarkConditions, conditionsIn, trialIn};
+ghost use Rattle.table.specs.Trials.{arraysOf, opOf, tried, earlyTrial, there, addConditions, cutConditions, markConditions, unmarkConditions, conditionsIn, trialIn};
 ghost use Rattle.table.specs.Batches.{lineFor, lineTo, isChange, subjectIn, switchIn, lineIn, numbersIn, endIn, headLine, linesIn, isRefused, positionAt, triedIn, aheadTrial, callTriedIn, AttemptedLine, AttemptedLines, AttemptedCall};
 ghost use Rattle.table.specs.Filing.{filedIn, Attempted, Empty, Limits, FiledAll, Tried};
 
@@ -424,15 +424,11 @@ fn attempt_change(
     Trial::Accepted
 }
 
-// The state that a change names: the one that its move leaves, or the one marked or unmarked.
-pub fn named_by(switch: Switch) -> u16
-    ensures { λ r. ⌜ r ≡ stateOf (switch .subject) ⌝ }
+// The state that a line's change names: the one that its move leaves, or the one marked or unmarked.
+pub fn named_by(line: BatchLine) -> u16
+    ensures { λ r. ⌜ r ≡ line .first ⌝ }
 {
-    let subject = switch.subject;
-    match subject {
-        Subject::Edge { from, to } => from,
-        Subject::Mark { state } => state,
-    }
+    line.first
 }
 
 // The line at a place in the list of a call: a change alone is the only one.

@@ -3,6 +3,7 @@ use mathlib.Core.Path.{_≡_, sym, ap, _∙_}
 use mathlib.Core.Bool.{true}
 use Prim.Native.Nat.{ℕ}
 use denote.Ref.{now}
+use lib.ListN.{getD}
 use borrow.Author.Needs.{needs}
 use borrow.Author.Tests.{not-true, not-false}
 use Rattle.rows.specs.Change.{rowsOf}
@@ -20,6 +21,9 @@ returns c =
     let k = c .before in
     sym (passed-other (k .before .args .line) _ _ _ _ _ (sym (k .is-change .ensures) ∙ not-true _ (c .if1 .taken)))
 
+named-by-requires : tie.Need-named-by-requires
+named-by-requires c κs = search needs
+
 get-requires : tie.Need-get-requires
 get-requires c κs = search needs
 
@@ -27,10 +31,14 @@ get-requires c κs = search needs
 changes : (c : tie.Else1) → isChange (c .before .before .args .line) ≡ true
 changes c = sym (c .before .is-change .ensures) ∙ not-false _ (c .if1 .left)
 
+-- the number of the state that it names
+numbered : (c : tie.After-get) → c .get .result ≡ getD (now (c .before .before .before .before .args .number)) (c .before .before .before .before .args .line .first) 0
+numbered c = c .get .ensures ∙ ap (λ (s : ℕ). getD (now (c .before .before .before .before .args .number)) s 0) (c .before .named-by .ensures)
+
 returns-2 : tie.Need-returns-2
 returns-2 c =
     let g = c .before in
-    sym (passed-unmet (g .before .before .before .args .line) _ _ _ _ _ (changes (g .before)) (sym (g .get .ensures) ∙ c .if2 .taken))
+    sym (passed-unmet (g .before .before .before .before .args .line) _ _ _ _ _ (changes (g .before .before)) (sym (numbered g) ∙ c .if2 .taken))
 
 switch-in-requires : tie.Need-switch-in-requires
 switch-in-requires c κs = search needs
@@ -51,10 +59,10 @@ returns-3 c =
     let s = k .before .before in
     let e = s .before in
     let g = e .before in
-    let a = g .before .before .before .args in
+    let a = g .before .before .before .before .args in
     c .is-unexplored .ensures
     ∙ ap (λ (n : ℕ). unexploredEdge (s .switch-in .result .on) (k .subject .given .0 .0) (k .subject .given .0 .1 .0) (rowsOf (now (a .targets)) (now (a .starts))) (now (a .index)) (now (a .walk)) n) (d .down .ensures)
-    ∙ sym (passed-edge (a .line) _ _ _ _ _ (changes (g .before)) (λ z. e .if2 .left (g .get .ensures ∙ z)) (s .switch-in .result) (s .switch-in .ensures) (k .subject .given .0 .0) (k .subject .given .0 .1 .0) (k .subject .given .1))
+    ∙ sym (passed-edge (a .line) _ _ _ _ _ (changes (g .before .before)) (λ z. e .if2 .left (numbered g ∙ z)) (s .switch-in .result) (s .switch-in .ensures) (k .subject .given .0 .0) (k .subject .given .0 .1 .0) (k .subject .given .1))
 
 enum-told : tie.Need-enum-told
 enum-told c = search needs
@@ -64,8 +72,8 @@ returns-4 c =
     let s = c .before .before in
     let e = s .before in
     let g = e .before in
-    let a = g .before .before .before .args in
-    sym (passed-mark (a .line) _ _ _ _ _ (changes (g .before)) (λ z. e .if2 .left (g .get .ensures ∙ z)) (s .switch-in .result) (s .switch-in .ensures) (c .enum-told .given .0 .0) (c .enum-told .given .1))
+    let a = g .before .before .before .before .args in
+    sym (passed-mark (a .line) _ _ _ _ _ (changes (g .before .before)) (λ z. e .if2 .left (numbered g ∙ z)) (s .switch-in .result) (s .switch-in .ensures) (c .enum-told .given .0 .0) (c .enum-told .given .1))
 
 pub is-passed-over-spec : {M : Type 1} → statement M
 is-passed-over-spec =
@@ -73,6 +81,7 @@ is-passed-over-spec =
     (tie.spec
     is-change-requires
     returns
+    named-by-requires
     get-requires
     returns-2
     switch-in-requires

@@ -45,25 +45,29 @@ line-at-requires c κs =
     let a = e .before .before .args in
     (within t, λ z. omega (arith, t .loop-test .taken, t .before .loop .inv .place, e .lines-end .ensures, ap (λ (b : Bool). endIn b (now (a .lines))) z))
 
+named-by-requires : tie.Need-named-by-requires Inv-loop μ-loop
+named-by-requires c κs = search needs
+
 mul-states : tie.Need-mul-states Inv-loop μ-loop
-mul-states c = omega (arith, room (c .before))
+mul-states c = omega (arith, room (c .before .before))
 
 element-write-states : tie.Need-element-write-states Inv-loop μ-loop
-element-write-states c = room (c .before)
+element-write-states c = room (c .before .before)
 
 add-n : tie.Need-add-n Inv-loop μ-loop
-add-n c = omega (arith, room (c .before))
+add-n c = omega (arith, room (c .before .before))
 
 add-at : tie.Need-add-at Inv-loop μ-loop
-add-at c = omega (arith, c .before .before .before .loop .inv .place, room (c .before))
+add-at c = omega (arith, c .before .before .before .before .loop .inv .place, room (c .before .before))
 
 loop-less : tie.Need-loop-less Inv-loop μ-loop
-loop-less c = omega (arith, c .before .before .loop-test .taken)
+loop-less c = omega (arith, c .before .before .before .loop-test .taken)
 
 loop-again : tie.Need-loop-again Inv-loop μ-loop
 loop-again c =
-    let t = c .before .before in
-    named-on _ _ _ _ (t .before .loop .inv) (within t) (room (c .before)) (c .line-at .result) (c .line-at .ensures)
+    let l = c .before in
+    let t = l .before .before in
+    named-on _ _ _ _ (t .before .loop .inv) (within t) (room (l .before)) (l .line-at .result) (l .line-at .ensures) (c .named-by .result) (c .named-by .ensures)
 
 returns-2 : tie.Need-returns-2 Inv-loop μ-loop
 returns-2 c =
@@ -82,6 +86,7 @@ name-states-spec =
     loop-holds
     returns
     line-at-requires
+    named-by-requires
     mul-states
     element-write-states
     add-n
