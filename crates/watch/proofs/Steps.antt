@@ -1,31 +1,39 @@
 -- One line: what the functions of a line do, taken together, is the plain definition's step. Assumes nothing.
-use Prim.Native.Nat.{ℕ, _+_, _*_, _/_, _<_}
+use Prim.Native.Nat.{ℕ, zero, suc, _+_, _*_, _/_, _≤_, _<_}
 use mathlib.Core.Path.{_≡_, refl, sym, ap, subst, subst⁻¹, _∙_}
-use mathlib.Core.Bool.{Bool, true, false, _&&_, cond}
+use mathlib.Core.Logic.{⊎-elim}
+use mathlib.Core.Bool.{Bool, true, false, _&&_, not, cond}
 use mathlib.Core.List.{List, [], _∷_, _++_}
 use native.Mathlib.Omega.{arith}
 use native.Mathlib.Decide.{decLe}
-use borrow.Author.Tests.{eq-eqb, ne-eqb, le-leb, lt-leb, leb-false}
-use lib.Dec.{eqb}
-use lib.ListN.{length, take, length-append}
+use borrow.Author.Tests.{eq-eqb, ne-eqb, lt-ltb, le-leb, lt-leb, leb-false}
+use lib.Dec.{eqb, ltb}
+use lib.ListN.{length, take, length-append, length-take}
+use lib.Seq.{take-all, take-append-le, length-take-le}
 use Rattle.plain.specs.Search.{Edge, Verdict, none, lasso, unfinished, verdict, count}
 use Rattle.plain.specs.Table.{final, withMark, acceptingCount}
 use Rattle.plain.specs.Refusals.{Trial, accepted, refused, flat, loadTrial, full}
-use Rattle.plain.specs.Machine.{Answer as PlainAnswer, answer, loadAnswer, tableOf, answerTo, Line, gameLine, roundLine, noneLine, noLine, answerLine}
-use Rattle.plain.proofs.Tests.{and-true}
+use Rattle.plain.specs.Machine.{BatchLine, makes, other, single, batch, Answer as PlainAnswer, answer, loadAnswer, tableOf, answerTo, tableAfter, Line, gameLine, roundLine, noneLine, noLine, answerLine}
+use Rattle.plain.proofs.Tests.{either, and-true}
+use Rattle.plain.proofs.OneByOne.{held-call}
 use Rattle.line.specs.Words.{isWord}
 use Rattle.line.specs.declared.Word.the-variants.{Game, Pay, Move, Go}
-use Rattle.line.specs.declared.Word.the-variants as Word
+use Rattle.line.specs.declared.Word.{Word}
+use Rattle.line.specs.declared.Word.the-variants as W
 use Rattle.line.specs.declared.Record.{Record}
 use Rattle.table.specs.declared.Op.{Op}
 use Rattle.session.specs.declared.Answer.{Answer}
 use Rattle.session.specs.declared.Answer.the-variants.{Refused, Clear, Round}
 use Rattle.session.specs.declared.Session.{Session}
 use Rattle.session.specs.declared.Outcome.{Outcome}
+use Rattle.table.specs.declared.BatchLine.{BatchLine as CodedLine}
 use Rattle.table.specs.Filing.{changeOf}
-use Rattle.session.specs.Promises.{shown, Holds, Loads}
+use Rattle.table.specs.Batches.{lineIn, linesIn}
+use Rattle.table.proofs.Batches.{line-makes}
+use Rattle.session.specs.Model.{isRefused}
+use Rattle.session.specs.Promises.{shown, callOf, Holds, Loads, Updates}
 use Rattle.lead.specs.declared.Stage.{Stage}
-use Rattle.lead.specs.declared.Stage.the-variants.{Waiting, Gathering, Playing, Over}
+use Rattle.lead.specs.declared.Stage.the-variants.{Waiting, Gathering, Playing, Batching, Over}
 use Rattle.lead.specs.declared.Lead.{Lead}
 use Rattle.lead.specs.declared.Ask.the-variants.{Load as AskLoad}
 use Rattle.lead.specs.declared.Task.{Task}
@@ -33,11 +41,11 @@ use Rattle.lead.specs.declared.Task.the-variants.{Nothing, Refuse, Ask as Asks}
 use Rattle.lead.specs.declared.Plan.{Plan}
 use Rattle.lead.specs.declared.Request.{Request as LeadRequest}
 use Rattle.lead.specs.declared.Request.the-variants as R
-use Rattle.lead.specs.Asked.{numbersMost, staged, noTask, refusing, loading, changing, isFull, askedFirst, askedMove, askedBefore, requestOf as leadRequest, planFor, askedAfter, askedAt, asked, takesMove, filedMove}
-use Rattle.lead.proofs.Asking.{taken-at}
-use Rattle.lead.proofs.Filing.{moves-kept, move-put}
-use Rattle.watch.specs.Text.{Draft, Play, Held, waiting, gathering, playing, ended, Step, quiet, noStep, empty, room, loadStep, loadOf, draftOf, withPay, withMove, changeStep, Request, changing as changes, unknown, requestOf, playStep, atFirst, beforeGo, afterGo, step}
-use Rattle.watch.specs.Model.{gathered, Serves, isRefused, linesFor, leadFor}
+use Rattle.lead.specs.Asked.{numbersMost, staged, noTask, refusing, loading, changing, ending as endingPlan, batching as leadBatching, isFull, askedFirst, askedMove, askedBefore, requestOf as leadRequest, planFor, askedAfter, heldMost, holding, askedInside, askedAt, asked, gathersMove, takesMove, insideLine, takesLine, lineFrom, lineRead, numbersOf, filed}
+use Rattle.lead.proofs.Asking.{taken-at, held, not-held}
+use Rattle.lead.proofs.Filing.{numbers-kept, move-put, line-put}
+use Rattle.watch.specs.Text.{Draft, Play, Held, waiting, gathering, playing, batching, ended, Step, quiet, noStep, empty, room, loadStep, loadOf, draftOf, withPay, withMove, callOn, updateStep, Request, changing as changes, beginning, ending, unknown, requestOf, playStep, batchStep, inBatch, atFirst, beforeGo, afterGo, step}
+use Rattle.watch.specs.Model.{numbersHeld, gathered, Serves, linesFor, leadFor}
 
 -- the lead and the list of numbers stand for what is gathered
 pub record Gathers (l : Lead) (ns : List ℕ) (d : Draft) : Type 0 where
@@ -48,11 +56,22 @@ pub record Gathers (l : Lead) (ns : List ℕ) (d : Draft) : Type 0 where
   pub count : l .count ≡ 2 * length (d .moves)
   pub moves : take (l .count) ns ≡ flat (d .moves)
 
+-- so many lines of a batch are held: the others are not looked at
+abbrev linesHeld : ℕ
+linesHeld = 65
+
+-- the lead and the list of numbers stand for the lines of an open batch, as far as they are held
+pub record Collects (l : Lead) (ns : List ℕ) (xs : List BatchLine) : Type 0 where
+  pub stage : l .stage ≡ Batching
+  pub count : l .count ≡ 3 * length (take linesHeld xs)
+  pub lines : linesIn (take (l .count) ns) ≡ take linesHeld xs
+
 -- the lead, the list of numbers and the session stand for what the plain definition holds
 abbrev pub Tracks : Lead → List ℕ → Session → Held → Type 0
 Tracks l ns s waiting = l .stage ≡ Waiting
 Tracks l ns s (gathering d) = Gathers l ns d
 Tracks l ns s (playing p) = (l .stage ≡ Playing) × Holds s (p .table)
+Tracks l ns s (batching p xs) = Collects l ns xs × Holds s (p .table)
 Tracks l ns s ended = l .stage ≡ Over
 
 -- what is asked of the session is served; where nothing is, the session stays
@@ -115,19 +134,71 @@ flat-append (m ∷ ms) e = ap (λ (ns : List ℕ). m .0 ∷ m .1 ∷ ns) (flat-a
 -- in the plain table's terms
 abbrev requested : LeadRequest → Request
 requested (R.Change op) = changes (changeOf op)
+requested R.Begin = beginning
+requested R.End = ending
 requested R.Unknown = unknown
 
 requested-cond : (b : Bool) (x y : LeadRequest) (z : Request) → requested y ≡ z → requested (cond b x y) ≡ cond b (requested x) z
 requested-cond true x y z h = refl
 requested-cond false x y z h = h
 
+no-word : {A : Type 0} → false ≡ true → A
+no-word e = let z : _≡_ {A = ℕ} 0 1 = cc in absurd (omega arith)
+
+-- the line of a batch that a request makes; `end` is none
+abbrev batchLine : Request → BatchLine
+batchLine (changes c) = makes c
+batchLine beginning = other
+batchLine ending = other
+batchLine unknown = other
+
 same-request : (r : Record) → requested (leadRequest r) ≡ requestOf r
 unfolding leadRequest requestOf
 same-request r =
-    requested-cond (isWord (r .word) Word.Add) _ _ _
-    (requested-cond (isWord (r .word) Word.Cut) _ _ _
-    (requested-cond (isWord (r .word) Word.Mark) _ _ _
-    (requested-cond (isWord (r .word) Word.Unmark) _ _ _ refl)))
+    requested-cond (isWord (r .word) W.Add) _ _ _
+    (requested-cond (isWord (r .word) W.Cut) _ _ _
+    (requested-cond (isWord (r .word) W.Mark) _ _ _
+    (requested-cond (isWord (r .word) W.Unmark) _ _ _
+    (requested-cond (isWord (r .word) W.Begin) _ _ _
+    (requested-cond (isWord (r .word) W.End) _ _ _ refl)))))
+
+-- ---- a line inside a batch
+
+-- the line as it is held, of what it requests
+held-line : (q : LeadRequest) → lineIn (lineFrom q) ≡ batchLine (requested q)
+unfolding lineIn
+held-line (R.Change op) = line-makes op
+held-line R.Begin = refl
+held-line R.End = refl
+held-line R.Unknown = refl
+
+-- it is `end`, or it is held
+record Inside (r : Record) : Type 0 where
+  ends : isWord (r .word) W.End ≡ true → requestOf r ≡ ending
+  stays : isWord (r .word) W.End ≡ false → (p : Play) (xs : List BatchLine) → batchStep (requestOf r) p xs ≡ quiet (batching p (xs ++ (batchLine (requestOf r) ∷ [])))
+
+inside : (w : Word) (a b : ℕ) → Inside (record { word = w; first = a; second = b })
+unfolding isWord requestOf
+inside W.Game a b = record { ends = λ e. no-word e; stays = λ e p xs. refl }
+inside W.Pay a b = record { ends = λ e. no-word e; stays = λ e p xs. refl }
+inside W.Move a b = record { ends = λ e. no-word e; stays = λ e p xs. refl }
+inside W.Go a b = record { ends = λ e. no-word e; stays = λ e p xs. refl }
+inside W.Add a b = record { ends = λ e. no-word e; stays = λ e p xs. refl }
+inside W.Cut a b = record { ends = λ e. no-word e; stays = λ e p xs. refl }
+inside W.Mark a b = record { ends = λ e. no-word e; stays = λ e p xs. refl }
+inside W.Unmark a b = record { ends = λ e. no-word e; stays = λ e p xs. refl }
+inside W.Begin a b = record { ends = λ e. no-word e; stays = λ e p xs. refl }
+inside W.End a b = record { ends = λ e. refl; stays = λ e. no-word (sym e) }
+inside W.Unreadable a b = record { ends = λ e. no-word e; stays = λ e p xs. refl }
+
+-- three numbers more are a line more
+lines-append : (n : ℕ) (ns : List ℕ) (l : CodedLine) → length ns ≡ 3 * n → linesIn (ns ++ numbersOf l) ≡ linesIn ns ++ (lineIn l ∷ [])
+unfolding linesIn
+lines-append n [] l e = refl
+lines-append n (a ∷ []) l e = absurd (omega arith)
+lines-append n (a ∷ b ∷ []) l e = absurd (omega arith)
+lines-append zero (a ∷ b ∷ c ∷ ns) l e = absurd (omega arith)
+lines-append (suc n) (a ∷ b ∷ c ∷ ns) l e = ap (λ (xs : List BatchLine). lineIn (record { what = a; first = b; second = c }) ∷ xs) (lines-append n ns l (omega (arith, e)))
 
 -- ---- one line
 
@@ -148,11 +219,21 @@ module _ (ns walk : List ℕ) (s : Session) (c : Outcome) (walk′ : List ℕ) w
   unfolding shown
   comes-refusing l₀ stage l n q h w = (rw w h, refl)
 
-  comes-change : (op : Op) (l : Lead) (p : Play) → l .stage ≡ Playing → Holds s (p .table) → length walk ≡ room → Comes l (changing op l) (changeStep (changeOf op) p)
+  comes-change : (op : Op) (l : Lead) (p : Play) → l .stage ≡ Playing → Holds s (p .table) → length walk ≡ room → Comes l (changing op l) (updateStep (single (changeOf op)) p)
   comes-change op l p h k e w = (
     (h, rw e at (w .holds (p .table) k)),
-    sym (w .answers (p .table) k) ∙ ap (λ (n : ℕ). answerLine (answerTo (record { change = changeOf op; room = n }) (p .table))) e,
+    sym (w .answers (p .table) k) ∙ ap (λ (n : ℕ). answerLine (answerTo (record { update = single (changeOf op); room = n }) (p .table))) e,
   )
+
+  -- the batch that is held is answered as the whole one
+  comes-batch : (l : Lead) (xs : List BatchLine) (p : Play) → Collects l ns xs → Holds s (p .table) → length walk ≡ room → Comes l (endingPlan l) (updateStep (batch xs) p)
+  comes-batch l xs p g k e w =
+      let first = take linesHeld xs in
+      let v : Updates (batch first) s walk c walk′ = subst (λ (ys : List BatchLine). Updates (batch ys) s walk c walk′) (g .lines) w in
+      let whole = held-call xs (p .table) room in (
+        (refl, rw (whole .1) at (rw e at (v .holds (p .table) k))),
+        sym (v .answers (p .table) k) ∙ ap (λ (n : ℕ). answerLine (answerTo (record { update = batch first; room = n }) (p .table))) e ∙ ap answerLine (whole .0),
+      )
 
   -- a load, by what trying it gives
   load-by : (x : Trial) (l : Lead) (d : Draft) → loadTrial (loadOf d) (length walk) ≡ x → Gathers l ns d → Loads (loadOf d) walk c walk′
@@ -189,7 +270,10 @@ module _ (ns walk : List ℕ) (s : Session) (c : Outcome) (walk′ : List ℕ) w
       (λ b. comes-refusing l Over l 1 ended refl)
 
   comes-requested : (q : LeadRequest) (l : Lead) (p : Play) → Tracks l ns s (playing p) → length walk ≡ room → Comes l (planFor q l) (playStep (requested q) p)
+  unfolding linesIn
   comes-requested (R.Change op) l p h e = comes-change op l p (h .0) (h .1) e
+  comes-requested R.Begin l p h e = comes-quiet l _ (batching p []) (record { stage = refl; count = refl; lines = refl }, h .1)
+  comes-requested R.End l p h e = comes-refusing l Playing l 1 (playing p) (refl, h .1)
   comes-requested R.Unknown l p h e = comes-refusing l Playing l 1 (playing p) (refl, h .1)
 
   line-after-go : (l : Lead) (r : Record) (p : Play) → Tracks l ns s (playing p) → length walk ≡ room → Comes l (askedAfter l r) (afterGo p r)
@@ -197,16 +281,16 @@ module _ (ns walk : List ℕ) (s : Session) (c : Outcome) (walk′ : List ℕ) w
   line-after-go l r p h e = subst (λ (q : Request). Comes l (planFor (leadRequest r) l) (playStep q p)) (same-request r) (comes-requested (leadRequest r) l p h e)
 
   -- before `go`: ns₀ is the list as the line finds it
-  module _ (ns₀ : List ℕ) (l : Lead) (r : Record) (d : Draft) (g : Gathers l ns₀ d) (f : ns ≡ filedMove l r ns₀) (n : length ns₀ ≡ numbersMost) where
+  module _ (ns₀ : List ℕ) (l : Lead) (r : Record) (d : Draft) (g : Gathers l ns₀ d) (f : ns ≡ filed l r ns₀) (n : length ns₀ ≡ numbersMost) where
     moved : Gathers l ns d
-    moved = record { stage = g .stage; size = g .size; start = g .start; words = g .words; count = g .count; moves = ap (take (l .count)) f ∙ moves-kept l r ns₀ ∙ g .moves }
+    moved = record { stage = g .stage; size = g .size; start = g .start; words = g .words; count = g .count; moves = ap (take (l .count)) f ∙ numbers-kept l r ns₀ ∙ g .moves }
 
     one-more : isFull l ≡ false → isWord (r .word) Move ≡ true
         → Gathers (record { stage = Gathering; size = l .size; start = l .start; words = l .words; count = l .count + 2 }) ns (withMove r d)
-    unfolding isFull
+    unfolding isFull takesMove
     one-more b m =
         let k : l .count < 4096 = leb-false 4096 (l .count) b in
-        let taken : takesMove l r ≡ true = sym (taken-at l r Gathering b (g .stage)) ∙ m in
+        let taken : takesMove l r ≡ true = sym (taken-at gathersMove r (not (isFull l)) (l .stage) Gathering (ap not b) (g .stage)) ∙ m in
         record {
           stage = refl;
           size = g .size;
@@ -227,6 +311,66 @@ module _ (ns walk : List ℕ) (s : Session) (c : Outcome) (walk′ : List ℕ) w
         (λ m. rw (← count-full l (d .moves) (g .count)) (comes-cond l (isFull l) _ _ _ _ (λ x. comes-refusing l Over l 5 ended refl) (λ x. comes-quiet l _ (gathering (withMove r d)) (one-more x m))))
         (λ m. comes-cond l (isWord (r .word) Go) _ _ _ _ (λ x. comes-load l d moved e) (λ x. comes-refusing l Over l 1 ended refl))))
 
+  -- inside a batch: ns₀ is the list as the line finds it
+  module _ (ns₀ : List ℕ) (l : Lead) (r : Record) (p : Play) (xs : List BatchLine) (g : Collects l ns₀ xs) (f : ns ≡ filed l r ns₀) (n : length ns₀ ≡ numbersMost) where
+    abbrev held-ones : List BatchLine
+    held-ones = take linesHeld xs
+
+    abbrev new : BatchLine
+    new = lineIn (lineRead r)
+
+    same-numbers : take (l .count) ns ≡ take (l .count) ns₀
+    same-numbers = ap (take (l .count)) f ∙ numbers-kept l r ns₀
+
+    collected : Collects l ns xs
+    collected = record { stage = g .stage; count = g .count; lines = ap linesIn same-numbers ∙ g .lines }
+
+    -- there is a place for it
+    room-left : l .count < heldMost → isWord (r .word) W.End ≡ false → Collects (leadBatching l (l .count + 3)) ns (xs ++ (new ∷ []))
+    unfolding takesLine
+    room-left k b =
+        let taken : takesLine l r ≡ true = sym (taken-at insideLine r (ltb (l .count) heldMost) (l .stage) Batching (lt-ltb (l .count) heldMost k) (g .stage)) ∙ ap not b in
+        let few : length xs < linesHeld = omega (arith, g .count, length-take linesHeld xs) in
+        let all : held-ones ≡ xs = take-all linesHeld xs (omega arith) in
+        let more : take linesHeld (xs ++ (new ∷ [])) ≡ xs ++ (new ∷ []) = take-all linesHeld (xs ++ (new ∷ [])) (omega (arith, length-append xs (new ∷ []))) in
+        let size : length (take (l .count) ns₀) ≡ 3 * length held-ones = length-take-le (l .count) ns₀ (omega arith) ∙ g .count in
+        record {
+          stage = refl;
+          count = omega (arith, g .count, ap (length {A = BatchLine}) all, ap (length {A = BatchLine}) more, length-append xs (new ∷ []));
+          lines = ap (λ (l : List ℕ). linesIn l) (ap (take (l .count + 3)) f ∙ line-put l r ns₀ taken (omega (arith, g .count, ap (length {A = BatchLine}) all)))
+              ∙ lines-append (length held-ones) (take (l .count) ns₀) (lineRead r) size ∙ ap (λ (ys : List BatchLine). ys ++ (new ∷ [])) (g .lines ∙ all) ∙ sym more;
+        }
+
+    -- there is none
+    no-room : heldMost ≤ l .count → Collects l ns (xs ++ (new ∷ []))
+    no-room k =
+        let many : linesHeld ≤ length xs = omega (arith, g .count, length-take linesHeld xs) in
+        let same : take linesHeld (xs ++ (new ∷ [])) ≡ held-ones = take-append-le linesHeld xs (new ∷ []) many in
+        record { stage = g .stage; count = g .count ∙ ap (λ (ys : List BatchLine). 3 * length ys) (sym same); lines = ap linesIn same-numbers ∙ g .lines ∙ sym same }
+
+    comes-held : Holds s (p .table) → isWord (r .word) W.End ≡ false → Comes l (holding l) (quiet (batching p (xs ++ (new ∷ []))))
+    comes-held k b = elim (decLe heldMost (l .count)) [
+      | yes h ↦ subst (λ (q : Plan). Comes l q (quiet (batching p (xs ++ (new ∷ []))))) (not-held l h) (comes-quiet l l (batching p (xs ++ (new ∷ []))) (no-room h, k))
+      | no h ↦ subst (λ (q : Plan). Comes l q (quiet (batching p (xs ++ (new ∷ []))))) (held l (omega arith))
+          (comes-quiet l (leadBatching l (l .count + 3)) (batching p (xs ++ (new ∷ []))) (room-left (omega arith) b, k))
+    ]
+
+    line-inside : Holds s (p .table) → length walk ≡ room → Comes l (askedInside l r) (inBatch p xs r)
+    unfolding askedInside inBatch lineRead
+    line-inside k e = ⊎-elim ends stays (either (isWord (r .word) W.End))
+      where
+        i : Inside r
+        i = inside (r .word) (r .first) (r .second)
+
+        ends : isWord (r .word) W.End ≡ true → Comes l (cond (isWord (r .word) W.End) (endingPlan l) (holding l)) (batchStep (requestOf r) p xs)
+        ends b = subst⁻¹ (λ (x : Bool × Request). Comes l (cond (x .0) (endingPlan l) (holding l)) (batchStep (x .1) p xs)) (λ j. (b j, i .ends b j)) (comes-batch l xs p collected k e)
+
+        stays : isWord (r .word) W.End ≡ false → Comes l (cond (isWord (r .word) W.End) (endingPlan l) (holding l)) (batchStep (requestOf r) p xs)
+        stays b =
+            let line : new ≡ batchLine (requestOf r) = held-line (leadRequest r) ∙ ap batchLine (same-request r) in
+            let goal : batchStep (requestOf r) p xs ≡ quiet (batching p (xs ++ (new ∷ []))) = i .stays b p xs ∙ ap (λ (x : BatchLine). quiet (batching p (xs ++ (x ∷ [])))) (sym line) in
+            subst⁻¹ (λ (x : Bool × Step). Comes l (cond (x .0) (endingPlan l) (holding l)) (x .1)) (λ j. (b j, goal j)) (comes-held k b)
+
 by-stage : (l : Lead) (r : Record) (ns : List ℕ) (s : Session) (walk : List ℕ) (c : Outcome) (walk′ : List ℕ) (g : Stage) (u : Step) → l .stage ≡ g
     → Comes ns walk s c walk′ l (askedAt g l r) u → Comes ns walk s c walk′ l (asked l r) u
 unfolding asked
@@ -234,7 +378,7 @@ by-stage l r ns s walk c walk′ g u h k = subst⁻¹ (λ (x : Stage). Comes ns 
 
 -- One line: where the lead, the list and the session stand for what is held, they do so behind the line, and the lines told are the step's.
 pub stepped : (l : Lead) (ns : List ℕ) (s : Session) (p : Held) (walk : List ℕ) (r : Record) (ns′ : List ℕ) (c : Outcome) (walk′ : List ℕ)
-    → length ns ≡ numbersMost → length walk ≡ room → Tracks l ns s p → ns′ ≡ filedMove l r ns → Follows (asked l r .task) l ns′ s walk c walk′
+    → length ns ≡ numbersMost → length walk ≡ room → Tracks l ns s p → ns′ ≡ filed l r ns → Follows (asked l r .task) l ns′ s walk c walk′
     → Tracks (leadFor (asked l r .task) (asked l r .lead) (c .answer)) ns′ (c .session) (step p r .next)
     × (linesFor (asked l r .task) (asked l r .lead) (c .answer) walk′ ≡ step p r .lines)
 unfolding asked step
@@ -242,4 +386,6 @@ stepped l ns s waiting walk r ns′ c walk′ n e h f w = by-stage l r ns′ s w
 stepped l ns s (gathering d) walk r ns′ c walk′ n e h f w =
     by-stage l r ns′ s walk c walk′ Gathering (step (gathering d) r) (h .stage) (line-before-go ns′ walk s c walk′ ns l r d h f n e) w
 stepped l ns s (playing p) walk r ns′ c walk′ n e h f w = by-stage l r ns′ s walk c walk′ Playing (step (playing p) r) (h .0) (line-after-go ns′ walk s c walk′ l r p h e) w
+stepped l ns s (batching p xs) walk r ns′ c walk′ n e h f w =
+    by-stage l r ns′ s walk c walk′ Batching (step (batching p xs) r) (h .0 .stage) (line-inside ns′ walk s c walk′ ns l r p xs (h .0) f n (h .1) e) w
 stepped l ns s ended walk r ns′ c walk′ n e h f w = by-stage l r ns′ s walk c walk′ Over (step ended r) h (comes-quiet ns′ walk s c walk′ l l ended h) w

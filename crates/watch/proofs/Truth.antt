@@ -8,9 +8,10 @@ use native.Mathlib.Omega.{arith}
 use Rattle.plain.specs.Search.{none, lasso, unfinished}
 use Rattle.plain.specs.Table.{Table}
 use Rattle.plain.specs.Refusals.{Trial, accepted, refused, loadTrial, full}
-use Rattle.plain.specs.Machine.{Change, Answer, refusal, answer, answerLine, loadAnswer, tableOf, Call, trialOf, answerTo, tableAfter, after, apply, Line, gameLine, roundLine, noneLine, noLine}
-use Rattle.plain.specs.Claims.{Arises, loaded, changed, LineTrue, NotNone}
+use Rattle.plain.specs.Machine.{BatchLine, Update, single, batch, applied, Answer, refusal, answer, answerLine, loadAnswer, tableOf, Call, trialOf, answerTo, tableAfter, after, Line, gameLine, roundLine, noneLine, noLine}
+use Rattle.plain.specs.Claims.{Arises, loaded, LineTrue, NotNone}
 use Rattle.plain.proofs.Trials.{load-never-7}
+use Rattle.plain.proofs.Batches.{update-arises}
 use Rattle.plain.proofs.Answers.{load-told, call-told}
 use Rattle.plain.proofs.Loops.{loop-told}
 use Rattle.line.specs.Fields.{linesOf}
@@ -18,7 +19,7 @@ use Rattle.line.specs.Records.{recordOf}
 use Rattle.line.specs.Words.{isWord}
 use Rattle.line.specs.declared.Word.the-variants.{Game, Pay, Move, Go}
 use Rattle.line.specs.declared.Record.{Record}
-use Rattle.watch.specs.Text.{Draft, Play, playOf, Held, waiting, gathering, playing, ended, Step, stop, empty, room, loadStep, loadOf, changeStep, Request, changing, unknown, requestOf, playStep, atFirst, beforeGo, afterGo, step, counted}
+use Rattle.watch.specs.Text.{Draft, Play, playOf, Held, waiting, gathering, playing, batching, ended, Step, stop, empty, room, loadStep, loadOf, callOn, updateStep, Request, changing, beginning, ending, unknown, requestOf, playStep, batchStep, atFirst, beforeGo, afterGo, inBatch, step, counted}
 use Rattle.watch.specs.Truth.{Verdictless, Says, SaysLoop, All, EachLine, True}
 
 -- the table that is held is one that a session can hold
@@ -26,6 +27,7 @@ abbrev Sound : Held → Type 0
 Sound waiting = Unit {0}
 Sound (gathering d) = Unit {0}
 Sound (playing p) = Arises (p .table)
+Sound (batching p xs) = Arises (p .table)
 Sound ended = Unit {0}
 
 -- a step that says what is true, and holds such a table
@@ -58,30 +60,39 @@ load-right : (x : Trial) (d : Draft) → loadTrial (loadOf d) room ≡ x → Rig
 load-right accepted d e = ((tt, lines-true (tableOf (loadOf d)) (loadAnswer accepted (tableOf (loadOf d))) (λ l f. load-told (loadOf d) room l e f)), loaded (loadOf d) room e)
 load-right (refused n) d e = stop-right n (λ z. load-never-7 (loadOf d) room (e ∙ ap refused z))
 
-arises-after : (c : Call) (t : Table) (x : Trial) → trialOf c t ≡ x → Arises t → Arises (after x (apply (c .change) t) t)
-arises-after c t accepted e a = changed t c a e
+arises-after : (c : Call) (t : Table) (x : Trial) → trialOf c t ≡ x → Arises t → Arises (after x (applied (c .update) t) t)
+unfolding trialOf
+arises-after c t accepted e a = update-arises (c .update) t (c .room) a e
 arises-after c t (refused n) e a = a
 
-change-right : (c : Change) (p : Play) → Arises (p .table) → Right (changeStep c p)
+update-right : (u : Update) (p : Play) → Arises (p .table) → Right (updateStep u p)
 unfolding tableAfter
-change-right c p a =
-    let call : Call = record { change = c; room = room } in
-    (lines-true (tableAfter call (p .table)) (answerTo call (p .table)) (λ l f. call-told call (p .table) l a f .truth), arises-after call (p .table) (trialOf call (p .table)) refl a)
+update-right u p a =
+    (lines-true (tableAfter (callOn u) (p .table)) (answerTo (callOn u) (p .table)) (λ l f. call-told (callOn u) (p .table) l a f .truth), arises-after (callOn u) (p .table) (trialOf (callOn u) (p .table)) refl a)
 
 play-right : (q : Request) (p : Play) → Arises (p .table) → Right (playStep q p)
-play-right (changing c) p a = change-right c p a
+play-right (changing c) p a = update-right (single c) p a
+play-right beginning p a = (tt, a)
+play-right ending p a = ((early 1 (omega arith), tt), a)
 play-right unknown p a = ((early 1 (omega arith), tt), a)
+
+batch-right : (q : Request) (p : Play) (xs : List BatchLine) → Arises (p .table) → Right (batchStep q p xs)
+batch-right (changing c) p xs a = (tt, a)
+batch-right beginning p xs a = (tt, a)
+batch-right ending p xs a = update-right (batch xs) p a
+batch-right unknown p xs a = (tt, a)
 
 -- ---- one line
 
 right : (p : Held) (r : Record) → Sound p → Right (step p r)
-unfolding step atFirst beforeGo afterGo
+unfolding step atFirst beforeGo afterGo inBatch
 right waiting r s = cond-right (isWord (r .word) Game) _ _ (tt, tt) (stop-right 1 (early 1 (omega arith)))
 right (gathering d) r s =
     cond-right (isWord (r .word) Pay && empty (d .moves)) _ _ (tt, tt)
     (cond-right (isWord (r .word) Move) _ _ (cond-right (full (d .moves)) _ _ (stop-right 5 (early 5 (omega arith))) (tt, tt))
     (cond-right (isWord (r .word) Go) _ _ (load-right (loadTrial (loadOf d) room) d refl) (stop-right 1 (early 1 (omega arith)))))
 right (playing p) r s = play-right (requestOf r) p s
+right (batching p xs) r s = batch-right (requestOf r) p xs s
 right ended r s = (tt, tt)
 
 all-true : (p : Held) (rs : List Record) → Sound p → True p rs
@@ -106,6 +117,7 @@ says-loop : (l : Line) (p : Held) → Says l p → SaysLoop l p
 says-loop l waiting h = no-verdict l h
 says-loop l (gathering d) h = no-verdict l h
 says-loop l (playing p) h = loop-told l (p .table) h
+says-loop l (batching p xs) h = no-verdict l h
 says-loop l ended h = no-verdict l h
 
 -- what follows for one line follows for each

@@ -20,14 +20,15 @@ use Rattle.session.specs.declared.Outcome.{Outcome}
 use Rattle.lead.specs.declared.Lead.{Lead}
 use Rattle.lead.specs.declared.Task.{Task}
 use Rattle.lead.specs.declared.Ask.{Ask}
-use Rattle.lead.specs.declared.Ask.the-variants.{Load as AskLoad, Change}
+use Rattle.lead.specs.declared.Ask.the-variants.{Load as AskLoad, Update as AskUpdate}
 use Rattle.lead.specs.declared.Task.the-variants.{Nothing, Refuse, Ask as Asks}
 use Rattle.lead.specs.declared.Plan.{Plan}
-use Rattle.lead.specs.Asked.{numbersMost, asked, filedMove, isOver}
+use Rattle.lead.specs.Asked.{numbersMost, asked, filed, isOver}
 use Rattle.lead.proofs.Task.{the-type}
-use Rattle.watch.specs.Text.{Held, waiting, gathering, playing, ended, room, step, printed}
+use Rattle.watch.specs.Text.{Held, waiting, gathering, playing, batching, ended, room, step, printed}
 use Rattle.watch.specs.declared.Written.{Written}
-use Rattle.watch.specs.Model.{isRefused, Serves, linesMost, linesFor, linesTold, Laid, Writes}
+use Rattle.session.specs.Model.{isRefused}
+use Rattle.watch.specs.Model.{Serves, linesMost, linesFor, linesTold, Laid, Writes}
 use Rattle.watch.proofs.Output.{AtMostTwo}
 use Rattle.watch.proofs.Steps.{Tracks, Follows, stepped}
 use Rattle.watch.proofs.Writing.{told-lines}
@@ -64,6 +65,7 @@ pub over-told : (p : Held) (l : Lead) (ns : List ℕ) (s : Session) (text : List
 over-told waiting l ns s text from o h = false-true (sym (ap isOver h) ∙ o)
 over-told (gathering d) l ns s text from o h = false-true (sym (ap isOver (h .stage)) ∙ o)
 over-told (playing q) l ns s text from o h = false-true (sym (ap isOver (h .0)) ∙ o)
+over-told (batching q xs) l ns s text from o h = false-true (sym (ap isOver (h .0 .stage)) ∙ o)
 over-told ended l ns s text from o h = ap (map render) (none-printed (map recordOf (linesOf (drop from text))))
 
 -- a line is told by at most two
@@ -75,7 +77,7 @@ pub short : (task : Task) (l : Lead) (answer : Answer) (walk : List ℕ) → AtM
 short Nothing l answer walk = tt
 short (Refuse n) l answer walk = tt
 short (Asks AskLoad) l answer walk = short-cond (isRefused answer) _ _ _
-short (Asks (Change op)) l answer walk = tt
+short (Asks (AskUpdate asked)) l answer walk = tt
 
 -- ---- what is asked of the session
 
@@ -105,7 +107,7 @@ pub record Behind (p : Held) (r : Record) (ns : List ℕ) (s : Session) (d d′ 
 
 -- the three functions of a line, one after the other
 module _ (l : Lead) (ns : List ℕ) (s : Session) (p : Held) (walk : List ℕ) (r : Record) (ns′ : List ℕ) (c : Outcome) (walk′ d d′ : List ℕ) (w : Written)
-    (n : length ns ≡ numbersMost) (k : length walk ≡ room) (b : length d ≡ linesMost) (h : Tracks l ns s p) (f : ns′ ≡ filedMove l r ns) where
+    (n : length ns ≡ numbersMost) (k : length walk ≡ room) (b : length d ≡ linesMost) (h : Tracks l ns s p) (f : ns′ ≡ filed l r ns) where
   behind-asked : Done (asked l r .task) l ns′ s walk c walk′ → Writes (asked l r) (c .answer) walk′ d d′ w → Behind p r ns′ (c .session) d d′ w
   behind-asked v t =
       let q = asked l r in

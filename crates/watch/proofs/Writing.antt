@@ -11,7 +11,7 @@ use lib.Dec.{leb}
 use lib.ListN.{length, getD, take}
 use lib.Seq.{length-take-le, take-all}
 use Rattle.plain.specs.Table.{accepts, acceptingCount}
-use Rattle.plain.specs.Machine.{numbered, Line, roundLine, noneLine, noLine}
+use Rattle.plain.specs.Machine.{atLine, numbered, Line as OutputLine, roundLine, noneLine, noLine}
 use Rattle.marks.proofs.Counts.{count-le}
 use Rattle.answer.specs.Bytes.{overwritten, Put}
 use Rattle.answer.specs.Rendering.{render, rendered}
@@ -19,7 +19,9 @@ use Rattle.answer.proofs.Laws.{put-then, put-none, length-round}
 use Rattle.session.specs.declared.Answer.{Answer}
 use Rattle.session.specs.declared.Answer.the-variants.{Refused, Clear, Round}
 use Rattle.table.specs.declared.Refusal.{Refusal}
-use Rattle.session.specs.Promises.{shown}
+use Rattle.table.specs.declared.Position.{Position}
+use Rattle.table.specs.declared.Position.the-variants.{Alone, Line}
+use Rattle.session.specs.Promises.{positionOf, refusalOf, shown}
 use Rattle.lead.specs.declared.Plan.{Plan}
 use Rattle.watch.specs.declared.LineLengths.{LineLengths}
 use Rattle.watch.specs.Text.{room}
@@ -65,12 +67,19 @@ round-short s k st c n m walk p q r t h w e =
 -- ---- the line of an answer
 
 -- the same line by another name
-pub put-as : (d : List ℕ) (at : ℕ) (l l′ : Line) (d′ : List ℕ) (r : ℕ) → l ≡ l′ → Put d at (render l) d′ r → Put d at (render l′) d′ r
+pub put-as : (d : List ℕ) (at : ℕ) (l l′ : OutputLine) (d′ : List ℕ) (r : ℕ) → l ≡ l′ → Put d at (render l) d′ r → Put d at (render l′) d′ r
 put-as d at l l′ d′ r e p = rw e at p
 
-pub said-no : (answer : Answer) (r : Refusal) (walk : List ℕ) → answer ≡ Refused r → noLine (numbered (r .number)) ≡ shown answer walk
+pub said-no : (answer : Answer) (r : Refusal) (walk : List ℕ) → answer ≡ Refused r → noLine (refusalOf r) ≡ shown answer walk
 unfolding shown
 said-no answer r walk e = rw e
+
+-- a refusal, by where it stands
+pub said-alone : (r : Refusal) → r .position ≡ Alone → noLine (numbered (r .number)) ≡ noLine (refusalOf r)
+said-alone r e = ap (λ (p : Position). noLine (record { number = r .number; position = positionOf p })) (sym e)
+
+pub said-line : (r : Refusal) (i : ℕ) → r .position ≡ Line i → noLine (record { number = r .number; position = atLine i }) ≡ noLine (refusalOf r)
+said-line r i e = ap (λ (p : Position). noLine (record { number = r .number; position = positionOf p })) (sym e)
 
 pub said-none : (answer : Answer) (s k : ℕ) (walk : List ℕ) → answer ≡ Clear s k → noneLine s k ≡ shown answer walk
 unfolding shown
@@ -88,13 +97,13 @@ pub no-lines : (d : List ℕ) → Laid [] d d 0 0
 unfolding rendered
 no-lines d = record { made = put-none d 0 .made; split = refl; ends = refl }
 
-pub one-line : (l : Line) (d d′ : List ℕ) (r : ℕ) → Put d 0 (render l) d′ r → Laid (l ∷ []) d d′ r r
+pub one-line : (l : OutputLine) (d d′ : List ℕ) (r : ℕ) → Put d 0 (render l) d′ r → Laid (l ∷ []) d d′ r r
 unfolding rendered
 one-line l d d′ r p =
     let e : rendered (l ∷ []) ≡ render l = append-nil (render l) in
     record { made = p .made ∙ ap (overwritten d 0) (sym e); split = omega (arith, p .next); ends = omega (arith, p .next, ap length e) }
 
-pub two-lines : (l m : Line) (d d1 d2 : List ℕ) (r s : ℕ) → Put d 0 (render l) d1 r → Put d1 r (render m) d2 s → Laid (l ∷ m ∷ []) d d2 r s
+pub two-lines : (l m : OutputLine) (d d1 d2 : List ℕ) (r s : ℕ) → Put d 0 (render l) d1 r → Put d1 r (render m) d2 s → Laid (l ∷ m ∷ []) d d2 r s
 unfolding rendered
 two-lines l m d d1 d2 r s p q =
     let both = put-then d 0 (render l) d1 r (render m) d2 s (omega arith) p q in
@@ -102,7 +111,7 @@ two-lines l m d d1 d2 r s p q =
     record { made = both .made ∙ ap (overwritten d 0) (sym e); split = omega (arith, p .next); ends = omega (arith, both .next, ap length e) }
 
 -- the same lines, buffer and lengths by other names
-pub laid-as : (ls ms : List Line) (d d′ d″ : List ℕ) (n m : LineLengths) → ls ≡ ms → d″ ≡ d′ → m ≡ n → Laid ls d d′ (n .first) (n .len) → Laid ms d d″ (m .first) (m .len)
+pub laid-as : (ls ms : List OutputLine) (d d′ d″ : List ℕ) (n m : LineLengths) → ls ≡ ms → d″ ≡ d′ → m ≡ n → Laid ls d d′ (n .first) (n .len) → Laid ms d d″ (m .first) (m .len)
 laid-as ls ms d d′ d″ n m e f g h = rw (← e, f, g) h
 
 -- ---- the paying states are at most 512
