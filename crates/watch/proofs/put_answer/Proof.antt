@@ -5,9 +5,9 @@ use native.Mathlib.Omega.{arith}
 use denote.Ref.{now}
 use lib.ListN.{length, take}
 use borrow.Author.Needs.{needs}
-use Rattle.plain.specs.Machine.{numbered, roundLine, noneLine, noLine}
+use Rattle.plain.specs.Machine.{roundLine, noneLine}
 use Rattle.answer.specs.Rendering.{render}
-use Rattle.answer.proofs.Laws.{length-no, length-none}
+use Rattle.answer.proofs.Laws.{length-none}
 use Rattle.watch.proofs.Writing.{least-length, round-short, put-as, said-no, said-none, said-round}
 use Rattle.watch.proofs.put_answer.Statement.{statement}
 use Rattle.watch.proofs.put_answer.Tie as tie
@@ -15,12 +15,8 @@ use Rattle.watch.proofs.put_answer.Tie as tie
 enum-known-answer : tie.Need-enum-known-answer
 enum-known-answer c = search needs
 
--- the bound on the line of a refusal
-no-short : (c : tie.After-put-no-arg) → length (render (noLine (numbered (c .before .before .answer .given .0 .0 .number)))) ≤ 9
-no-short c = length-no (c .before .before .answer .given .0 .0 .number) (search needs)
-
-put-no-requires : tie.Need-put-no-requires
-put-no-requires c κs = omega (arith, c .before .before .before .before .before .before .pre, no-short c)
+put-refusal-requires : tie.Need-put-refusal-requires
+put-refusal-requires c κs = let s = c .before .before .before .before .before .before in (s .pre .1, s .pre .2)
 
 enum-known-answer-2 : tie.Need-enum-known-answer-2
 enum-known-answer-2 c = search needs
@@ -84,7 +80,7 @@ returns c =
     let p = c .before .before in
     let a = p .before .before .before in
     let s = a .before .before .before .before in
-    put-as _ _ _ _ _ _ (said-no (s .args .answer) _ (now (s .args .walk)) (a .answer .given .1)) (p .put-no .ensures)
+    put-as _ _ _ _ _ _ (said-no (s .args .answer) _ (now (s .args .walk)) (a .answer .given .1)) (p .put-refusal .ensures)
 
 same-length-2 : tie.Need-same-length-2
 same-length-2 c = search needs
@@ -115,7 +111,7 @@ put-answer-spec =
     tie.close
     (tie.spec
     enum-known-answer
-    put-no-requires
+    put-refusal-requires
     enum-known-answer-2
     put-none-requires
     enum-known-answer-3
