@@ -1,10 +1,10 @@
 -- Document 01, "Games with known results": games A to I, the changes made to them, and the lines printed. Behind them games that tickets of document 02
 -- bring, worked by hand. Assumes nothing.
-use Prim.Native.Nat.{ℕ, _+_, _^_}
-use mathlib.Core.List.{List, [], _∷_, map}
+use Prim.Native.Nat.{ℕ, zero, suc, _+_, _^_}
+use mathlib.Core.List.{List, [], _∷_, _++_, map}
 use lib.ListN.{replicate}
 use Rattle.plain.specs.Refusals.{Load}
-use Rattle.plain.specs.Machine.{Change, add, cut, mark, unmark, Update, single, Call, numbered, Line, gameLine, roundLine, noneLine, noLine}
+use Rattle.plain.specs.Machine.{Change, add, cut, mark, unmark, BatchLine, makes, other, Update, single, batch, atLine, Call, numbered, Line, gameLine, roundLine, noneLine, noLine}
 
 -- a game, what is asked of it in turn, and the lines printed
 pub record Known : Type 0 where
@@ -36,6 +36,11 @@ lent u = record { update = u; room = 512 }
 -- Ticket 1, "though the search may answer another": state 1 pays and returns to itself, and the older way back to 0 is found first
 unfoldable pub returning : Known
 returning = known 2 (1 ∷ []) (0 ∷ 1 ∷ 1 ∷ 0 ∷ 1 ∷ 1 ∷ []) [] (gameLine 2 3 1 ∷ roundLine 4 0 0 2 (0 ∷ 1 ∷ []) ∷ [])
+
+-- a state's pay goes on and off, so many times
+unfoldable pub switching : ℕ → List BatchLine
+switching zero = []
+switching (suc n) = makes (mark 0) ∷ makes (unmark 0) ∷ switching n
 
 unfoldable pub games : List Known
 games =
@@ -156,5 +161,21 @@ games =
     ∷ roundLine 0 3 0 2 (0 ∷ 1 ∷ [])
     ∷ noneLine 3 0
     ∷ noneLine 1 1
+    ∷ [])
+    -- Ticket 5: 64 changes in a batch, and the 65th line: a change, a change that names a state outside, one that is no change; and 66 changes
+    ∷ knownBy 1 [] []
+    (batch (switching 32)
+    ∷ batch (switching 32 ++ (makes (mark 0) ∷ []))
+    ∷ batch (switching 32 ++ (makes (add (9, 9)) ∷ []))
+    ∷ batch (switching 32 ++ (other ∷ []))
+    ∷ batch (switching 33)
+    ∷ [])
+    (gameLine 1 0 0
+    ∷ noneLine 0 0
+    ∷ noneLine 0 0
+    ∷ noLine (record { number = 15; position = atLine 65 })
+    ∷ noLine (record { number = 15; position = atLine 65 })
+    ∷ noLine (record { number = 1; position = atLine 65 })
+    ∷ noLine (record { number = 15; position = atLine 65 })
     ∷ [])
     ∷ []

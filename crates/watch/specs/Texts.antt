@@ -121,4 +121,45 @@ games =
     ∷ "none\t3\t0\n"
     ∷ "none\t1\t1\n"
     ∷ [])
+    -- Ticket 5: a batch without changes keeps every look, with none and with a round
+    ∷ dialogue "game\t4\t0\npay\t2\nmove\t0\t1\nmove\t1\t2\ngo\nbegin\nend\nadd\t2\t1\nbegin\nend\n"
+    ("game\t4\t2\t1\n" ∷ "none\t2\t0\n" ∷ "none\t0\t2\n" ∷ "round\t2\t2\t1\t2\t0\t1\t2\n" ∷ "round\t0\t4\t1\t2\t0\t1\t2\n" ∷ [])
+    -- one whose every change is of a move not come to, or marks a state never met; then such a move goes and comes in one batch
+    ∷ dialogue "game\t4\t0\npay\t2\nmove\t0\t1\nmove\t1\t2\nmove\t2\t1\nmove\t0\t3\ngo\nbegin\ncut\t0\t3\nadd\t1\t3\nadd\t3\t0\nmark\t3\nend\nbegin\ncut\t1\t3\nadd\t1\t3\nend\n"
+    ("game\t4\t4\t1\n" ∷ "round\t4\t0\t1\t2\t0\t1\t2\n" ∷ "round\t0\t4\t1\t2\t0\t1\t2\n" ∷ "round\t0\t4\t1\t2\t0\t1\t2\n" ∷ [])
+    -- mixed ones: a move that was looked at beside a move not come to of a state met earlier, and a mark of a state never met: nothing is kept; then a move of the
+    -- tip beside one of a state of the stem; then the tip's mark goes to the state before it
+    ∷ dialogue "game\t5\t0\npay\t3\nmove\t0\t4\nmove\t0\t1\nmove\t1\t4\nmove\t1\t3\nmove\t3\t1\ngo\nbegin\nadd\t0\t3\ncut\t1\t4\nmark\t2\nend\nbegin\nadd\t1\t2\nadd\t3\t3\nend\nbegin\nunmark\t3\nmark\t1\nend\n"
+    ("game\t5\t5\t1\n"
+    ∷ "round\t6\t0\t1\t2\t0\t1\t3\n"
+    ∷ "round\t5\t0\t1\t2\t0\t1\t3\n"
+    ∷ "round\t4\t2\t1\t2\t0\t1\t3\n"
+    ∷ "round\t6\t2\t1\t2\t0\t1\t3\n"
+    ∷ [])
+    -- refused at the third line: the move and the mark that its first two took are still there for the next lines; then refused for a line that is no change
+    ∷ dialogue "game\t4\t0\npay\t3\nmove\t0\t1\nmove\t1\t2\nmove\t2\t3\nmove\t3\t2\ngo\nbegin\ncut\t2\t3\nunmark\t3\ncut\t2\t3\nadd\t0\t0\nend\ncut\t2\t3\nmark\t3\nbegin\nadd\t2\t3\nx\nend\nadd\t2\t3\n"
+    ("game\t4\t4\t1\n"
+    ∷ "round\t5\t0\t2\t2\t0\t1\t2\t3\n"
+    ∷ "no\t10\t3\n"
+    ∷ "none\t0\t2\n"
+    ∷ "no\t13\n"
+    ∷ "no\t1\t2\n"
+    ∷ "round\t3\t2\t2\t2\t0\t1\t2\t3\n"
+    ∷ [])
+    -- one move comes and goes, or goes and comes, in one batch: at the stem not come to, twice; at the stem looked at, where it is newest then; at the tip, twice
+    ∷ dialogue "game\t4\t0\npay\t2\nmove\t0\t1\nmove\t1\t2\nmove\t2\t1\nmove\t0\t3\ngo\nbegin\nadd\t0\t2\ncut\t0\t2\nend\nbegin\ncut\t0\t3\nadd\t0\t3\nend\nbegin\ncut\t0\t1\nadd\t0\t1\nend\nbegin\nadd\t2\t3\ncut\t2\t3\nend\nbegin\ncut\t2\t1\nadd\t2\t1\nend\n"
+    ("game\t4\t4\t1\n"
+    ∷ "round\t4\t0\t1\t2\t0\t1\t2\n"
+    ∷ "round\t0\t4\t1\t2\t0\t1\t2\n"
+    ∷ "round\t0\t4\t1\t2\t0\t1\t2\n"
+    ∷ "round\t5\t0\t1\t2\t0\t1\t2\n"
+    ∷ "round\t2\t3\t1\t2\t0\t1\t2\n"
+    ∷ "round\t2\t3\t1\t2\t0\t1\t2\n"
+    ∷ [])
+    -- `end` outside a batch, `begin` inside one, and an input that ends inside one
+    ∷ dialogue "game\t2\t0\npay\t1\nmove\t0\t1\nmove\t1\t0\ngo\nend\nbegin\nmark\t0\nbegin\nend\nend\nmark\t0\nbegin\nunmark\t0\n"
+    ("game\t2\t2\t1\n" ∷ "round\t3\t0\t0\t2\t0\t1\n" ∷ "no\t1\n" ∷ "no\t1\t2\n" ∷ "no\t1\n" ∷ "round\t3\t0\t0\t2\t0\t1\n" ∷ [])
+    -- a refused batch leaves the order of the moves; an accepted one with the same first two lines changes it, and the round found
+    ∷ dialogue "game\t3\t0\npay\t1\npay\t2\nmove\t0\t1\nmove\t0\t2\nmove\t1\t0\nmove\t2\t0\ngo\nbegin\ncut\t0\t1\nadd\t0\t1\nadd\t0\t1\nend\nmark\t0\nbegin\ncut\t0\t1\nadd\t0\t1\nend\n"
+    ("game\t3\t4\t2\n" ∷ "round\t3\t0\t0\t2\t0\t1\n" ∷ "no\t8\t3\n" ∷ "round\t3\t0\t0\t2\t0\t1\n" ∷ "round\t3\t0\t0\t2\t0\t2\n" ∷ [])
     ∷ []
