@@ -1,10 +1,30 @@
-// Replays a script of loads and changes on a session, and prints what each answers.
-// A script is a list of 16-bit numbers, the low byte first: 1 and a load; 2 and an add, 3 and a cut, 4 and a mark, 5 and an unmark; 0 at the end.
+// Replays scripts of loads, changes and batches, and prints what each call answers.
+// Standard input is a list of blocks of 65,536 bytes, of which the last may be shorter. Each is a script, which starts without a session: 16-bit numbers, the low
+// byte first.
+// - a load: 1, size, start, the paying words as 32 numbers, a count, so many numbers of moves, room
+// - a change: 2 (add), 3 (cut), 4 (mark) or 5 (unmark), two states, room
+// - a batch: 6, room, a count, so many lines of three numbers: 2 to 5 as above, or any other for a line that makes no change, and two states
+// - 0 at the end
+// The room says how much of the list is lent.
+// What is printed, a number on each line:
+// - of a refusal 0 and its number; if it is that of a batch, 3, its number and the position
+// - of no round 1, and the probes spent and kept
+// - of a round 2, the probes, the lengths of stem and cycle, and the walk
+// - behind each a sum of the lent list
 use session::Answer;
 use session::Outcome;
 use session::Session;
 use table::Op;
+use table::Position;
+use table::Refusal;
+use table::Update;
 ghost use Prim.Native.Nat.{_≤_, _<_};
+
+// A batch begins with this number.
+const BATCH: u16 = 6;
+
+// The most lines of a batch in a script.
+const LINES: usize = 70;
 
 // Casts that say how large the result is, so that sums of it are seen to fit.
 fn widened(x: u8) -> u16
@@ -74,14 +94,14 @@ fn words_at(text: &[u8], at: usize) -> [u64; 8] {
     words
 }
 
-// The numbers of the moves of the load at a place, put at the head of the list.
-fn list_at(text: &[u8], at: usize, count: usize, list: &mut [u16])
-    requires { ⌜ count ≤ 5000 ⌝ }
+// So many numbers, from so many bytes on from a place, put at the head of the list.
+fn list_at(text: &[u8], at: usize, on: usize, count: usize, list: &mut [u16])
+    requires { ⌜ (on < 1000) × (count ≤ 5000) ⌝ }
 {
     let mut i: usize = 0;
     while i < count {
         if i < list.len() {
-            list[i] = number_at(text, at, 72 + i * 2);
+            list[i] = number_at(text, at, on + i * 2);
         }
         i += 1;
     }
@@ -134,11 +154,25 @@ fn print_walk(lent: &[u16], count: usize) {
     }
 }
 
+fn print_refusal(r: Refusal) {
+    let position = r.position;
+    match position {
+        Position::Alone => {
+            print_line(0);
+            print_line(long(r.number));
+        }
+        Position::Line(i) => {
+            print_line(3);
+            print_line(long(r.number));
+            print_line(long(i));
+        }
+    }
+}
+
 fn print_answer(answer: Answer, lent: &[u16]) {
     match answer {
         Answer::Refused(r) => {
-            print_line(0);
-            print_line(long(r.number));
+            print_refusal(r);
         }
         Answer::Clear { spent, kept } => {
             print_line(1);
@@ -166,7 +200,7 @@ fn print_answer(answer: Answer, lent: &[u16]) {
 fn load_at(text: &[u8], at: usize, lent: &mut [u16]) -> Outcome {
     let mut list: [u16; 5000] = [0; 5000];
     let count = least(wide(number_at(text, at, 70)), 5000);
-    list_at(text, at, count, &mut list);
+    list_at(text, at, 72, count, &mut list);
     let room = least(wide(number_at(text, at, 72 + count * 2)), lent.len());
     let words = words_at(text, at);
     let size = number_at(text, at, 2);
@@ -186,43 +220,110 @@ fn op_at(text: &[u8], at: usize, what: u16) -> Op {
     }
 }
 
-// It is made, with as much of the list lent as it says.
-fn change_at(text: &[u8], at: usize, what: u16, s: Session, lent: &mut [u16]) -> Outcome {
+// What the call at a place asks for.
+fn asked_at(text: &[u8], at: usize, what: u16) -> Update {
+    if what == BATCH {
+        return Update::Batch;
+    }
     let op = op_at(text, at, what);
-    let room = least(wide(number_at(text, at, 6)), lent.len());
-    session::change(s, op, &mut lent[..room])
+    Update::Change(op)
 }
 
-// How many bytes the load or change at a place has.
+// How many lines the call at a place has: a change has none.
+fn line_count(text: &[u8], at: usize, what: u16) -> usize
+    ensures { λ r. ⌜ r ≤ 70 ⌝ }
+{
+    if what == BATCH {
+        return least(wide(number_at(text, at, 4)), LINES);
+    }
+    0
+}
+
+// How much of the list the change or batch at a place lends.
+fn room_at(text: &[u8], at: usize, what: u16) -> usize {
+    if what == BATCH {
+        return wide(number_at(text, at, 2));
+    }
+    wide(number_at(text, at, 6))
+}
+
+// The session's number for what a line does.
+fn code_of(what: u16) -> u16 {
+    match what {
+        2 => 1,
+        3 => 2,
+        4 => 3,
+        5 => 4,
+        _ => 0,
+    }
+}
+
+// At the head of each line, the session's number in place of the script's.
+fn recode(lines: &mut [u16]) {
+    let mut i: usize = 0;
+    while i < lines.len() {
+        lines[i] = code_of(lines[i]);
+        i += table::LINE;
+    }
+}
+
+// The change or batch at a place is made, with as much of the list lent as it says.
+fn update_at(text: &[u8], at: usize, what: u16, s: Session, lent: &mut [u16]) -> Outcome {
+    let mut lines: [u16; 210] = [0; 210];
+    let count = line_count(text, at, what) * table::LINE;
+    list_at(text, at, 6, count, &mut lines);
+    recode(&mut lines);
+    let asked = asked_at(text, at, what);
+    let room = least(room_at(text, at, what), lent.len());
+    session::update(s, asked, &lines[..count], &mut lent[..room])
+}
+
+// How many bytes the call at a place has.
 fn size_at(text: &[u8], at: usize, what: u16) -> usize
     ensures { λ r. ⌜ (0 < r) × (r < 200000) ⌝ }
 {
     if what == 1 {
         return 74 + wide(number_at(text, at, 70)) * 2;
     }
+    if what == BATCH {
+        return 6 + line_count(text, at, what) * 6;
+    }
     8
 }
 
-fn main() {
-    let mut text = io::large_buffer();
-    let n = io::read_full(0, &mut text);
+// Replays the script of one block.
+fn replay_block(text: &[u8]) {
     let mut lent: [u16; 600] = [0; 600];
     // Past the end all is 0: this load is refused.
-    let mut c = load_at(&text, n, &mut lent);
+    let mut c = load_at(text, text.len(), &mut lent);
     let mut at: usize = 0;
-    while at < n {
-        let what = number_at(&text, at, 0);
+    while at < text.len() {
+        let what = number_at(text, at, 0);
         if what == 0 {
             return;
         }
         fill(&mut lent);
         if what == 1 {
-            c = load_at(&text, at, &mut lent);
+            c = load_at(text, at, &mut lent);
         } else {
-            c = change_at(&text, at, what, c.session, &mut lent);
+            c = update_at(text, at, what, c.session, &mut lent);
         }
         let answer = c.answer;
         print_answer(answer, &lent);
-        at += size_at(&text, at, what);
+        at += size_at(text, at, what);
+    }
+}
+
+// Nothing says that the input ends, and a proved loop has to: it counts down from a number that no run uses up.
+fn main() {
+    let mut text = io::large_buffer();
+    let mut left = u64::MAX;
+    while 0 < left {
+        let n = io::read_full(0, &mut text);
+        if n == 0 {
+            return;
+        }
+        replay_block(&text[..n]);
+        left -= 1;
     }
 }

@@ -1,4 +1,5 @@
-// Runs the watch on each of the texts of standard input, parted by a byte 30, and prints each output and the number returned.
+// Runs the watch on each of the texts of standard input, and prints each output and the number returned.
+// A block of 65,536 bytes is a list of texts, parted by a byte 30; the last block may be shorter.
 // Their results are of another hand (tests/).
 use libc::STDIN_FILENO;
 use libc::STDOUT_FILENO;
@@ -22,14 +23,27 @@ fn answer(text: &[u8], out: &mut [u8]) {
     io::write_all(STDOUT_FILENO, b"\n");
 }
 
+// The texts of one block, and their answers.
+fn answer_block(block: &[u8], out: &mut [u8]) {
+    let mut from: usize = 0;
+    while from < block.len() {
+        let end = line::end_of(block, from, SEPARATOR);
+        answer(&block[from..end], out);
+        from = end + 1;
+    }
+}
+
+// Nothing says that the input ends, and a proved loop has to: it counts down from a number that no run uses up.
 fn main() {
     let mut input = io::large_buffer();
-    let n = io::read_full(STDIN_FILENO, &mut input);
     let mut out = io::large_buffer();
-    let mut from: usize = 0;
-    while from < n {
-        let end = line::end_of(&input[..n], from, SEPARATOR);
-        answer(&input[from..end], &mut out);
-        from = end + 1;
+    let mut left = u64::MAX;
+    while 0 < left {
+        let n = io::read_full(STDIN_FILENO, &mut input);
+        if n == 0 {
+            return;
+        }
+        answer_block(&input[..n], &mut out);
+        left -= 1;
     }
 }

@@ -9,10 +9,10 @@ use Rattle.replay.proofs.list_at.Statement.{statement}
 use Rattle.replay.proofs.list_at.Tie as tie
 
 abbrev Inv-loop : tie.InvT-loop
-Inv-loop text at count list₀ i₀ list i = (i ≤ count) × (length list ≡ length list₀)
+Inv-loop text at on count list₀ i₀ list i = (i ≤ count) × (length list ≡ length list₀)
 
 abbrev μ-loop : tie.MeasureT-loop
-μ-loop text at count list₀ i₀ list i = count - i
+μ-loop text at on count list₀ i₀ list i = count - i
 
 loop-holds : tie.Need-loop-holds Inv-loop μ-loop
 loop-holds c = search needs

@@ -1,20 +1,21 @@
--- `main` is safe and ends: each turn goes on in the script, which is within the buffer. Assumes nothing.
-use mathlib.Core.Path.{_≡_, sym, ap, _∙_}
-use mathlib.Core.Logic.{⊎-elim}
-use Prim.Native.Nat.{_-_, _≤_}
+-- `main` is safe and ends: what may still come counts down. Assumes nothing.
+use mathlib.Core.Path.{_≡_}
 use borrow.Author.Needs.{needs}
 use lib.ListN.{length}
 use Rattle.replay.proofs.main.Statement.{statement}
 use Rattle.replay.proofs.main.Tie as tie
 
 abbrev Inv-loop : tie.InvT-loop
-Inv-loop text n lent₀ c₀ at₀ lent c at = (n ≤ 65536) × (length text ≡ 65536) × (length lent ≡ 600)
+Inv-loop text₀ left₀ text left = length text ≡ 65536
 
 abbrev μ-loop : tie.MeasureT-loop
-μ-loop text n lent₀ c₀ at₀ lent c at = n - at
+μ-loop text₀ left₀ text left = left
 
 large-buffer-requires : tie.Need-large-buffer-requires Inv-loop μ-loop
 large-buffer-requires c κs = search needs
+
+loop-holds : tie.Need-loop-holds Inv-loop μ-loop
+loop-holds c = search needs
 
 slice-aggregate-read-full : tie.Need-slice-aggregate-read-full Inv-loop μ-loop
 slice-aggregate-read-full c = search needs
@@ -22,83 +23,26 @@ slice-aggregate-read-full c = search needs
 read-full-requires : tie.Need-read-full-requires Inv-loop μ-loop
 read-full-requires c κs = search needs
 
-slice-aggregate-load-at : tie.Need-slice-aggregate-load-at Inv-loop μ-loop
-slice-aggregate-load-at c = search needs
-
-slice-aggregate-load-at-2 : tie.Need-slice-aggregate-load-at-2 Inv-loop μ-loop
-slice-aggregate-load-at-2 c = search needs
-
-load-at-requires : tie.Need-load-at-requires Inv-loop μ-loop
-load-at-requires c κs = search needs
-
-loop-holds : tie.Need-loop-holds Inv-loop μ-loop
-loop-holds c = search needs
-
-slice-aggregate-number-at : tie.Need-slice-aggregate-number-at Inv-loop μ-loop
-slice-aggregate-number-at c = search needs
-
-number-at-requires : tie.Need-number-at-requires Inv-loop μ-loop
-number-at-requires c κs = search needs
-
 returns : tie.Need-returns Inv-loop μ-loop
 returns c = search needs
 
-slice-aggregate-fill : tie.Need-slice-aggregate-fill Inv-loop μ-loop
-slice-aggregate-fill c = search needs
+array-share-prefix-text : tie.Need-array-share-prefix-text Inv-loop μ-loop
+array-share-prefix-text c = search needs
 
-fill-requires : tie.Need-fill-requires Inv-loop μ-loop
-fill-requires c κs = search needs
+slice-aggregate-replay-block : tie.Need-slice-aggregate-replay-block Inv-loop μ-loop
+slice-aggregate-replay-block c = search needs
 
-slice-aggregate-load-at-3 : tie.Need-slice-aggregate-load-at-3 Inv-loop μ-loop
-slice-aggregate-load-at-3 c = search needs
+replay-block-requires : tie.Need-replay-block-requires Inv-loop μ-loop
+replay-block-requires c κs = search needs
 
-slice-aggregate-load-at-4 : tie.Need-slice-aggregate-load-at-4 Inv-loop μ-loop
-slice-aggregate-load-at-4 c = search needs
-
-load-at-requires-2 : tie.Need-load-at-requires-2 Inv-loop μ-loop
-load-at-requires-2 c κs = search needs
-
-slice-aggregate-change-at : tie.Need-slice-aggregate-change-at Inv-loop μ-loop
-slice-aggregate-change-at c = search needs
-
-slice-aggregate-change-at-2 : tie.Need-slice-aggregate-change-at-2 Inv-loop μ-loop
-slice-aggregate-change-at-2 c = search needs
-
-change-at-requires : tie.Need-change-at-requires Inv-loop μ-loop
-change-at-requires c κs = search needs
-
--- after either branch the lent array is as long as before
-lent-length : (c : tie.Joined2 Inv-loop μ-loop) → length (c .if2 .lent) ≡ 600
-lent-length c =
-    let f = c .before .before in
-    let filled : length (f .fill .last .0) ≡ 600 = f .fill .kept .0 ∙ f .before .before .before .before .before .before .loop .inv .2 in
-    ⊎-elim (λ w. ap length (w .5) ∙ w .3 .kept .1 .1 .0 ∙ filled)
-    (λ w. ap length (w .5) ∙ w .3 .kept .1 .1 .1 .1 .0 ∙ filled)
-    (c .if2 .came)
-
-slice-aggregate-print-answer : tie.Need-slice-aggregate-print-answer Inv-loop μ-loop
-slice-aggregate-print-answer c = sym (lent-length (c .before))
-
-print-answer-requires : tie.Need-print-answer-requires Inv-loop μ-loop
-print-answer-requires c κs = search needs
-
-slice-aggregate-size-at : tie.Need-slice-aggregate-size-at Inv-loop μ-loop
-slice-aggregate-size-at c = search needs
-
-size-at-requires : tie.Need-size-at-requires Inv-loop μ-loop
-size-at-requires c κs = search needs
-
-add-at : tie.Need-add-at Inv-loop μ-loop
-add-at c = search needs
+sub-left : tie.Need-sub-left Inv-loop μ-loop
+sub-left c = search needs
 
 loop-less : tie.Need-loop-less Inv-loop μ-loop
 loop-less c = search needs
 
 loop-again : tie.Need-loop-again Inv-loop μ-loop
-loop-again c =
-    let j = c .before .before .before .before in
-    let l = j .before .before .before .before .before .before .before .before in
-    (l .loop .inv .0, l .loop .inv .1, lent-length j)
+loop-again c = search needs
 
 returns-2 : tie.Need-returns-2 Inv-loop μ-loop
 returns-2 c = search needs
@@ -110,28 +54,14 @@ main-spec =
     Inv-loop
     μ-loop
     large-buffer-requires
+    loop-holds
     slice-aggregate-read-full
     read-full-requires
-    slice-aggregate-load-at
-    slice-aggregate-load-at-2
-    load-at-requires
-    loop-holds
-    slice-aggregate-number-at
-    number-at-requires
     returns
-    slice-aggregate-fill
-    fill-requires
-    slice-aggregate-load-at-3
-    slice-aggregate-load-at-4
-    load-at-requires-2
-    slice-aggregate-change-at
-    slice-aggregate-change-at-2
-    change-at-requires
-    slice-aggregate-print-answer
-    print-answer-requires
-    slice-aggregate-size-at
-    size-at-requires
-    add-at
+    array-share-prefix-text
+    slice-aggregate-replay-block
+    replay-block-requires
+    sub-left
     loop-less
     loop-again
     returns-2)
