@@ -6,14 +6,15 @@ use mathlib.Core.List.{List, [], _∷_, _++_, map}
 use lib.ListN.{length}
 use Rattle.plain.specs.Table.{Table}
 use Rattle.plain.specs.Refusals.{Trial, Load, accepted, refused, loadTrial}
-use Rattle.plain.specs.Machine.{tableOf, loadAnswer, answerTo, tableAfter, answers, written, Line, answerLine, answerLines}
-use Rattle.plain.proofs.Answers.{load-told, call-told}
+use Rattle.plain.specs.Machine.{Change, BatchLine, makes, changesIn, Update, single, batch, Call, callFor, trialOf, Answer as PlainAnswer, tableOf, loadAnswer, answerTo, tableAfter, answers, written, Line, answerLine, answerLines}
+use Rattle.plain.proofs.Answers.{first-line, load-told, call-told}
+use Rattle.plain.proofs.OneByOne.{answer-refused, one-by-one, as-one}
 use Rattle.plain.proofs.Loops.{loop-told}
 use Rattle.session.specs.declared.Answer.{Answer}
 use Rattle.session.specs.declared.Session.{Session}
 use Rattle.session.specs.declared.Outcome.{Outcome}
-use Rattle.session.specs.Promises.{shown, NoRefusal, callIn, Holds, Loads, Updates, Exchange, Served, done, call, CallRight, EachCall, AllRight, Demand3, LoopsTold}
-use Rattle.session.proofs.Told.{shown-refused}
+use Rattle.session.specs.Promises.{shown, NoRefusal, callOf, callIn, Holds, Loads, Updates, Exchange, Served, done, call, CallRight, EachCall, AllRight, Demand3, LoopsTold, SameCall, SameEnd}
+use Rattle.session.proofs.Told.{shown-refused, told-refused}
 
 -- one call, by its contract alone
 call-right : (x : Exchange) (s : Session) (t : Table) (r : Outcome) → Holds s t → Updates (x .asked) s (x .lent) r (x .after) → x .answered ≡ r .answer → CallRight x t
@@ -75,3 +76,41 @@ loops-told l lent r lent′ a y xs w =
       load = loop-told (shown (r .answer) lent′) (tableOf l) (d .load-truth);
       calls = each-call CallRight _ (λ x t c. loop-told (shown (x .answered) (x .after)) (tableAfter (callIn x) t) (c .truth)) xs (tableOf l) (d .calls);
     }
+
+-- ---- ticket 5
+
+-- an answer that is no refusal is that of an accepted call
+call-accepted : (u : Update) (s : Session) (t : Table) (lent : List ℕ) (r : Outcome) (lent′ : List ℕ) → Holds s t → Updates u s lent r lent′ → NoRefusal (r .answer)
+    → trialOf (callOf u lent) t ≡ accepted
+unfolding answerLine
+call-accepted u s t lent r lent′ h w y = by-trial (trialOf (callOf u lent) t) refl
+  where
+    by-trial : (x : Trial) → trialOf (callOf u lent) t ≡ x → trialOf (callOf u lent) t ≡ accepted
+    by-trial accepted e = e
+    by-trial (refused n) e = absurd (told-refused (r .answer) lent′ _ (sym (ap answerLine (answer-refused (callOf u lent) t n e)) ∙ w .answers t h) y)
+
+-- a batch of one change is that change
+pub batch-of-one : (c : Change) (s : Session) (t : Table) → Holds s t → (lent : List ℕ) (r r₂ : Outcome) (lent′ lent₂ : List ℕ)
+    → Updates (batch (makes c ∷ [])) s lent r lent′ → Updates (single c) s lent r₂ lent₂ → NoRefusal (r₂ .answer) → SameCall (batch (makes c ∷ [])) (single c) lent t r r₂ lent′ lent₂
+unfolding first-line
+batch-of-one c s t h lent r r₂ lent′ lent₂ w v y =
+    let one = as-one c t (length lent) (h .arises) in
+    let same = one .same-answer (call-accepted (single c) s t lent r₂ lent₂ h v y) in
+    let told : shown (r .answer) lent′ ∷ [] ≡ shown (r₂ .answer) lent₂ ∷ [] = sym (w .answers t h) ∙ ap answerLine same ∙ v .answers t h in
+    record {
+      same-line = ap first-line told;
+      same-list = w .writes t h ∙ ap (λ (a : PlainAnswer). written a lent) same ∙ sym (v .writes t h);
+      same-table = one .same-table;
+      holds = subst (λ (x : Table). Holds (r .session) x) (one .same-table) (w .holds t h);
+      holds₂ = v .holds t h;
+    }
+
+-- an accepted batch and its changes one by one
+pub batch-one-by-one : (xs : List BatchLine) (s : Session) (t : Table) → Holds s t → (lent : List ℕ) (r : Outcome) (lent′ : List ℕ) → Updates (batch xs) s lent r lent′ → NoRefusal (r .answer)
+    → (ys : List Exchange) → Served s ys → map callIn ys ≡ map (callFor (length lent)) (changesIn xs) → SameEnd xs lent t r lent′ ys
+batch-one-by-one xs s t h lent r lent′ w y ys v e = record {
+  plain = one-by-one xs t (length lent) (h .arises) (call-accepted (batch xs) s t lent r lent′ h w y);
+  batch-tells = w .answers t h;
+  batch-holds = w .holds t h;
+  changes-tell = same-lines ys t (all-right s t ys h v) ∙ ap (λ (cs : List Call). answerLines (answers cs t)) e;
+}

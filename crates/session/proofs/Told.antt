@@ -18,7 +18,7 @@ use Rattle.table.specs.declared.Position.{Position}
 use Rattle.table.specs.declared.Position.the-variants as Position
 use Rattle.session.specs.declared.Verdict.{Verdict}
 use Rattle.session.specs.Model.{answerIs, refusing, shownWalk}
-use Rattle.session.specs.Promises.{positionOf, refusalOf, shown, Tells}
+use Rattle.session.specs.Promises.{positionOf, refusalOf, shown, NoRefusal, Tells}
 
 answer-clear : (v : Verdict) → v .length ≡ 0 → answerIs v ≡ Clear (v .spent) (v .kept)
 unfolding answerIs
@@ -92,3 +92,10 @@ shown-refused (Refused r) list n e =
     λ i. Refused (record { number = sym (ap (λ (x : PlainRefusal). x .number) z) i; position = p i })
 shown-refused (Clear spent kept) list n e = let z : _≡_ {A = ℕ} 0 1 = cc in absurd (omega arith)
 shown-refused (Round spent kept stem cycle) list n e = let z : _≡_ {A = ℕ} 0 1 = cc in absurd (omega arith)
+
+-- an answer that is told by a `no` line is a refusal
+pub told-refused : (a : Answer) (list : List ℕ) (r : PlainRefusal) → noLine r ∷ [] ≡ shown a list ∷ [] → NoRefusal a → ⊥
+unfolding shown
+told-refused (Refused n) list r e y = y
+told-refused (Clear spent kept) list r e y = let z : _≡_ {A = ℕ} 0 1 = cc in omega arith
+told-refused (Round spent kept stem cycle) list r e y = let z : _≡_ {A = ℕ} 0 1 = cc in omega arith

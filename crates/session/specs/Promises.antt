@@ -7,8 +7,8 @@ use lib.ListN.{length, take}
 use Rattle.plain.specs.Search.{Config, outer, nested, exhausted, found, Verdict, none, lasso, unfinished, verdict, count, run}
 use Rattle.plain.specs.Table.{Table, searched, final}
 use Rattle.plain.specs.Refusals.{Load, accepted, refused, loadTrial}
-use Rattle.plain.specs.Machine.{Position as PlainPosition, alone, atLine, Refusal as PlainRefusal, Update as PlainUpdate, single, batch, loadAnswer, tableOf, Call, answerTo, tableAfter, answers, written, Line, roundLine, noneLine, noLine, answerLine, answerLines}
-use Rattle.plain.specs.Claims.{Arises, LineTrue, LineCounted, LoopTold}
+use Rattle.plain.specs.Machine.{BatchLine, changesIn, callFor, batchCall, Position as PlainPosition, alone, atLine, Refusal as PlainRefusal, Update as PlainUpdate, single, batch, loadAnswer, tableOf, Call, answerTo, tableAfter, answers, written, Line, roundLine, noneLine, noLine, answerLine, answerLines}
+use Rattle.plain.specs.Claims.{Arises, OneByOne, LineTrue, LineCounted, LoopTold}
 use Rattle.search.specs.Archive.{Begins, Archived}
 use Rattle.session.specs.declared.Answer.{Answer}
 use Rattle.session.specs.declared.Answer.the-variants.{Refused, Clear, Round}
@@ -154,3 +154,22 @@ pub record Demand3 (l : Load) (lent : List ℕ) (r : Outcome) (lent′ : List �
 pub record LoopsTold (l : Load) (r : Outcome) (lent′ : List ℕ) (xs : List Exchange) : Type 0 where
   pub load : LoopTold (shown (r .answer) lent′) (tableOf l)
   pub calls : EachCall (λ x t. LoopTold (shown (x .answered) (x .after)) (tableAfter (callIn x) t)) xs (tableOf l)
+
+-- ---- document 02, ticket 5, on the contracts
+
+-- A batch of one change, and that change, each asked of the same session with the same list, where the change is accepted: the same line is told, with its counts and
+-- its walk, the same list is left, and the sessions that are returned hold the same table.
+pub record SameCall (u v : PlainUpdate) (lent : List ℕ) (t : Table) (r r₂ : Outcome) (lent′ lent₂ : List ℕ) : Type 0 where
+  pub same-line : shown (r .answer) lent′ ≡ shown (r₂ .answer) lent₂
+  pub same-list : lent′ ≡ lent₂
+  pub same-table : tableAfter (callOf u lent) t ≡ tableAfter (callOf v lent) t
+  pub holds : Holds (r .session) (tableAfter (callOf v lent) t)
+  pub holds₂ : Holds (r₂ .session) (tableAfter (callOf v lent) t)
+
+-- An accepted batch, and its changes as calls of their own from the same session on, with lists of the same length: the batch and the changes tell what the plain table
+-- tells of them, and of the plain table it is proved that the batch's answer and the last of theirs tell the same verdict, walk and total (OneByOne).
+pub record SameEnd (xs : List BatchLine) (lent : List ℕ) (t : Table) (r : Outcome) (lent′ : List ℕ) (ys : List Exchange) : Type 0 where
+  pub plain : OneByOne xs t (length lent)
+  pub batch-tells : answerLine (answerTo (batchCall (length lent) xs) t) ≡ shown (r .answer) lent′ ∷ []
+  pub batch-holds : Holds (r .session) (tableAfter (batchCall (length lent) xs) t)
+  pub changes-tell : map (λ (x : Exchange). shown (x .answered) (x .after)) ys ≡ answerLines (answers (map (callFor (length lent)) (changesIn xs)) t)
