@@ -1,6 +1,6 @@
 -- Ticket 5: a batch that is accepted makes its changes one by one, and what holds of each holds of all. Then the same for every call, be it one change or a batch.
 -- Assumes nothing.
-use mathlib.Core.Path.{_≡_, refl, sym, ap, subst, _∙_}
+use mathlib.Core.Path.{_≡_, refl, sym, ap, _∙_}
 use mathlib.Core.Logic.{_≢_, _⊎_, inl, inr, ⊎-elim}
 use mathlib.Core.Bool.{Bool, true, false, _&&_, not}
 use mathlib.Core.List.{List, [], _∷_, _++_, append-nil, map}
@@ -8,8 +8,8 @@ use Prim.Native.Nat.{ℕ, suc, _+_, _≤_}
 use native.Mathlib.Omega.{arith}
 use lib.ListN.{length}
 use borrow.Author.Tests.{ltb-false, not-false, not-true as untrue}
-use Rattle.plain.specs.Lists.{any, all, elem, In}
-use Rattle.plain.specs.Search.{Graph, Config, discoveredOf, meets, run}
+use Rattle.plain.specs.Lists.{all, elem}
+use Rattle.plain.specs.Search.{Config, discoveredOf, meets, run}
 use Rattle.plain.specs.Unexplored.{Shared}
 use Rattle.plain.specs.Table.{Table, searched, budget, final}
 use Rattle.plain.specs.Refusals.{Trial, accepted, refused, firstHeld, shortRoom, roomCondition}

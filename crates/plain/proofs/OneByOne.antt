@@ -1,25 +1,25 @@
 -- Ticket 5: an accepted batch and its changes made one by one; a batch of one change and that change. Assumes nothing.
 use mathlib.Core.Path.{_≡_, refl, sym, ap, _∙_}
-use mathlib.Core.Logic.{inl, inr, ⊎-elim}
+use mathlib.Core.Logic.{inr, ⊎-elim}
 use mathlib.Core.Bool.{Bool, true, false, _&&_, _||_, not}
-use mathlib.Core.List.{List, [], _∷_, _++_, append-nil, map}
+use mathlib.Core.List.{List, [], _∷_, append-nil, map}
 use Prim.Native.Nat.{ℕ, zero, suc, _+_, _-_, _≤_}
 use native.Mathlib.Omega.{arith}
 use lib.ListN.{length, take, length-map}
 use lib.Seq.{take-all}
 use borrow.Author.Tests.{le-ltb, not-true as untrue}
 use Rattle.plain.specs.Lists.{any, all}
-use Rattle.plain.specs.Search.{meets, run, verdict, count}
+use Rattle.plain.specs.Search.{meets, verdict, count}
 use Rattle.plain.specs.Table.{Table, searched, budget, final, firstMeeting}
 use Rattle.plain.specs.Refusals.{Trial, accepted, refused, firstHeld, shortRoom, roomCondition}
 use Rattle.plain.specs.Machine.{Change, named, apply, conditions, changeTrial, BatchLine, makes, lineConditions, BatchTrial, changesIn, applyAll, namedAll, linesTrial, batchTrial, single, batch, applied, namedBy, updateTrial, positionIn, atLine, unexplored, passedOver, keepsAll, keptPart, kept, Answer, refusal, answer, after, Call, callFor, batchCall, trialOf, updateAnswer, answerTo, tableAfter, answers}
 use Rattle.plain.specs.Notes.{notes}
 use Rattle.plain.specs.Claims.{Arises, changed, AllAccepted, Reports, tableBehind, lastOf, OneByOne, AsOne}
 use Rattle.plain.proofs.Tests.{either}
-use Rattle.plain.proofs.Trials.{held-later, accepted-when, passed-behind, last-free}
+use Rattle.plain.proofs.Trials.{held-later, accepted-when, last-free}
 use Rattle.plain.proofs.Tables.{Valid, valid, valid-change, room-enough}
 use Rattle.plain.proofs.Resume.{holds-notes}
-use Rattle.plain.proofs.Batches.{accepted-not, line-accepted, line-refused, line-few, batch-tried, batch-short, batch-few, batch-made, update-valid}
+use Rattle.plain.proofs.Batches.{accepted-not, line-accepted, line-refused, line-few, batch-tried, batch-short, batch-few, batch-made}
 use Rattle.plain.proofs.Demands.{ended-within, kept-all, kept-meeting, update-same, demand-3-kept}
 
 -- ---- one by one

@@ -8,7 +8,7 @@ use borrow.Author.Tests.{not-true as untrue}
 use Rattle.plain.specs.Lists.{elem, In, Once}
 use Rattle.plain.specs.Search.{Graph, Edge, onPath, Config, discoveredOf, probesOf, run, finished}
 use Rattle.plain.specs.Unexplored.{unfinishedPath, Untaken, Shared}
-use Rattle.plain.specs.Table.{Table, row, searched, budget, final}
+use Rattle.plain.specs.Table.{Table, searched, budget, final}
 use Rattle.plain.specs.Refusals.{present}
 use Rattle.plain.specs.Machine.{Change, add, cut, mark, unmark, named, apply, unexplored}
 use Rattle.plain.proofs.Tests.{contra, either, not-true, in-one, not-in}

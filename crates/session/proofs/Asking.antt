@@ -1,24 +1,23 @@
 -- What is asked of a session, as the lines that are tried on its arrays: they come to what the plain table comes to. Assumes nothing.
-use mathlib.Core.Path.{_≡_, refl, sym, ap, subst, subst⁻¹, _∙_}
+use mathlib.Core.Path.{_≡_, refl, sym, ap, subst⁻¹, _∙_}
 use mathlib.Core.Bool.{Bool, true, false}
-use mathlib.Core.List.{List, [], _∷_, _++_, map}
-use Prim.Native.Nat.{ℕ, _≤_}
+use mathlib.Core.List.{List, [], _∷_, map}
+use Prim.Native.Nat.{ℕ}
 use native.Mathlib.Omega.{arith}
-use lib.Dec.{eqb, ltb}
+use lib.Dec.{eqb}
 use borrow.Author.Tests.{le-leb}
 use Rattle.plain.specs.Table.{Table}
-use Rattle.plain.specs.Refusals.{Trial, accepted, refused, firstHeld, outside, beyond, roomCondition}
-use Rattle.plain.specs.Machine.{Change, add, cut, mark, unmark, BatchLine as PlainLine, makes, alone as aloneAt, Update as PlainUpdate, single, batch, applied, updateTrial, positionIn}
+use Rattle.plain.specs.Refusals.{accepted, refused, beyond, roomCondition}
+use Rattle.plain.specs.Machine.{Change, add, cut, mark, unmark, BatchLine as PlainLine, makes, Update as PlainUpdate, single, batch, applied, updateTrial, positionIn}
 use Rattle.plain.proofs.Trials.{held-first, held-later}
 use Rattle.plain.proofs.Tables.{Valid}
 use Rattle.plain.proofs.Batches.{changesOf, batch-made}
 use Rattle.table.specs.declared.Update.{Update}
 use Rattle.table.specs.declared.Update.the-variants as Update
 use Rattle.table.specs.declared.Position.the-variants as Position
-use Rattle.table.specs.declared.Op.{Op}
 use Rattle.table.specs.Trials.{Arrays, addConditions, cutConditions, markConditions, unmarkConditions}
 use Rattle.table.specs.Filing.{Stored, changeOf}
-use Rattle.table.specs.Batches.{lineTo, linesIn, numbersIn, opFor, lineTrialIn, TriedIn, triedIn, aheadTrial, callTriedIn, positionAt}
+use Rattle.table.specs.Batches.{linesIn, numbersIn, lineTrialIn, TriedIn, aheadTrial, callTriedIn, positionAt}
 use Rattle.table.proofs.Pairs.{outside-from}
 use Rattle.table.proofs.Batches.{line-makes, tried-stop, call-on, call-stop, batch-same, batch-stored, single-same, single-stored}
 use Rattle.session.specs.declared.Answer.the-variants.{Refused}

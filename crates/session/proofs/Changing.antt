@@ -13,7 +13,7 @@ use Rattle.session.specs.declared.Resumption.{Resumption}
 use Rattle.session.specs.declared.Settled.{Settled}
 use Rattle.session.specs.declared.Verdict.{Verdict}
 use Rattle.table.specs.Trials.{Arrays}
-use Rattle.table.specs.Batches.{linesIn, TriedIn, callTriedIn, positionAt, AttemptedCall}
+use Rattle.table.specs.Batches.{linesIn, TriedIn, callTriedIn, AttemptedCall}
 use Rattle.session.specs.Model.{Records, gameIn, resumptionOf, refusing, Settles, UpdatedIn}
 use Rattle.rows.specs.Rows.{Tabled}
 use Rattle.table.proofs.Trying.{tried-accepted, tried-refused}

@@ -1,5 +1,5 @@
 -- The first of some states that a search discovered, read off their numbers. Assumes nothing.
-use mathlib.Core.Path.{_≡_, refl, sym, ap, _∙_}
+use mathlib.Core.Path.{_≡_, sym, ap, _∙_}
 use mathlib.Core.Logic.{⊎-elim}
 use mathlib.Core.Bool.{Bool, true, false, cond}
 use mathlib.Core.List.{List, [], _∷_}
@@ -9,10 +9,9 @@ use lib.Dec.{eqb, ltb}
 use lib.ListN.{length, getD, drop, drop-of-length-le}
 use lib.Seq.{drop-cons}
 use borrow.Author.Tests.{eq-eqb, ne-eqb, lt-ltb, le-ltb, ltb-true, ltb-false, eqb-false}
-use Rattle.plain.specs.Lists.{elem, In}
+use Rattle.plain.specs.Lists.{In}
 use Rattle.plain.proofs.Tests.{either, same, in-nil, in-head, in-tail, in-cases}
 use Rattle.look.specs.Numbers.{noNumber}
-use Rattle.session.specs.declared.Resumption.{Resumption}
 use Rattle.session.specs.declared.Resumption.the-variants.{Nowhere, At}
 use Rattle.session.specs.Model.{earliestFrom, earliestOf}
 

@@ -1,15 +1,15 @@
 -- Going through the lines of a call: which are passed over, and which states they name. Assumes nothing.
-use mathlib.Core.Path.{_≡_, refl, sym, ap, subst, _∙_}
+use mathlib.Core.Path.{_≡_, refl, sym, ap, _∙_}
 use mathlib.Core.Bool.{Bool, true, false, cond, _&&_, _||_}
 use mathlib.Core.List.{List, [], _∷_, _++_}
 use Prim.Native.Nat.{ℕ, suc, _+_, _*_, _-_, _≤_, _<_}
 use native.Mathlib.Omega.{arith}
 use lib.Dec.{eqb}
-use lib.ListN.{length, getD, take, drop, set, length-drop, length-take, length-set, take-append-drop, drop-of-length-le}
+use lib.ListN.{length, getD, take, drop, set, length-drop, length-set, drop-of-length-le}
 use lib.Seq.{take-all, take-suc, take-suc-set, drop-cons, drop-drop}
 use borrow.Author.Tests.{eq-eqb, ne-eqb}
 use Rattle.plain.specs.Lists.{all}
-use Rattle.plain.specs.Machine.{BatchLine as PlainLine, makes, other}
+use Rattle.plain.specs.Machine.{BatchLine as PlainLine}
 use Rattle.rows.specs.Change.{Rows}
 use Rattle.look.specs.Numbers.{noNumber}
 use Rattle.table.specs.declared.BatchLine.{BatchLine}

@@ -1,16 +1,16 @@
 -- Where a search is taken up is read off the session: it passes over a change exactly when the plain search had not come to it. Assumes nothing.
 use mathlib.Core.Path.{_≡_, refl, sym, ap, subst, _∙_, subst⁻¹}
 use mathlib.Core.Logic.{inl, inr, ⊎-elim, _⊎_}
-use mathlib.Core.Bool.{Bool, true, false, cond, _&&_, _||_, not}
+use mathlib.Core.Bool.{Bool, true, false, _&&_, _||_, not}
 use mathlib.Core.List.{List, [], _∷_, _++_, append-assoc, map}
 use Prim.Native.Nat.{ℕ, suc, _+_, _-_, _≤_, _<_}
 use native.Mathlib.Omega.{arith}
 use lib.Dec.{ltb}
-use lib.ListN.{length, getD, take, drop, length-append, take-append-drop, length-take, length-drop, List·getD-append}
+use lib.ListN.{length, getD, take, drop, length-append, take-append-drop, length-take, List·getD-append}
 use lib.Seq.{ext-getD, getD-at}
 use borrow.Author.Tests.{eq-eqb, ne-eqb, lt-ltb, le-ltb, ltb-true, not-false}
 use Rattle.plain.specs.Lists.{elem, In, before, from, all}
-use Rattle.plain.specs.Search.{Graph, Edge, Frame, frame, onPath, Config, outer, nested, exhausted, found, discoveredOf, probesOf, run, finished, statesOf, stemOf, cycleOf, verdict, meets}
+use Rattle.plain.specs.Search.{Graph, Edge, Frame, frame, onPath, Config, outer, nested, exhausted, found, discoveredOf, probesOf, run, statesOf, stemOf, cycleOf, verdict, meets}
 use Rattle.plain.specs.Unexplored.{unfinishedPath, Untaken}
 use Rattle.plain.specs.Table.{Table, row, searched, budget, final}
 use Rattle.plain.specs.Refusals.{accepted, present}
@@ -34,12 +34,11 @@ use Rattle.rows.proofs.Entries.{entries-length, entries-first}
 use Rattle.look.specs.Numbers.{noNumber}
 use Rattle.search.specs.Archive.{notesOf}
 use Rattle.search.proofs.Places.{states-length}
-use Rattle.table.specs.declared.Op.{Op}
-use Rattle.table.specs.declared.Op.the-variants.{Add, Cut, Mark, Unmark}
+use Rattle.table.specs.declared.Op.the-variants.{Mark}
 use Rattle.table.specs.declared.Subject.{Subject}
 use Rattle.table.specs.declared.Subject.the-variants as Subject
 use Rattle.table.specs.Trials.{switching}
-use Rattle.table.specs.Filing.{changeOf, namedBy}
+use Rattle.table.specs.Filing.{namedBy}
 use Rattle.table.proofs.Places.{has-place, place-hit, place-front, place-behind, same-test}
 use Rattle.session.specs.declared.Session.{Session}
 use Rattle.session.specs.Model.{arraysHeld, unexploredEdge, unexploredIn, passedOverIn, allPassedOver}

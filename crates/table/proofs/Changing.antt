@@ -1,7 +1,7 @@
 -- A change of the table: its trial is the plain table's, and the arrays that it leaves hold the changed table. Assumes nothing.
-use mathlib.Core.Path.{_≡_, refl, sym, ap, subst, subst⁻¹, _∙_}
+use mathlib.Core.Path.{_≡_, sym, ap, subst, subst⁻¹, _∙_}
 use mathlib.Core.Logic.{⊎-elim}
-use mathlib.Core.Bool.{Bool, true, false, not}
+use mathlib.Core.Bool.{true, false, not}
 use mathlib.Core.List.{List, [], _∷_, _++_}
 use Prim.Native.Nat.{ℕ, suc, _<_}
 use native.Mathlib.Omega.{arith}
@@ -23,8 +23,6 @@ use Rattle.rows.proofs.Entries.{row-length}
 use Rattle.rows.proofs.Change.{removes-edge, inserted-lengths, removed-lengths}
 use Rattle.table.specs.declared.Op.{Op}
 use Rattle.table.specs.declared.Op.the-variants.{Add, Cut, Mark, Unmark}
-use Rattle.table.specs.declared.Subject.{Subject}
-use Rattle.table.specs.declared.Subject.the-variants as Subject
 use Rattle.table.specs.Trials.{Arrays, there, addConditions, cutConditions, markConditions, unmarkConditions, conditionsIn, trialIn}
 use Rattle.table.specs.Filing.{changeOf, namedBy, filedIn, Filed, Stored}
 use Rattle.table.proofs.Places.{place-hit, place-miss}

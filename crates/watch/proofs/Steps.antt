@@ -13,7 +13,7 @@ use lib.Seq.{take-all, take-append-le, length-take-le}
 use Rattle.plain.specs.Search.{Edge, Verdict, none, lasso, unfinished, verdict, count}
 use Rattle.plain.specs.Table.{final, withMark, acceptingCount}
 use Rattle.plain.specs.Refusals.{Trial, accepted, refused, flat, loadTrial, full}
-use Rattle.plain.specs.Machine.{BatchLine, makes, other, single, batch, Answer as PlainAnswer, answer, loadAnswer, tableOf, answerTo, tableAfter, Line, gameLine, roundLine, noneLine, noLine, answerLine}
+use Rattle.plain.specs.Machine.{BatchLine, makes, other, single, batch, Answer as PlainAnswer, answer, loadAnswer, tableOf, answerTo, Line, gameLine, roundLine, noneLine, noLine, answerLine}
 use Rattle.plain.proofs.Tests.{either, and-true}
 use Rattle.plain.proofs.OneByOne.{held-call}
 use Rattle.line.specs.Words.{isWord}
@@ -31,7 +31,7 @@ use Rattle.table.specs.Filing.{changeOf}
 use Rattle.table.specs.Batches.{lineIn, linesIn}
 use Rattle.table.proofs.Batches.{line-makes}
 use Rattle.session.specs.Model.{isRefused}
-use Rattle.session.specs.Promises.{shown, callOf, Holds, Loads, Updates}
+use Rattle.session.specs.Promises.{shown, Holds, Loads, Updates}
 use Rattle.lead.specs.declared.Stage.{Stage}
 use Rattle.lead.specs.declared.Stage.the-variants.{Waiting, Gathering, Playing, Batching, Over}
 use Rattle.lead.specs.declared.Lead.{Lead}
@@ -44,8 +44,8 @@ use Rattle.lead.specs.declared.Request.the-variants as R
 use Rattle.lead.specs.Asked.{numbersMost, staged, noTask, refusing, loading, changing, ending as endingPlan, batching as leadBatching, isFull, askedFirst, askedMove, askedBefore, requestOf as leadRequest, planFor, askedAfter, heldMost, holding, askedInside, askedAt, asked, gathersMove, takesMove, insideLine, takesLine, lineFrom, lineRead, numbersOf, filed}
 use Rattle.lead.proofs.Asking.{taken-at, held, not-held}
 use Rattle.lead.proofs.Filing.{numbers-kept, move-put, line-put}
-use Rattle.watch.specs.Text.{Draft, Play, Held, waiting, gathering, playing, batching, ended, Step, quiet, noStep, empty, room, loadStep, loadOf, draftOf, withPay, withMove, callOn, updateStep, Request, changing as changes, beginning, ending, unknown, requestOf, playStep, batchStep, inBatch, atFirst, beforeGo, afterGo, step}
-use Rattle.watch.specs.Model.{numbersHeld, gathered, Serves, linesFor, leadFor}
+use Rattle.watch.specs.Text.{Draft, Play, Held, waiting, gathering, playing, batching, ended, Step, quiet, noStep, empty, room, loadStep, loadOf, draftOf, withPay, withMove, updateStep, Request, changing as changes, beginning, ending, unknown, requestOf, playStep, batchStep, inBatch, atFirst, beforeGo, afterGo, step}
+use Rattle.watch.specs.Model.{gathered, Serves, linesFor, leadFor}
 
 -- the lead and the list of numbers stand for what is gathered
 pub record Gathers (l : Lead) (ns : List ℕ) (d : Draft) : Type 0 where

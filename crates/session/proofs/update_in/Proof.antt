@@ -1,5 +1,4 @@
 -- `update_in` meets its contract: a refusal, or the table's arrays changed and the search settled. Assumes nothing.
-use mathlib.Core.Path.{sym, _∙_}
 use borrow.Author.Needs.{needs}
 use Rattle.session.proofs.Changing.{updated-refused, updated-accepted, accepted-tabled}
 use Rattle.session.proofs.update_in.Statement.{statement}
