@@ -1,5 +1,5 @@
--- A table that a session holds: its limits, and its refusals read off the arrays. Assumes nothing.
-use mathlib.Core.Path.{_≡_, ap, _∙_}
+-- The limits of a table that a session holds. Assumes nothing.
+use mathlib.Core.Path.{_≡_}
 use mathlib.Core.Bool.{false}
 use Prim.Native.Nat.{ℕ, _≤_}
 use native.Mathlib.Omega.{arith}
@@ -7,21 +7,11 @@ use lib.Dec.{eqb, ltb}
 use borrow.Author.Tests.{ltb-false}
 use Rattle.plain.specs.Table.{Table, searched, budget}
 use Rattle.plain.specs.Refusals.{badSize}
-use Rattle.plain.specs.Machine.{changeTrial}
 use Rattle.plain.proofs.Tests.{or-false}
 use Rattle.plain.proofs.Rows.{row-short}
 use Rattle.plain.proofs.Tables.{Valid}
 use Rattle.plain.proofs.Demands.{upto, in-upto, once-upto, length-upto, total-le, start-in, target-in}
 use Rattle.search.proofs.Resumed.{Small}
-use Rattle.table.specs.declared.Op.{Op}
-use Rattle.table.specs.Trials.{trialIn}
-use Rattle.table.specs.Filing.{changeOf}
-use Rattle.table.proofs.Changing.{trial-same}
-use Rattle.session.specs.declared.Session.{Session}
-use Rattle.session.specs.Model.{arraysHeld}
-use Rattle.session.specs.Promises.{Holds}
-
--- ---- limits
 
 pub size-few : (n : ℕ) → badSize n ≡ false → n ≤ 512
 unfolding badSize
@@ -44,8 +34,3 @@ small t v = record {
   rows-short = λ x. omega (arith, row-short (t .edges) x, v .count-ok);
   edges-few = omega (arith, total-le (t .edges) (upto (t .size)) (once-upto (t .size)), v .count-ok);
 }
-
--- ---- the refusals read off the session are the table's
-
-pub trial-here : (s : Session) (t : Table) → Holds s t → (op : Op) (room : ℕ) → trialIn op (s .size) (arraysHeld s) room ≡ changeTrial (changeOf op) t room
-trial-here s t h op room = ap (λ (n : ℕ). trialIn op n (arraysHeld s) room) (h .size-is) ∙ trial-same t (arraysHeld s) (h .stored) op room

@@ -118,12 +118,6 @@ change-back (cut e) = refl
 change-back (mark s) = refl
 change-back (unmark s) = refl
 
-pub op-back : (op : Op) → opFor (changeOf op) ≡ op
-op-back (Add from to) = refl
-op-back (Cut from to) = refl
-op-back (Mark state) = refl
-op-back (Unmark state) = refl
-
 -- ---- the lines of a list of numbers
 
 first-line : (ns : List ℕ) → 0 < length ns → linesIn ns ≡ lineIn (headLine ns) ∷ linesIn (drop 3 ns)
