@@ -178,4 +178,22 @@ games =
     ∷ noLine (record { number = 1; position = atLine 65 })
     ∷ noLine (record { number = 15; position = atLine 65 })
     ∷ [])
+    -- batches: of no change; of moves not come to; of a state never met and one that has finished; of moves along the stem and at the tip; of one change; and a mixed one
+    ∷ knownBy 5 (3 ∷ []) (0 ∷ 1 ∷ 0 ∷ 2 ∷ 0 ∷ 4 ∷ 2 ∷ 3 ∷ 3 ∷ 2 ∷ [])
+    (batch []
+    ∷ batch (makes (cut (0, 4)) ∷ makes (add (2, 4)) ∷ [])
+    ∷ batch (makes (add (4, 0)) ∷ makes (add (1, 4)) ∷ [])
+    ∷ batch (makes (cut (2, 3)) ∷ makes (add (3, 0)) ∷ [])
+    ∷ batch (makes (add (2, 3)) ∷ [])
+    ∷ batch (makes (mark 1) ∷ makes (add (3, 1)) ∷ [])
+    ∷ [])
+    (gameLine 5 5 1
+    ∷ roundLine 5 0 1 2 (0 ∷ 2 ∷ 3 ∷ [])
+    ∷ roundLine 0 5 1 2 (0 ∷ 2 ∷ 3 ∷ [])
+    ∷ roundLine 0 5 1 2 (0 ∷ 2 ∷ 3 ∷ [])
+    ∷ roundLine 6 1 1 2 (0 ∷ 2 ∷ 3 ∷ [])
+    ∷ noneLine 1 4
+    ∷ roundLine 5 4 1 2 (0 ∷ 2 ∷ 3 ∷ [])
+    ∷ roundLine 4 1 0 3 (0 ∷ 1 ∷ 4 ∷ [])
+    ∷ [])
     ∷ []
