@@ -550,7 +550,7 @@ pub fn load(size: u16, start: u16, words: [u64; 8], numbers: &[u16], lent: &mut 
     }
 }
 
-// A call on the arrays of a session: tried and made in the table's, then searched and answered. Where it is refused, the table's arrays have to be put back.
+// A call on the arrays of a session: tried and made in the table's, then searched and answered. Where it is refused, all are as they were.
 fn update_in(
     alone: bool,
     only: BatchLine,
@@ -651,8 +651,7 @@ pub fn is_refused(answer: Answer) -> bool
 }
 
 // A call on a session: one change of the game, or a batch of lines, which are all made or none. Of a batch, `lines` has three numbers for each line (BatchLine); a
-// change alone does not read it. The list lent for the walk comes last. There is one exit, so that the session is copied out and in once; a refused call gets the
-// table's arrays back from it.
+// change alone does not read it. The list lent for the walk comes last. There is one exit, so that the session is copied out and in once.
 pub fn update(s: Session, asked: Update, lines: &[u16], lent: &mut [u16]) -> Outcome
     ensures { λ r. ⌜ Updates (updateOf asked (now (lines .entry))) s (now (lent .entry)) r (now (lent .exit)) ⌝ }
 {
