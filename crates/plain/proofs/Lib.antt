@@ -6,6 +6,7 @@ pub mod Paths
 pub mod Runs
 pub mod Invariant
 pub mod Lassos
+pub mod Walks
 pub mod Bounds
 pub mod Prefix
 pub mod SameRun
@@ -20,6 +21,7 @@ pub mod Tables
 pub mod Unexplored
 pub mod Batches
 pub mod Demands
+pub mod Limits
 pub mod OneByOne
 pub mod Answers
 pub mod Loops

@@ -9,23 +9,25 @@ use lib.Dec.{eqb}
 use lib.ListN.{length, getD, set, drop, length-append, length-set, length-drop}
 use lib.Seq.{getD-set-same, getD-set-other}
 use borrow.Author.Tests.{eqb-true, eqb-false}
-use Rattle.plain.specs.Lists.{elem, In, before, from}
+use Rattle.plain.specs.Lists.{elem, In, before, from, Begins}
 use Rattle.plain.specs.Search.{Graph, Edge, Frame, frame, onPath, Config, outer, nested, exhausted as ended, found, discoveredOf, markedOf, count, visit, finish as finishes, probe, step as stepOf, statesOf, stemOf, cycleOf}
 use Rattle.plain.specs.Notes.{Note, Notes, put, noteVisit, noteMark, noteProbe, noteOf, noted, Below}
 use Rattle.plain.proofs.Tests.{contra, either, not-true, in-nil, out-nil, in-head, in-tail, in-cases, in-one, in-out}
 use Rattle.plain.proofs.Paths.{On, Off, Distinct, on-head, on-cases}
 use Rattle.plain.proofs.Invariant.{Linked, Outer as OuterInv, Marks, Nested as NestedInv, Inv, next-known}
 use Rattle.plain.proofs.Lassos.{path-run, before-from}
+use Rattle.plain.proofs.Walks.{begins-push, begins-pop, begins-at, states-length}
+use Rattle.plain.proofs.Limits.{Limits}
 use Rattle.plain.proofs.Restore.{put-same, put-hit, put-other, ShapeOf, Counted}
 use Rattle.look.specs.Numbers.{noNumber, up, plus}
 use Rattle.look.proofs.Counting.{up-more, plus-more, further-more, no-edge, edge-left, drop-further}
 use Rattle.search.specs.declared.Phase.the-variants.{Outer, Nested, Exhausted, Found}
 use Rattle.search.specs.declared.Walker.{Walker}
 use Rattle.search.specs.Core.{Game, rowOf, Core, coreOf, skipped, left, nesting, finished, returned, emptied, exhausted, closed, withWalker, probed, discover, leaveRoot, deepen, onOpenPath, targetOf, finish, outerStep, nestedStep, step}
-use Rattle.search.specs.Archive.{Begins, rootOf, stampIn}
-use Rattle.search.proofs.Represents.{noteIn, Mirrors, Placed, AtOuter, AtNested, AtReturn, Stands, Matches, Limits}
+use Rattle.search.specs.Archive.{rootOf, stampIn}
+use Rattle.search.proofs.Represents.{noteIn, Mirrors, Placed, AtOuter, AtNested, AtReturn, Stands, Matches}
 use Rattle.search.proofs.Ways.{same-sized, outer-ends, outer-discovers, outer-skips, outer-finishes, nested-leaves, nested-closes, nested-deepens, nested-skips, nested-returns, nested-empties, step-at}
-use Rattle.search.proofs.Places.{begins-push, begins-pop, begins-at, states-length, placed-set, on-test, stem-length, cursors-set}
+use Rattle.search.proofs.Places.{placed-set, on-test, stem-length, cursors-set}
 
 -- ---- stamps
 

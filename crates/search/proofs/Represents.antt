@@ -2,15 +2,15 @@
 use mathlib.Core.Path.{_≡_}
 use mathlib.Core.Bool.{false}
 use mathlib.Core.List.{List, [], _∷_, _++_}
-use Prim.Native.Nat.{ℕ, suc, _+_, _≤_, _<_}
+use Prim.Native.Nat.{ℕ, suc, _+_, _<_}
 use lib.ListN.{length, getD, drop}
-use Rattle.plain.specs.Lists.{elem, In}
+use Rattle.plain.specs.Lists.{elem, In, Begins}
 use Rattle.plain.specs.Search.{Graph, Frame, frame, Config, outer, nested, exhausted, found, discoveredOf, markedOf, count, statesOf, stemOf, cycleOf}
 use Rattle.plain.specs.Notes.{Note, Notes}
 use Rattle.look.specs.Numbers.{noNumber}
 use Rattle.search.specs.declared.Phase.the-variants.{Outer, Nested, Exhausted, Found}
 use Rattle.search.specs.Core.{Game, rowOf, acceptsAt, Core, Sized}
-use Rattle.search.specs.Archive.{Begins, rootOf, stampIn}
+use Rattle.search.specs.Archive.{rootOf, stampIn}
 
 -- the note of a state in the arrays
 abbrev pub noteIn : Core → ℕ → Note
@@ -90,17 +90,3 @@ module _ (g : Graph) where
   pub record Matches (game : Game) : Type 0 where
     pub rows : (v : ℕ) → g .successors v ≡ rowOf game v
     pub acceptance : (v : ℕ) → g .accepting v ≡ acceptsAt game v
-
-  abbrev pub WalkFew : Config → Type 0
-  WalkFew (outer p d k l) = length p ≤ 512
-  WalkFew (nested b p q d k l) = length p + length q ≤ 512
-  WalkFew (exhausted d k l) = Unit {0}
-  WalkFew (found h p q d k l) = Unit {0}
-
-  -- what bounds a configuration
-  pub record Limits (c : Config) : Type 0 where
-    pub below : (x : ℕ) → In x (discoveredOf c) → x < 512
-    pub few : length (discoveredOf c) ≤ 512
-    pub probes-few : count c ≤ 4096
-    pub rows-short : (v : ℕ) → length (g .successors v) ≤ 2048
-    pub walk-few : WalkFew c

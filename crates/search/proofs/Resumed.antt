@@ -2,138 +2,46 @@
 use mathlib.Core.Path.{_≡_, refl, sym, ap, subst, _∙_}
 use mathlib.Core.Logic.{⊎-elim}
 use mathlib.Core.Bool.{Bool, true, false}
-use mathlib.Core.List.{List, [], _∷_, _++_}
+use mathlib.Core.List.{List, [], _∷_}
 use Prim.Native.Nat.{ℕ, zero, suc, _+_, _≤_, _<_}
 use native.Mathlib.Nat.{add-zero, add-suc, suc-add}
 use native.Mathlib.Omega.{arith}
 use lib.Dec.{leb}
-use lib.ListN.{length, getD, set, drop, replicate, length-append, length-set, length-replicate, getD-replicate, length-drop}
+use lib.ListN.{length, getD, set, replicate, length-set, length-replicate, getD-replicate}
 use lib.Seq.{getD-set-same, getD-set-other}
 use borrow.Author.Tests.{leb-true, leb-false}
 use Rattle.plain.specs.Lists.{filter, elem, In}
-use Rattle.plain.specs.Search.{Graph, Edge, Frame, frame, onPath, Config, outer, nested, exhausted, found, discoveredOf, markedOf, visit, finish, probe, step as stepOf, steps, run, statesOf}
+use Rattle.plain.specs.Search.{Graph, Config, discoveredOf, markedOf, steps, run}
 use Rattle.plain.specs.Notes.{Note, Notes, notes, Faithful}
-use Rattle.plain.proofs.Tests.{contra, either, not-true, in-nil, in-head, in-tail, in-cases, in-one, filter-yes, filter-no, in-append}
+use Rattle.plain.proofs.Tests.{contra, either, not-true, in-nil, in-head, in-tail, in-cases, in-one, filter-yes, filter-no}
 use Rattle.plain.proofs.Invariant.{Inv, inv-run}
-use Rattle.plain.proofs.Lassos.{states-on, once-states, walk-once}
-use Rattle.plain.proofs.Bounds.{left, once-short, run-within, discovered-few, probes-twice}
 use Rattle.plain.proofs.Prefix.{discovery, Agree, FirstMeeting}
 use Rattle.plain.proofs.Restore.{Restored, noted-run}
 use Rattle.plain.proofs.Resume.{resumed, resumed-from}
+use Rattle.plain.proofs.Limits.{Limits, Small, within, limits, marked-known}
 use Rattle.look.specs.Numbers.{noNumber}
 use Rattle.search.specs.Core.{Game, Core, runFor, step, rewound}
 use Rattle.search.specs.Archive.{rootOf, stampIn, notesOf, Archived}
-use Rattle.search.proofs.Represents.{Matches, Limits, WalkFew}
-use Rattle.search.proofs.Places.{states-length}
+use Rattle.search.proofs.Represents.{Matches}
 use Rattle.search.proofs.OneStep.{Fits, one-step, stamp-there, stamp-root}
 use Rattle.search.proofs.Rewound.{chain-same, Resumable, rewound-fits}
 
--- a graph of states below a size of at most 512, with at most 2,048 edges
-pub record Small (g : Graph) (size : ℕ) : Type 0 where
-  pub us : List ℕ
-  pub start-in : In (g .start) us
-  pub stays : (x y : ℕ) → In x us → In y (g .successors x) → In y us
-  pub below : (x : ℕ) → In x us → x < size
-  pub size-few : size ≤ 512
-  pub few : length us ≤ 512
-  pub rows-short : (v : ℕ) → length (g .successors v) ≤ 2048
-  pub edges-few : left (λ x. length (g .successors x)) [] us ≤ 2048
+module _ (g : Graph) (size : ℕ) (b : Small g size) (game : Game) (m : Matches g game) where
+  -- n steps of the plain search are behind the arrays
+  abbrev pub At : ℕ → Core → Type 0
+  At n s = Fits g s (notes g n) (run g n)
 
-module _ (g : Graph) (size : ℕ) (b : Small g size) where
-  -- the states of the open path and of the nested search's path fit the walk
-  walk-fits : (c : Config) → Inv g c → ((x : ℕ) → In x (discoveredOf c) → In x (b .us)) → WalkFew g c
-  unfolding onPath
-  walk-fits (outer p d k l) (o, m) w =
-      omega (arith, b .few, once-short (statesOf p) (b .us) (once-states p (o .distinct)) (λ x i. w x (o .known x (states-on x p i))), states-length p)
-  walk-fits (nested s p [] d k l) (o, (old, n)) w =
-      omega (arith, b .few, once-short (statesOf (frame s [] ∷ p)) (b .us) (once-states (frame s [] ∷ p) (o .distinct)) (λ x i. w x (o .known x (states-on x (frame s [] ∷ p) i))), states-length (frame s [] ∷ p))
-  walk-fits (nested s p (frame x ts ∷ q) d k l) (o, (old, n)) w =
-      let once = walk-once g s [] p x ts q (o .distinct) (n .chain) (n .distinct) (λ y i. n .done y (n .known y i) .1) in
-      let tail = drop 1 (statesOf (frame x ts ∷ q)) in
-      omega (
-        arith,
-        b .few,
-        length-append (statesOf (frame s [] ∷ p)) tail,
-        length-drop 1 (statesOf (frame x ts ∷ q)),
-        states-length (frame s [] ∷ p),
-        states-length (frame x ts ∷ q),
-        once-short (statesOf (frame s [] ∷ p) ++ tail) (b .us) once (λ y i. ⊎-elim
-            (λ j. w y (o .known y (states-on y (frame s [] ∷ p) j)))
-            (λ j. w y (n .done y (n .known y (states-on y (frame x ts ∷ q) (in-drop y (statesOf (frame x ts ∷ q)) j))) .0))
-            (in-append y (statesOf (frame s [] ∷ p)) tail i)),
-      )
-    where
-      in-drop : (y : ℕ) (xs : List ℕ) → In y (drop 1 xs) → In y xs
-      in-drop y [] i = i
-      in-drop y (z ∷ xs) i = in-tail y z xs i
-  walk-fits (exhausted d k l) v w = tt
-  walk-fits (found h p q d k l) v w = tt
+  at-next : (n : ℕ) (s : Core) → At n s → At (suc n) (step game s)
+  unfolding notes steps
+  at-next n s a =
+      let w = noted-run g n in
+      one-step g game m s (notes g n) (run g n) (inv-run g n) (w .shape) (w .counted) (limits g size b n) (limits g size b (suc n)) (a .0) (a .1)
 
-  -- what is discovered lies below the size
-  within : (n x : ℕ) → In x (discoveredOf (run g n)) → x < size
-  within n x i = b .below x (run-within g (b .us) (b .start-in) (b .stays) n x i)
-
-  pub limits : (n : ℕ) → Limits g (run g n)
-  limits n = record {
-    below = λ x i. omega (arith, within n x i, b .size-few);
-    few = omega (arith, b .few, discovered-few g (b .us) (b .start-in) (b .stays) n);
-    probes-few = omega (arith, b .edges-few, probes-twice g (b .us) (b .start-in) (b .stays) n);
-    rows-short = b .rows-short;
-    walk-few = walk-fits (run g n) (inv-run g n) (run-within g (b .us) (b .start-in) (b .stays) n);
-  }
-
-  module _ (game : Game) (m : Matches g game) where
-    -- n steps of the plain search are behind the arrays
-    abbrev pub At : ℕ → Core → Type 0
-    At n s = Fits g s (notes g n) (run g n)
-
-    at-next : (n : ℕ) (s : Core) → At n s → At (suc n) (step game s)
-    unfolding notes steps
-    at-next n s a =
-        let w = noted-run g n in
-        one-step g game m s (notes g n) (run g n) (inv-run g n) (w .shape) (w .counted) (limits n) (limits (suc n)) (a .0) (a .1)
-
-    -- THE SEARCH of the arrays is the plain search: j steps more
-    pub at-run : (j n : ℕ) (s : Core) → At n s → At (n + j) (runFor game j s)
-    unfolding runFor
-    at-run zero n s a = rw add-zero a
-    at-run (suc j) n s a = subst (λ (i : ℕ). At i (runFor game j (step game s))) (suc-add n j ∙ sym (add-suc n j)) (at-run j (suc n) (step game s) (at-next n s a))
-
--- ---- what is marked is discovered
-
-module _ (g : Graph) where
-  abbrev Known : Config → Type 0
-  Known c = (x : ℕ) → In x (markedOf c) → In x (discoveredOf c)
-
-  visit-known : (b : Bool) (s t : ℕ) (ts : List ℕ) (p : List Frame) (d k : List ℕ) (l : List Edge) → Inv g (visit g b s t ts p d k l) → Known (visit g b s t ts p d k l)
-  visit-known true s t ts p d k l (o, m) x i = m .done x i .0
-  visit-known false s t ts p d k l (o, m) x i = m .done x i .0
-
-  finish-known : (b : Bool) (s : ℕ) (p : List Frame) (d k : List ℕ) (l : List Edge) → Inv g (finish g b s p d k l) → Known (finish g b s p d k l)
-  finish-known true s p d k l (o, (old, m)) x i = m .done x i .0
-  finish-known false s p d k l (o, m) x i = m .done x i .0
-
-  probe-known : (a b : Bool) (s : ℕ) (p : List Frame) (x t : ℕ) (ts : List ℕ) (q : List Frame) (d k : List ℕ) (l : List Edge) → Inv g (probe g a b s p x t ts q d k l)
-      → Known (outer p d k l) → Known (probe g a b s p x t ts q d k l)
-  probe-known true b s p x t ts q d k l v h = h
-  probe-known false true s p x t ts q d k l (o, (old, m)) h = λ y i. m .done y i .0
-  probe-known false false s p x t ts q d k l (o, (old, m)) h = λ y i. m .done y i .0
-
-  step-known : (c : Config) → Inv g (stepOf g c) → Known c → Known (stepOf g c)
-  unfolding stepOf
-  step-known (outer [] d k l) v h = h
-  step-known (outer (frame s [] ∷ p) d k l) v h = finish-known (g .accepting s) s p d k l v
-  step-known (outer (frame s (t ∷ ts) ∷ p) d k l) v h = visit-known (elem t d) s t ts p d k ((s, t) ∷ l) v
-  step-known (nested s p [] d k l) v h = h
-  step-known (nested s p (frame x [] ∷ q) d k l) v h = h
-  step-known (nested s p (frame x (t ∷ ts) ∷ q) d k l) v h = probe-known (onPath t (frame s [] ∷ p)) (elem t k) s p x t ts q d k ((x, t) ∷ l) v h
-  step-known (exhausted d k l) v h = h
-  step-known (found t p q d k l) v h = h
-
-  marked-known : (n : ℕ) → Known (run g n)
-  unfolding steps
-  marked-known zero = λ x i. absurd (in-nil x i)
-  marked-known (suc n) = step-known (run g n) (inv-run g (suc n)) (marked-known n)
+  -- THE SEARCH of the arrays is the plain search: j steps more
+  pub at-run : (j n : ℕ) (s : Core) → At n s → At (n + j) (runFor game j s)
+  unfolding runFor
+  at-run zero n s a = rw add-zero a
+  at-run (suc j) n s a = subst (λ (i : ℕ). At i (runFor game j (step game s))) (suc-add n j ∙ sym (add-suc n j)) (at-run j (suc n) (step game s) (at-next n s a))
 
 -- ---- what outlives a search
 

@@ -16,13 +16,14 @@ use Rattle.plain.specs.Notes.{Note, Notes, Below}
 use Rattle.plain.proofs.Tests.{contra, either, in-nil, or-false}
 use Rattle.plain.proofs.Paths.{On, Off, Distinct, on-head, on-tail}
 use Rattle.plain.proofs.Invariant.{Inv}
+use Rattle.plain.proofs.Limits.{Limits}
 use Rattle.plain.proofs.Prefix.{discovery}
 use Rattle.look.specs.Numbers.{noNumber, up}
 use Rattle.look.proofs.Counting.{up-more}
 use Rattle.search.specs.declared.Phase.the-variants.{Outer}
 use Rattle.search.specs.Core.{Core, coreOf, upTo, forgetAbove, climb, retraceWalk, retraceDepth, rewound, Lengths}
 use Rattle.search.specs.Archive.{notesOf}
-use Rattle.search.proofs.Represents.{Placed, Limits}
+use Rattle.search.proofs.Represents.{Placed}
 use Rattle.search.proofs.Ways.{forget-length, forget-below, forget-behind, walk-size, depth-size}
 use Rattle.search.proofs.OneStep.{Fits, stamp-all}
 

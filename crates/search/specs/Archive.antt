@@ -2,17 +2,13 @@
 use Prim.Native.Nat.{ℕ, _<_}
 use mathlib.Core.Path.{_≡_}
 use mathlib.Core.Bool.{false, cond}
-use mathlib.Core.List.{List, [], _∷_, _++_}
+use mathlib.Core.List.{List, [], _∷_}
 use lib.ListN.{length, getD}
 use Rattle.plain.specs.Lists.{elem, In}
 use Rattle.plain.specs.Search.{Graph, Frame, frame, Config, outer, nested, exhausted, found, discoveredOf, markedOf, run}
 use Rattle.plain.specs.Notes.{Notes, Faithful}
 use Rattle.look.specs.Numbers.{noNumber}
 use Rattle.search.specs.Core.{Lengths}
-
--- xs begins with ys
-abbrev pub Begins : List ℕ → List ℕ → Type 0
-Begins ys xs = (rest : List ℕ) × (xs ≡ ys ++ rest)
 
 -- the newest state of a path
 abbrev pub topOf : List Frame → List ℕ

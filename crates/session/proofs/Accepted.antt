@@ -29,7 +29,8 @@ use Rattle.search.specs.Core.{Result}
 use Rattle.search.specs.Archive.{rootOf, notesOf, Archived}
 use Rattle.search.proofs.Scans.{ran-from}
 use Rattle.search.proofs.Ended.{rewound-spent}
-use Rattle.search.proofs.Resumed.{Small, resume-fits, limits}
+use Rattle.plain.proofs.Limits.{Small, limits, size-few, small}
+use Rattle.search.proofs.Resumed.{resume-fits}
 use Rattle.table.specs.declared.Update.{Update}
 use Rattle.table.specs.declared.BatchLine.{BatchLine}
 use Rattle.session.specs.declared.Session.{Session}
@@ -44,7 +45,6 @@ use Rattle.table.specs.Batches.{linesIn, statesIn, numbersIn, TriedIn, callTrie
 use Rattle.table.proofs.Batches.{lines-other}
 use Rattle.session.specs.Model.{Records, recordsOf, recordsIn, arraysHeld, gameIn, allPassedOver, namedMost, earliestOf, resumptionOf, backAt, Sought, verdictOf, sessionOf, refusing, answerIs, shownWalk, Settles, isAlone, onlyLine, UpdatedIn}
 use Rattle.session.specs.Promises.{positionOf, shown, Tells, heightOf, Holds, updateOf, callOf, withoutGame, Updates}
-use Rattle.session.proofs.Held.{size-few, small}
 use Rattle.session.proofs.Told.{tells-answer, tells-written, tells-fits, never-refused}
 use Rattle.session.proofs.Sought.{matches, Reached, reached}
 use Rattle.session.proofs.Asking.{Asks, asked-so}

@@ -1,5 +1,4 @@
 pub mod Writing
-pub mod Held
 pub mod Told
 pub mod Sought
 pub mod Asking

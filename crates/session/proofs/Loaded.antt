@@ -13,6 +13,7 @@ use Rattle.plain.specs.Claims.{Arises, loaded}
 use Rattle.plain.proofs.Trials.{unheld}
 use Rattle.plain.proofs.Tables.{Valid, valid}
 use Rattle.plain.proofs.Demands.{verdict-right}
+use Rattle.plain.proofs.Limits.{size-few, small}
 use Rattle.rows.specs.Change.{Rows}
 use Rattle.look.specs.Numbers.{noNumber, plus}
 use Rattle.search.specs.Core.{Game, Result, Lengths, Fresh}
@@ -29,7 +30,6 @@ use Rattle.table.specs.Trials.{Arrays, tried}
 use Rattle.table.specs.Filing.{Filed, Stored}
 use Rattle.session.specs.Model.{Records, recordsOf, gameIn, recordsIn, backAt, verdictOf, noVerdict, sessionOf, noGame, refusing, answerIs, Settles}
 use Rattle.session.specs.Promises.{shown, Tells, Holds, Loads}
-use Rattle.session.proofs.Held.{size-few, small}
 use Rattle.table.proofs.Trying.{tried-refused}
 use Rattle.session.proofs.Told.{tells-answer, tells-written, tells-fits}
 use Rattle.session.proofs.Sought.{matches, Reached, reached}

@@ -3,7 +3,7 @@ use mathlib.Core.Path.{_≡_, refl, sym, ap, subst, _∙_, subst⁻¹}
 use mathlib.Core.Logic.{inl, inr, ⊎-elim, _⊎_}
 use mathlib.Core.Bool.{Bool, true, false, _&&_, _||_, not}
 use mathlib.Core.List.{List, [], _∷_, _++_, append-assoc, map}
-use Prim.Native.Nat.{ℕ, suc, _+_, _-_, _≤_, _<_}
+use Prim.Native.Nat.{ℕ, suc, _-_, _≤_, _<_}
 use native.Mathlib.Omega.{arith}
 use lib.Dec.{ltb}
 use lib.ListN.{length, getD, take, drop, length-append, take-append-drop, length-take, List·getD-append}
@@ -33,7 +33,7 @@ use Rattle.rows.specs.Change.{Rows}
 use Rattle.rows.proofs.Entries.{entries-length, entries-first}
 use Rattle.look.specs.Numbers.{noNumber}
 use Rattle.search.specs.Archive.{notesOf}
-use Rattle.search.proofs.Places.{states-length}
+use Rattle.plain.proofs.Walks.{states-length}
 use Rattle.table.specs.declared.Op.the-variants.{Mark}
 use Rattle.table.specs.declared.Subject.{Subject}
 use Rattle.table.specs.declared.Subject.the-variants as Subject
@@ -47,8 +47,7 @@ use Rattle.plain.specs.Claims.{AllAccepted}
 use Rattle.plain.proofs.OuterProbes.{looked-edge}
 use Rattle.plain.proofs.Prefix.{meets-one, unmet-one}
 use Rattle.plain.proofs.Batches.{Taken, passed-step}
-use Rattle.search.proofs.Resumed.{limits}
-use Rattle.session.proofs.Held.{size-few, small}
+use Rattle.plain.proofs.Limits.{limits, size-few, small}
 use Rattle.table.proofs.Changing.{named-below}
 use Rattle.table.proofs.Batches.{change-back}
 use Rattle.table.specs.Batches.{opFor}

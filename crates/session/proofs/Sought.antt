@@ -22,14 +22,14 @@ use Rattle.search.specs.Archive.{Archived}
 use Rattle.search.proofs.Represents.{Matches, Stands}
 use Rattle.search.proofs.Ways.{run-sized, rewound-sized}
 use Rattle.search.proofs.OneStep.{Fits}
-use Rattle.search.proofs.Resumed.{limits, at-run, archived}
+use Rattle.plain.proofs.Limits.{limits, small, budget-bound}
+use Rattle.search.proofs.Resumed.{at-run, archived}
 use Rattle.search.proofs.Ended.{run-kept}
 use Rattle.session.specs.declared.Verdict.{Verdict}
 use Rattle.session.specs.declared.Resumption.{Resumption}
 use Rattle.session.specs.declared.Resumption.the-variants.{Nowhere, At}
 use Rattle.session.specs.Model.{Records, gameIn, recordsIn, isFound, verdictOf, bound, backAt, Sought}
 use Rattle.session.specs.Promises.{Tells, heightOf}
-use Rattle.session.proofs.Held.{small, budget-bound}
 use Rattle.table.specs.Trials.{Arrays}
 use Rattle.table.specs.Filing.{Stored}
 

@@ -9,7 +9,8 @@ use Rattle.plain.specs.Table.{Table, searched, final}
 use Rattle.plain.specs.Refusals.{Load, accepted, refused, loadTrial}
 use Rattle.plain.specs.Machine.{BatchLine, changesIn, callFor, batchCall, Position as PlainPosition, alone, atLine, Refusal as PlainRefusal, Update as PlainUpdate, single, batch, loadAnswer, tableOf, Call, answerTo, tableAfter, answers, written, Line, roundLine, noneLine, noLine, answerLine, answerLines}
 use Rattle.plain.specs.Claims.{Arises, OneByOne, LineTrue, LineCounted, LoopTold}
-use Rattle.search.specs.Archive.{Begins, Archived}
+use Rattle.plain.specs.Lists.{Begins}
+use Rattle.search.specs.Archive.{Archived}
 use Rattle.session.specs.declared.Answer.{Answer}
 use Rattle.session.specs.declared.Answer.the-variants.{Refused, Clear, Round}
 use Rattle.table.specs.declared.Refusal.{Refusal}
