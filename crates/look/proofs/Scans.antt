@@ -10,9 +10,10 @@ use lib.Dec.{ltb, leb}
 use lib.ListN.{length, getD}
 use borrow.Author.Tests.{ltb-true, ltb-false, leb-true, lt-ltb, le-ltb, le-leb, lt-leb}
 use Rattle.plain.proofs.Tests.{contra, either, and-true}
-use Rattle.rows.specs.Rows.{rowAt}
+use Rattle.rows.specs.Rows.{rowAt, Compressed}
 use Rattle.rows.proofs.Paste.{same-place}
-use Rattle.rows.proofs.Entries.{row-length, row-at}
+use Rattle.rows.proofs.Entries.{row-length, row-at, no-row}
+use Rattle.rows.proofs.Change.{starts-within}
 use Rattle.look.specs.declared.Row.{Row}
 use Rattle.look.specs.declared.Scanned.{Scanned}
 use Rattle.look.specs.Numbers.{noNumber, up, raised}
@@ -89,7 +90,7 @@ module _ (targets starts : List ℕ) (v : ℕ) where
           ∙ same-place targets (omega arith)
 
 -- rows that a table has fit
-pub row-fits : (targets starts : List ℕ) (v : ℕ) → (v < 512 → getD starts (suc v) 0 ≤ 2048) → (512 ≤ v → rowAt targets starts v ≡ [])
+row-fits : (targets starts : List ℕ) (v : ℕ) → (v < 512 → getD starts (suc v) 0 ≤ 2048) → (512 ≤ v → rowAt targets starts v ≡ [])
     → rowIn targets starts v ≡ rowAt targets starts v
 row-fits targets starts v ends none = ⊎-elim (row-whole targets starts v) (λ e. row-none targets starts v e ∙ sym (none (past e))) (either (fits starts v))
   where
@@ -97,6 +98,9 @@ row-fits targets starts v ends none = ⊎-elim (row-whole targets starts v) (λ 
     past e = ⊎-elim
         (λ t. absurd (contra (le-leb (getD starts (suc v) 0) 2048 (ends (ltb-true v 512 t))) (rw t at e)))
         (ltb-false v 512) (either (ltb v 512))
+
+pub row-filed : (size : ℕ) (targets starts : List ℕ) → Compressed size targets starts → (v : ℕ) → rowIn targets starts v ≡ rowAt targets starts v
+row-filed size targets starts r v = row-fits targets starts v (λ h. starts-within size targets starts r (suc v)) (λ h. no-row targets starts size r v (omega (arith, r .states)))
 
 -- ---- a scan
 

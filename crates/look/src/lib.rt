@@ -9,9 +9,9 @@ ghost use Rattle.look.specs.Numbers.{up as upped, further as oneFurther,
 ghost use Rattle.look.specs.Scan.{Places, Spans, rowIn, Swept};
 
 // The places of a row: those from one up to another.
-struct Row {
-    from: usize,
-    stop: usize,
+pub struct Row {
+    pub from: usize,
+    pub stop: usize,
 }
 
 // Where a scan of a row ends: at the place of an edge, and its target, or behind the last edge.
@@ -113,7 +113,7 @@ pub fn fill(a: &mut [u16; 512], x: u16)
 }
 
 // The one function that hands a target to the search: the entry at that place. The count that it is lent rises by one.
-fn look(targets: &[u16; 2048], spent: &mut u16, at: usize) -> u16
+pub fn look(targets: &[u16; 2048], spent: &mut u16, at: usize) -> u16
     requires { ⌜ (length (now targets) ≡ 2048) × (at < 2048) ⌝ }
     ensures { λ r. ⌜ (r ≡ getD (now (targets .entry)) at 0) × (now (spent .exit) ≡ (now (spent .entry) + 1) % 65536) ⌝ }
 {
@@ -123,7 +123,7 @@ fn look(targets: &[u16; 2048], spent: &mut u16, at: usize) -> u16
 
 // The places of the row of v. One that goes on past the array of targets, or that belongs to a state of 512 or more, counts as empty: no table
 // has such a row. So no turn of a scan has to test where the array ends.
-fn row_of(starts: &[u16; 513], v: u16) -> Row
+pub fn row_of(starts: &[u16; 513], v: u16) -> Row
     requires { ⌜ length (now starts) ≡ 513 ⌝ }
     ensures { λ r. ⌜ Spans (now (starts .entry)) v r ⌝ }
 {

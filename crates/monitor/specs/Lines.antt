@@ -9,7 +9,7 @@ use Rattle.line.specs.Fields.{newline}
 use Rattle.line.specs.Records.{recordOf}
 use Rattle.line.specs.declared.Record.{Record}
 use Rattle.answer.specs.Rendering.{rendered}
-use Rattle.session.specs.declared.Answer.{Answer}
+use Rattle.verdict.specs.declared.Answer.{Answer}
 use Rattle.lead.specs.declared.Lead.{Lead}
 use Rattle.lead.specs.Asked.{asked}
 use Rattle.watch.specs.Model.{linesMost, linesTold}

@@ -3,7 +3,7 @@ use lead::Lead;
 use lead::Task;
 use libc::STDIN_FILENO;
 use libc::STDOUT_FILENO;
-use session::Answer;
+use verdict::Answer;
 ghost use mathlib.Core.Path.{_≡_};
 ghost use lib.ListN.{length};
 ghost use Rattle.monitor.specs.Lines.{chunk, heldMost, Within, Took, Next, isMore, hasLine, isLine, endOf, bytesTold, Printed};

@@ -11,13 +11,13 @@
 // - of no round 1, and the probes spent and kept
 // - of a round 2, the probes, the lengths of stem and cycle, and the walk
 // - behind each a sum of the lent list
-use session::Answer;
 use session::Outcome;
 use session::Session;
 use table::Op;
 use table::Position;
 use table::Refusal;
 use table::Update;
+use verdict::Answer;
 ghost use Prim.Native.Nat.{_≤_, _<_};
 
 // A batch begins with this number.

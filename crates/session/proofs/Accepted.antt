@@ -38,14 +38,15 @@ use Rattle.session.specs.declared.Settled.{Settled}
 use Rattle.session.specs.declared.Resumption.{Resumption}
 use Rattle.session.specs.declared.Resumption.the-variants.{Nowhere, At}
 use Rattle.session.specs.declared.Verdict.{Verdict}
-use Rattle.session.specs.declared.Answer.the-variants.{Refused}
+use Rattle.verdict.specs.declared.Answer.the-variants.{Refused}
 use Rattle.table.specs.Trials.{Arrays}
 use Rattle.table.specs.Filing.{Stored}
 use Rattle.table.specs.Batches.{linesIn, statesIn, numbersIn, TriedIn, callTriedIn, positionAt}
 use Rattle.table.proofs.Batches.{lines-other}
-use Rattle.session.specs.Model.{Records, recordsOf, recordsIn, arraysHeld, gameIn, allPassedOver, namedMost, earliestOf, resumptionOf, backAt, Sought, verdictOf, sessionOf, refusing, answerIs, shownWalk, Settles, isAlone, onlyLine, UpdatedIn}
-use Rattle.session.specs.Promises.{positionOf, shown, Tells, heightOf, Holds, updateOf, callOf, withoutGame, Updates}
-use Rattle.session.proofs.Told.{tells-answer, tells-written, tells-fits, never-refused}
+use Rattle.session.specs.Model.{Records, recordsOf, recordsIn, arraysHeld, gameIn, allPassedOver, namedMost, earliestOf, resumptionOf, backAt, Sought, verdictOf, sessionOf, Settles, isAlone, onlyLine, UpdatedIn}
+use Rattle.session.specs.Promises.{heightOf, Holds, updateOf, callOf, withoutGame, Updates}
+use Rattle.verdict.proofs.Told.{told, tells-fits, never-refused}
+use Rattle.verdict.specs.Answers.{refusing, answerIs, shownWalk, positionOf, shown, Tells, Answered}
 use Rattle.session.proofs.Sought.{matches, Reached, reached}
 use Rattle.session.proofs.Asking.{Asks, asked-so}
 use Rattle.session.proofs.FirstMet.{earliest-is}
@@ -247,19 +248,16 @@ module _ (u : PlainUpdate) (ns : List ℕ) (s : Session) (b : Arrays) (a : Recor
   abbrev plain : PlainAnswer
   plain = answer (verdict (final t′)) (count (final t′) - kept u t) (kept u t)
 
-  next-written : (lent lent′ : List ℕ) → room ≤ length lent → (v .stem ≤ v .length → v .length ≤ 512 → v .length ≤ length lent → lent′ ≡ shownWalk (v .length) (a .walk) lent) → lent′ ≡ written plain lent
-  next-written lent lent′ e wrote =
+  next-answers : (lent lent′ : List ℕ) → room ≤ length lent → (v .stem ≤ v .length → v .length ≤ 512 → v .length ≤ length lent → lent′ ≡ shownWalk (v .length) (a .walk) lent)
+      → Answered plain lent (answerIs (v .spent) (v .kept) (v .stem) (v .length)) lent′
+  next-answers lent lent′ e wrote =
       let w = worth in
-      let f = tells-fits v (verdict (final t′)) (a .walk) (t′ .size) (w .tells) (verdict-right t′ ok′ .short) in
+      let f = tells-fits (v .stem) (v .length) (verdict (final t′)) (a .walk) (t′ .size) (w .tells) (verdict-right t′ ok′ .short) in
       let size : t′ .size ≡ t .size = update-size u t in
-      wrote (f .0) (omega (arith, f .1, size-few (t′ .size) (ok′ .size-ok))) (omega (arith, f .1, size, update-room u t room yes-it-is))
-      ∙ tells-written v (verdict (final t′)) (a .walk) lent (count (final t′) - kept u t) (kept u t) (w .tells)
-
-  next-answer : (lent lent′ : List ℕ) → lent′ ≡ written plain lent → answerLine plain ≡ shown (answerIs v) lent′ ∷ []
-  next-answer lent lent′ e =
-      let w = worth in
-      tells-answer v (verdict (final t′)) (a .walk) lent (count (final t′) - kept u t) (kept u t) (w .tells) (omega (arith, w .kept-is, w .adds-up)) (w .kept-is)
-      ∙ ap (λ (x : List ℕ). shown (answerIs v) x ∷ []) (sym e)
+      let rest : v .spent ≡ count (final t′) - kept u t = omega (arith, w .kept-is, w .adds-up) in
+      subst (λ (x : ℕ × ℕ). Answered (answer (verdict (final t′)) (x .0) (x .1)) lent (answerIs (v .spent) (v .kept) (v .stem) (v .length)) lent′) (λ i. (rest i, w .kept-is i))
+      (told (v .spent) (v .kept) (v .stem) (v .length) (verdict (final t′)) (a .walk) lent lent′ (w .tells)
+      (wrote (f .0) (omega (arith, f .1, size-few (t′ .size) (ok′ .size-ok))) (omega (arith, f .1, size, update-room u t room yes-it-is))))
 
 -- ---- the contract of a call
 
@@ -312,15 +310,14 @@ module _ (u : PlainUpdate) (alone : Bool) (ns : List ℕ) (q : Asks u alone (lin
   call-refused : (n : ℕ) → tried .trial ≡ refused n → Updates u s lent (record { answer = refusing n (positionAt alone (tried .position)); session = s }) lent
   unfolding shown written answerLine trialOf
   call-refused n e = record {
-    answers = λ t h. ap answerLine (told t h);
-    writes = λ t h. sym (ap (λ (x : PlainAnswer). written x lent) (told t h));
+    answers = λ t h. record { line = ap answerLine (refused-as t h); list = sym (ap (λ (x : PlainAnswer). written x lent) (refused-as t h)) };
     holds = λ t h. subst⁻¹ (λ (x : Table). Holds s x) (table-refused (callOf u lent) t n (trial-is t h ∙ e)) h;
     refused = λ m z. (refl, refl);
     no-game = λ z. let w = none-is z in ap (λ (k : ℕ). refusing k (positionAt alone (tried .position))) (refused-same (sym e ∙ w .0)) ∙ w .1;
   }
     where
-      told : (t : Table) → Holds s t → answerTo (callOf u lent) t ≡ refusal (record { number = n; position = positionOf (positionAt alone (tried .position)) })
-      told t h =
+      refused-as : (t : Table) → Holds s t → answerTo (callOf u lent) t ≡ refusal (record { number = n; position = positionOf (positionAt alone (tried .position)) })
+      refused-as t h =
           answer-refused (callOf u lent) t n (trial-is t h ∙ e)
           ∙ ap (λ (p : PlainPosition). refusal (record { number = n; position = p })) (position-is t h)
 
@@ -332,12 +329,11 @@ module _ (u : PlainUpdate) (alone : Bool) (ns : List ℕ) (q : Asks u alone (lin
       → Updates u s lent (record { answer = r .answer; session = sessionOf (s .size) (s .start) b a (r .verdict) (plus (r .verdict .kept) (r .verdict .spent)) }) lent′
   unfolding trialOf
   call-accepted lent′ b a r e new w = rw (w .answer-is) (record {
-    answers = λ t h. ap answerLine (answer-accepted (callOf u lent) t (is t h))
-        ∙ next-answer u ns s b a (r .verdict) (w .sought) t h (length lent) (is t h) (lines t h) (stored t h) lent lent′ (list t h);
-    writes = λ t h. list t h ∙ sym (ap (λ (x : PlainAnswer). written x lent) (answer-accepted (callOf u lent) t (is t h)));
+    answers = λ t h. subst⁻¹ (λ (x : PlainAnswer). Answered x lent (answerIs (r .verdict .spent) (r .verdict .kept) (r .verdict .stem) (r .verdict .length)) lent′) (answer-accepted (callOf u lent) t (is t h))
+        (next-answers u ns s b a (r .verdict) (w .sought) t h (length lent) (is t h) (lines t h) (stored t h) lent lent′ (omega arith) (w .wrote));
     holds = λ t h. subst⁻¹ (λ (x : Table). Holds (next u ns s b a (r .verdict) (w .sought) t h (length lent) (is t h) (lines t h) (stored t h)) x)
         (table-accepted (callOf u lent) t (is t h)) (next-holds u ns s b a (r .verdict) (w .sought) t h (length lent) (is t h) (lines t h) (stored t h));
-    refused = λ m z. absurd (never-refused (r .verdict) m z);
+    refused = λ m z. absurd (never-refused (r .verdict .spent) (r .verdict .kept) (r .verdict .stem) (r .verdict .length) m z);
     no-game = λ z. absurd (refused-not (sym (none-is z .0) ∙ e));
   })
     where
@@ -349,9 +345,6 @@ module _ (u : PlainUpdate) (alone : Bool) (ns : List ℕ) (q : Asks u alone (lin
 
       stored : (t : Table) (h : Holds s t) → Stored (applied u t) b
       stored t h = subst⁻¹ (Stored (applied u t)) new (stored-is t h (is t h))
-
-      list : (t : Table) (h : Holds s t) → lent′ ≡ written (plain u ns s b a (r .verdict) (w .sought) t h (length lent) (is t h) (lines t h) (stored t h)) lent
-      list t h = next-written u ns s b a (r .verdict) (w .sought) t h (length lent) (is t h) (lines t h) (stored t h) lent lent′ (omega arith) (w .wrote)
 
       refused-not : {n : ℕ} → refused n ≡ accepted → ⊥
       refused-not z = let k : _≡_ {A = ℕ} 0 1 = cc in omega arith

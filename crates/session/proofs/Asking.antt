@@ -20,9 +20,10 @@ use Rattle.table.specs.Filing.{Stored, changeOf}
 use Rattle.table.specs.Batches.{linesIn, numbersIn, lineTrialIn, TriedIn, aheadTrial, callTriedIn, positionAt}
 use Rattle.table.proofs.Pairs.{outside-from}
 use Rattle.table.proofs.Batches.{line-makes, tried-stop, call-on, call-stop, batch-same, batch-stored, single-same, single-stored}
-use Rattle.session.specs.declared.Answer.the-variants.{Refused}
-use Rattle.session.specs.Model.{isAlone, onlyLine, refusing}
-use Rattle.session.specs.Promises.{positionOf, updateOf, withoutGame}
+use Rattle.verdict.specs.declared.Answer.the-variants.{Refused}
+use Rattle.verdict.specs.Answers.{refusing, positionOf}
+use Rattle.session.specs.Model.{isAlone, onlyLine}
+use Rattle.session.specs.Promises.{updateOf, withoutGame}
 
 -- lines that are tried alone or as a batch, and what is asked of the plain table
 pub record Asks (u : PlainUpdate) (alone : Bool) (xs : List PlainLine) : Type 0 where

@@ -1,27 +1,28 @@
 -- DEMAND 3: for every list of calls, of any length, accepted and refused in any order, from an accepted load on; and with it demand 2 of every answer.
 -- Assumes nothing.
-use mathlib.Core.Path.{_≡_, refl, sym, ap, subst, _∙_}
+use mathlib.Core.Path.{_≡_, refl, sym, ap, subst, subst⁻¹, _∙_}
 use Prim.Native.Nat.{ℕ}
 use mathlib.Core.List.{List, [], _∷_, _++_, map}
 use lib.ListN.{length}
 use Rattle.plain.specs.Table.{Table}
 use Rattle.plain.specs.Refusals.{Trial, Load, accepted, refused, loadTrial}
-use Rattle.plain.specs.Machine.{Change, BatchLine, makes, changesIn, Update, single, batch, Call, callFor, trialOf, Answer as PlainAnswer, tableOf, loadAnswer, answerTo, tableAfter, answers, written, Line, answerLine, answerLines}
-use Rattle.plain.proofs.Answers.{first-line, load-told, call-told}
+use Rattle.plain.specs.Machine.{Change, BatchLine, makes, changesIn, Update, single, batch, Call, callFor, trialOf, Answer as PlainAnswer, tableOf, loadAnswer, answerTo, tableAfter, answers, Line, answerLine, answerLines}
+use Rattle.plain.proofs.Answers.{load-told, call-told}
 use Rattle.plain.proofs.OneByOne.{answer-refused, one-by-one, as-one}
 use Rattle.plain.proofs.Loops.{loop-told}
-use Rattle.session.specs.declared.Answer.{Answer}
+use Rattle.verdict.specs.declared.Answer.{Answer}
 use Rattle.session.specs.declared.Session.{Session}
 use Rattle.session.specs.declared.Outcome.{Outcome}
-use Rattle.session.specs.Promises.{shown, NoRefusal, callOf, callIn, Holds, Loads, Updates, Exchange, Served, done, call, CallRight, EachCall, AllRight, Demand3, LoopsTold, SameCall, SameEnd}
-use Rattle.session.proofs.Told.{shown-refused, told-refused}
+use Rattle.session.specs.Promises.{callOf, callIn, Holds, Loads, Updates, Exchange, Served, done, call, CallRight, EachCall, AllRight, Demand3, LoopsTold, SameCall, SameEnd}
+use Rattle.verdict.proofs.Told.{shown-refused, told-refused, answered-once}
+use Rattle.verdict.specs.Answers.{shown, NoRefusal, Answered}
 
 -- one call, by its contract alone
 call-right : (x : Exchange) (s : Session) (t : Table) (r : Outcome) → Holds s t → Updates (x .asked) s (x .lent) r (x .after) → x .answered ≡ r .answer → CallRight x t
 call-right x s t r h c e =
-    let a : answerLine (answerTo (callIn x) t) ≡ shown (x .answered) (x .after) ∷ [] = c .answers t h ∙ ap (λ (y : Answer). shown y (x .after) ∷ []) (sym e) in
-    let w = call-told (callIn x) t (shown (x .answered) (x .after)) (h .arises) a in
-    record { answers = a; writes = c .writes t h; counts = w .counts; truth = w .truth }
+    let a : Answered (answerTo (callIn x) t) (x .lent) (x .answered) (x .after) = subst⁻¹ (λ (y : Answer). Answered (answerTo (callIn x) t) (x .lent) y (x .after)) e (c .answers t h) in
+    let w = call-told (callIn x) t (shown (x .answered) (x .after)) (h .arises) (a .line) in
+    record { answers = a; counts = w .counts; truth = w .truth }
 
 -- every call of a list, from a session that holds a table
 all-right : (s : Session) (t : Table) (xs : List Exchange) → Holds s t → Served s xs → AllRight xs t
@@ -36,12 +37,12 @@ unfolding answers answerLines
 same-lines [] t a = refl
 same-lines (x ∷ xs) t a =
     ap (λ (ls : List Line). shown (x .answered) (x .after) ∷ ls) (same-lines xs (tableAfter (callIn x) t) (a .1))
-    ∙ ap (λ (ls : List Line). ls ++ answerLines (answers (map callIn xs) (tableAfter (callIn x) t))) (sym (a .0 .answers))
+    ∙ ap (λ (ls : List Line). ls ++ answerLines (answers (map callIn xs) (tableAfter (callIn x) t))) (sym (a .0 .answers .line))
 
 -- an answer that is no refusal is that of an accepted load
 load-accepted : (l : Load) (lent : List ℕ) (r : Outcome) (lent′ : List ℕ) → Loads l lent r lent′ → NoRefusal (r .answer) → loadTrial l (length lent) ≡ accepted
 unfolding loadAnswer answerLine
-load-accepted l lent r lent′ a y = by-trial (loadTrial l (length lent)) (r .answer) (a .answers) y
+load-accepted l lent r lent′ a y = by-trial (loadTrial l (length lent)) (r .answer) (a .answers .line) y
   where
     by-trial : (x : Trial) (b : Answer) → answerLine (loadAnswer x (tableOf l)) ≡ shown b lent′ ∷ [] → NoRefusal b → x ≡ accepted
     by-trial accepted b e y = refl
@@ -52,12 +53,11 @@ pub demand-3 : (l : Load) (lent : List ℕ) (r : Outcome) (lent′ : List ℕ) �
     → (xs : List Exchange) → Served (r .session) xs → Demand3 l lent r lent′ xs
 demand-3 l lent r lent′ a y xs w =
     let e = load-accepted l lent r lent′ a y in
-    let line : answerLine (loadAnswer accepted (tableOf l)) ≡ shown (r .answer) lent′ ∷ [] = ap (λ (x : Trial). answerLine (loadAnswer x (tableOf l))) (sym e) ∙ a .answers in
+    let told : Answered (loadAnswer accepted (tableOf l)) lent (r .answer) lent′ = subst (λ (x : Trial). Answered (loadAnswer x (tableOf l)) lent (r .answer) lent′) e (a .answers) in
     let calls = all-right (r .session) (tableOf l) xs (a .holds e) w in
     record {
-      load-answers = line;
-      load-writes = a .writes ∙ ap (λ (x : Trial). written (loadAnswer x (tableOf l)) lent) e;
-      load-truth = load-told l (length lent) (shown (r .answer) lent′) e line;
+      load-answers = told;
+      load-truth = load-told l (length lent) (shown (r .answer) lent′) e (told .line);
       same-answers = same-lines xs (tableOf l) calls;
       calls = calls;
     }
@@ -87,19 +87,19 @@ call-accepted u s t lent r lent′ h w y = by-trial (trialOf (callOf u lent) t) 
   where
     by-trial : (x : Trial) → trialOf (callOf u lent) t ≡ x → trialOf (callOf u lent) t ≡ accepted
     by-trial accepted e = e
-    by-trial (refused n) e = absurd (told-refused (r .answer) lent′ _ (sym (ap answerLine (answer-refused (callOf u lent) t n e)) ∙ w .answers t h) y)
+    by-trial (refused n) e = absurd (told-refused (r .answer) lent′ _ (sym (ap answerLine (answer-refused (callOf u lent) t n e)) ∙ w .answers t h .line) y)
 
 -- a batch of one change is that change
 pub batch-of-one : (c : Change) (s : Session) (t : Table) → Holds s t → (lent : List ℕ) (r r₂ : Outcome) (lent′ lent₂ : List ℕ)
     → Updates (batch (makes c ∷ [])) s lent r lent′ → Updates (single c) s lent r₂ lent₂ → NoRefusal (r₂ .answer) → SameCall (batch (makes c ∷ [])) (single c) lent t r r₂ lent′ lent₂
-unfolding first-line
 batch-of-one c s t h lent r r₂ lent′ lent₂ w v y =
     let one = as-one c t (length lent) (h .arises) in
     let same = one .same-answer (call-accepted (single c) s t lent r₂ lent₂ h v y) in
-    let told : shown (r .answer) lent′ ∷ [] ≡ shown (r₂ .answer) lent₂ ∷ [] = sym (w .answers t h) ∙ ap answerLine same ∙ v .answers t h in
+    let both = answered-once (answerTo (callOf (single c) lent) t) lent (r .answer) (r₂ .answer) lent′ lent₂
+    (subst (λ (a : PlainAnswer). Answered a lent (r .answer) lent′) same (w .answers t h)) (v .answers t h) in
     record {
-      same-line = ap first-line told;
-      same-list = w .writes t h ∙ ap (λ (a : PlainAnswer). written a lent) same ∙ sym (v .writes t h);
+      same-answer = both .0;
+      same-list = both .1;
       same-table = one .same-table;
       holds = subst (λ (x : Table). Holds (r .session) x) (one .same-table) (w .holds t h);
       holds₂ = v .holds t h;
@@ -110,7 +110,7 @@ pub batch-one-by-one : (xs : List BatchLine) (s : Session) (t : Table) → Holds
     → (ys : List Exchange) → Served s ys → map callIn ys ≡ map (callFor (length lent)) (changesIn xs) → SameEnd xs lent t r lent′ ys
 batch-one-by-one xs s t h lent r lent′ w y ys v e = record {
   plain = one-by-one xs t (length lent) (h .arises) (call-accepted (batch xs) s t lent r lent′ h w y);
-  batch-tells = w .answers t h;
+  batch-tells = w .answers t h .line;
   batch-holds = w .holds t h;
   changes-tell = same-lines ys t (all-right s t ys h v) ∙ ap (λ (cs : List Call). answerLines (answers cs t)) e;
 }

@@ -1,5 +1,3 @@
-pub mod Writing
-pub mod Told
 pub mod Sought
 pub mod Asking
 pub mod FirstMet

@@ -1,16 +1,14 @@
 -- A load: the session of an accepted one holds its table, and the answer and the walk are the plain table's. Assumes nothing.
 use mathlib.Core.Path.{_≡_, refl, sym, ap, subst, _∙_}
-use mathlib.Core.List.{List, [], _∷_}
-use Prim.Native.Nat.{ℕ, zero, _+_, _≤_}
+use mathlib.Core.List.{List}
+use Prim.Native.Nat.{ℕ, zero, _+_}
 use native.Mathlib.Omega.{arith}
 use lib.ListN.{length, set, replicate, length-set, length-replicate}
-use borrow.Author.Tests.{ltb-false}
 use Rattle.plain.specs.Search.{steps, verdict, count}
 use Rattle.plain.specs.Table.{Table, searched, final}
-use Rattle.plain.specs.Refusals.{Trial, accepted, refused, Load, loadTrial, shortRoom, pairs}
-use Rattle.plain.specs.Machine.{Answer as PlainAnswer, refusal, numbered, answer, tableOf, loadAnswer, written, answerLine}
+use Rattle.plain.specs.Refusals.{accepted, refused, Load, loadTrial, pairs}
+use Rattle.plain.specs.Machine.{Answer as PlainAnswer, answer, tableOf}
 use Rattle.plain.specs.Claims.{Arises, loaded}
-use Rattle.plain.proofs.Trials.{unheld}
 use Rattle.plain.proofs.Tables.{Valid, valid}
 use Rattle.plain.proofs.Demands.{verdict-right}
 use Rattle.plain.proofs.Limits.{size-few, small}
@@ -19,7 +17,7 @@ use Rattle.look.specs.Numbers.{noNumber, plus}
 use Rattle.search.specs.Core.{Game, Result, Lengths, Fresh}
 use Rattle.search.proofs.Ended.{rewound-spent}
 use Rattle.search.proofs.Resumed.{begin-fits}
-use Rattle.session.specs.declared.Answer.{Answer}
+use Rattle.verdict.specs.declared.Answer.{Answer}
 use Rattle.session.specs.declared.Session.{Session}
 use Rattle.table.specs.declared.Trial.the-variants.{Refused}
 use Rattle.session.specs.declared.Verdict.{Verdict}
@@ -28,38 +26,24 @@ use Rattle.session.specs.declared.Resumption.{Resumption}
 use Rattle.session.specs.declared.Resumption.the-variants.{At}
 use Rattle.table.specs.Trials.{Arrays, tried}
 use Rattle.table.specs.Filing.{Filed, Stored}
-use Rattle.session.specs.Model.{Records, recordsOf, gameIn, recordsIn, backAt, verdictOf, noVerdict, sessionOf, noGame, refusing, answerIs, Settles}
-use Rattle.session.specs.Promises.{shown, Tells, Holds, Loads}
+use Rattle.session.specs.Model.{Records, recordsOf, gameIn, recordsIn, backAt, verdictOf, noVerdict, sessionOf, noGame, Settles}
+use Rattle.session.specs.Promises.{Holds, Loads}
 use Rattle.table.proofs.Trying.{tried-refused}
-use Rattle.session.proofs.Told.{tells-answer, tells-written, tells-fits}
+use Rattle.verdict.proofs.Told.{told, tells-fits}
+use Rattle.verdict.proofs.Loads.{room-enough, load-refused as refused-answer, load-accepted as accepted-answer}
+use Rattle.verdict.specs.Answers.{refusing, answerIs, Tells, Answered}
 use Rattle.session.proofs.Sought.{matches, Reached, reached}
 use Rattle.table.specs.declared.Position.the-variants.{Alone}
 
-module _ (l : Load) (lent : List ℕ) where
-  answer-accepted : loadTrial l (length lent) ≡ accepted → loadAnswer (loadTrial l (length lent)) (tableOf l) ≡ answer (verdict (final (tableOf l))) (count (final (tableOf l))) 0
-  unfolding loadAnswer
-  answer-accepted e = ap (λ (x : Trial). loadAnswer x (tableOf l)) e
-
-  answer-refused : (n : ℕ) → loadTrial l (length lent) ≡ refused n → loadAnswer (loadTrial l (length lent)) (tableOf l) ≡ refusal (numbered n)
-  unfolding loadAnswer
-  answer-refused n e = ap (λ (x : Trial). loadAnswer x (tableOf l)) e
-
-  pub load-refused : (a : Answer) (s : Session) (n : ℕ) → a ≡ refusing n Alone → s ≡ noGame → Refused n ≡ tried (loadTrial l (length lent))
-      → Loads l lent (record { answer = a; session = s }) lent
-  unfolding shown written answerLine
-  load-refused a s n b e f =
-      let is : loadTrial l (length lent) ≡ refused n = tried-refused (loadTrial l (length lent)) n f in
-      record {
-        answers = ap answerLine (answer-refused n is) ∙ sym (ap (λ (x : Answer). shown x lent ∷ []) b);
-        writes = sym (ap (λ (x : PlainAnswer). written x lent) (answer-refused n is));
-        holds = λ z. absurd (let q : _≡_ {A = ℕ} 0 1 = cc in omega arith);
-        empty = λ m z. e;
-      }
-
-room-enough : (l : Load) (room : ℕ) → loadTrial l room ≡ accepted → l .size ≤ room
-unfolding loadTrial shortRoom
-room-enough l room e =
-    ltb-false room (l .size) (unheld 11 _ e)
+pub load-refused : (l : Load) (lent : List ℕ) (a : Answer) (s : Session) (n : ℕ) → a ≡ refusing n Alone → s ≡ noGame → Refused n ≡ tried (loadTrial l (length lent))
+    → Loads l lent (record { answer = a; session = s }) lent
+load-refused l lent a s n b e f =
+    let is : loadTrial l (length lent) ≡ refused n = tried-refused (loadTrial l (length lent)) n f in
+    record {
+      answers = refused-answer l lent a n b is;
+      holds = λ z. absurd (let q : _≡_ {A = ℕ} 0 1 = cc in omega arith);
+      empty = λ m z. e;
+    }
 
 -- the records of a search that has met the start state alone
 abbrev pub freshFrom : ℕ → List ℕ → Records
@@ -120,16 +104,15 @@ module _ (l : Load) (lent lent′ : List ℕ) (rows : Rows) (a : Records) (r : S
 
   -- what the records of a core are, the records are
   made-as : (c : Result) → Reached t 0 c → v ≡ verdictOf (c .walker) (c .spent) → a ≡ recordsIn c
-      → Holds (sessionOf (l .size) (l .start) b a v (plus (v .kept) (v .spent))) t × (answerLine plain ≡ shown (answerIs v) lent′ ∷ []) × (lent′ ≡ written plain lent)
+      → Holds (sessionOf (l .size) (l .start) b a v (plus (v .kept) (v .spent))) t × Answered plain lent (answerIs (v .spent) (v .kept) (v .stem) (v .length)) lent′
   unfolding tableOf steps
   made-as c g e f =
       let none-kept : v .kept ≡ 0 = ap (λ (x : Verdict). x .kept) e ∙ g .kept-is in
-      let told : Tells (v .stem) (v .length) (a .walk) (verdict (final t)) = rw (e, f) (g .tells) in
+      let tells : Tells (v .stem) (v .length) (a .walk) (verdict (final t)) = rw (e, f) (g .tells) in
       let sum : v .kept + v .spent ≡ count (final t) = rw e (g .adds-up) in
-      let fit = tells-fits v (verdict (final t)) (a .walk) (l .size) told (verdict-right t ok .short) in
-      let wrote-it : lent′ ≡ written plain lent =
-      settles .wrote (fit .0) (omega (arith, fit .1, size-few (l .size) (ok .size-ok))) (omega (arith, fit .1, room-enough l (length lent) yes-it-is))
-      ∙ tells-written v (verdict (final t)) (a .walk) lent (count (final t)) 0 told in (
+      let fit = tells-fits (v .stem) (v .length) (verdict (final t)) (a .walk) (l .size) tells (verdict-right t ok .short) in
+      let wrote = settles .wrote (fit .0) (omega (arith, fit .1, size-few (l .size) (ok .size-ok))) (omega (arith, fit .1, room-enough l (length lent) yes-it-is)) in
+      let all : v .spent ≡ count (final t) = omega arith in (
         record {
           arises = arises;
           size-is = refl;
@@ -138,12 +121,12 @@ module _ (l : Load) (lent lent′ : List ℕ) (rows : Rows) (a : Records) (r : S
           steps = g .steps;
           ended = g .ended;
           archived = rw f (g .archive);
-          told = told;
+          told = tells;
           height-is = ap (λ (x : Verdict). x .height) e ∙ g .height-is;
           total-is = rw e (g .total-is);
         },
-        tells-answer v (verdict (final t)) (a .walk) lent (count (final t)) 0 told (omega arith) none-kept ∙ ap (λ (x : List ℕ). shown (answerIs v) x ∷ []) (sym wrote-it),
-        wrote-it,
+        subst (λ (x : ℕ × ℕ). Answered (answer (verdict (final t)) (x .0) (x .1)) lent (answerIs (v .spent) (v .kept) (v .stem) (v .length)) lent′) (λ i. (all i, none-kept i))
+        (told (v .spent) (v .kept) (v .stem) (v .length) (verdict (final t)) (a .walk) lent lent′ tells wrote),
       )
 
   pub load-accepted : (total : ℕ) → total ≡ plus (v .kept) (v .spent) → Loads l lent (record { answer = r .answer; session = sessionOf (l .size) (l .start) b a v total }) lent′
@@ -151,8 +134,7 @@ module _ (l : Load) (lent lent′ : List ℕ) (rows : Rows) (a : Records) (r : S
       let g = begun in
       let w = made-as (g .0) (g .1) (g .2) (g .3) in
       rw (settles .answer-is, e) (record {
-        answers = ap answerLine (answer-accepted l lent yes-it-is) ∙ w .1;
-        writes = w .2 ∙ sym (ap (λ (x : PlainAnswer). written x lent) (answer-accepted l lent yes-it-is));
+        answers = accepted-answer l lent _ lent′ yes-it-is (w .1);
         holds = λ z. w .0;
         empty = λ n z. absurd (let q : accepted ≡ refused n = sym yes-it-is ∙ z in let y : _≡_ {A = ℕ} 0 1 = cc in omega arith);
       })

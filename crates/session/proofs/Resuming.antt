@@ -42,7 +42,7 @@ use Rattle.table.specs.Filing.{namedBy}
 use Rattle.table.proofs.Places.{has-place, place-hit, place-front, place-behind, same-test}
 use Rattle.session.specs.declared.Session.{Session}
 use Rattle.session.specs.Model.{arraysHeld, unexploredEdge, unexploredIn, passedOverIn, allPassedOver}
-use Rattle.session.specs.Promises.{Tells, heightOf, Holds}
+use Rattle.session.specs.Promises.{heightOf, Holds}
 use Rattle.plain.specs.Claims.{AllAccepted}
 use Rattle.plain.proofs.OuterProbes.{looked-edge}
 use Rattle.plain.proofs.Prefix.{meets-one, unmet-one}
@@ -51,6 +51,7 @@ use Rattle.plain.proofs.Limits.{limits, size-few, small}
 use Rattle.table.proofs.Changing.{named-below}
 use Rattle.table.proofs.Batches.{change-back}
 use Rattle.table.specs.Batches.{opFor}
+use Rattle.verdict.specs.Answers.{Tells}
 
 -- ---- laws of the definitions
 

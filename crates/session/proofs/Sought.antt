@@ -3,7 +3,7 @@ use mathlib.Core.Path.{_≡_, refl, sym, ap, subst, subst⁻¹, _∙_}
 use mathlib.Core.Logic.{_≢_}
 use mathlib.Core.Bool.{Bool, true, false, cond}
 use mathlib.Core.List.{List}
-use Prim.Native.Nat.{ℕ, suc, _+_, _≤_, _<_}
+use Prim.Native.Nat.{ℕ, _+_, _≤_, _<_}
 use native.Mathlib.Omega.{arith}
 use lib.ListN.{length}
 use Rattle.plain.specs.Search.{Graph, Config, outer, nested, exhausted, found, run, lasso, unfinished, verdict, count}
@@ -11,11 +11,9 @@ use Rattle.plain.specs.Table.{Table, searched, final, accepts}
 use Rattle.plain.specs.Notes.{notes}
 use Rattle.plain.proofs.Tables.{Valid}
 use Rattle.plain.proofs.Demands.{ended-within, run-final, verdict-right}
-use Rattle.rows.proofs.Entries.{no-row}
-use Rattle.rows.proofs.Change.{starts-within}
 use Rattle.look.specs.Numbers.{plus}
 use Rattle.look.proofs.Counting.{plus-more}
-use Rattle.look.proofs.Scans.{row-fits}
+use Rattle.look.proofs.Scans.{row-filed}
 use Rattle.search.specs.declared.Walker.{Walker}
 use Rattle.search.specs.Core.{Game, Core, Result, result, runFor, Ran, Lengths}
 use Rattle.search.specs.Archive.{Archived}
@@ -29,20 +27,17 @@ use Rattle.session.specs.declared.Verdict.{Verdict}
 use Rattle.session.specs.declared.Resumption.{Resumption}
 use Rattle.session.specs.declared.Resumption.the-variants.{Nowhere, At}
 use Rattle.session.specs.Model.{Records, gameIn, recordsIn, isFound, verdictOf, bound, backAt, Sought}
-use Rattle.session.specs.Promises.{Tells, heightOf}
+use Rattle.session.specs.Promises.{heightOf}
 use Rattle.table.specs.Trials.{Arrays}
 use Rattle.table.specs.Filing.{Stored}
+use Rattle.verdict.specs.Answers.{Tells}
 
 -- the rows and words are those of the table's graph
 pub matches : (t : Table) (b : Arrays) → Stored t b → Matches (searched t) (gameIn b)
 matches t b s =
-    let targets = b .rows .targets in
-    let starts = b .rows .starts in
     let r = s .filed in
     record {
-      rows = λ v. sym (row-fits targets starts v
-          (λ h. starts-within (t .size) targets starts (r .compressed) (suc v))
-          (λ h. no-row targets starts (t .size) (r .compressed) v (omega (arith, r .compressed .states))) ∙ r .rows-are v);
+      rows = λ v. sym (row-filed (t .size) (b .rows .targets) (b .rows .starts) (r .compressed) v ∙ r .rows-are v);
       acceptance = λ v. ap (λ (w : List ℕ). accepts w v) (sym (s .words-are));
     }
 

@@ -2,9 +2,9 @@
 use Prim.Native.Nat.{ℕ, suc, _-_, _≤_}
 use mathlib.Core.Path.{_≡_}
 use mathlib.Core.Bool.{Bool, true, false, cond, _&&_, _||_}
-use mathlib.Core.List.{List, [], _∷_, _++_}
+use mathlib.Core.List.{List, [], _∷_}
 use lib.Dec.{eqb, ltb}
-use lib.ListN.{length, getD, take, drop, replicate}
+use lib.ListN.{length, getD, take, replicate}
 use Rattle.plain.specs.Lists.{all}
 use Rattle.plain.specs.Refusals.{accepted, refused}
 use Rattle.plain.specs.Machine.{BatchLine as PlainLine, makes, other}
@@ -12,7 +12,6 @@ use Rattle.rows.specs.Rows.{entries, rowAt, placeOf}
 use Rattle.rows.specs.Change.{Rows}
 use Rattle.table.specs.declared.Op.{Op}
 use Rattle.table.specs.declared.Op.the-variants.{Add, Cut, Mark, Unmark}
-use Rattle.table.specs.declared.Position.{Position}
 use Rattle.table.specs.declared.Update.{Update}
 use Rattle.table.specs.declared.Update.the-variants as Update
 use Rattle.table.specs.declared.BatchLine.{BatchLine}
@@ -29,8 +28,7 @@ use Rattle.session.specs.declared.Resumption.the-variants.{Nowhere, At}
 use Rattle.session.specs.declared.Verdict.{Verdict}
 use Rattle.session.specs.declared.Settled.{Settled}
 use Rattle.session.specs.declared.Session.{Session}
-use Rattle.session.specs.declared.Answer.{Answer}
-use Rattle.session.specs.declared.Answer.the-variants.{Refused, Clear, Round}
+use Rattle.verdict.specs.Answers.{refusing, answerIs, shownWalk}
 
 -- what the arrays that outlive a search hold
 pub record Records : Type 0 where
@@ -100,23 +98,6 @@ isAlone Update.Batch = false
 abbrev pub onlyLine : Update → BatchLine
 onlyLine (Update.Change op) = lineTo op
 onlyLine Update.Batch = lineFor 0 0 0
-
--- the answer to a refused call
-abbrev pub refusing : ℕ → Position → Answer
-refusing n position = Refused (record { number = n; position = position })
-
-abbrev pub isRefused : Answer → Bool
-isRefused (Refused refusal) = true
-isRefused (Clear spent kept) = false
-isRefused (Round spent kept stem cycle) = false
-
--- the answer that a verdict makes
-unfoldable pub answerIs : Verdict → Answer
-answerIs v = cond (eqb (v .length) 0) (Clear (v .spent) (v .kept)) (Round (v .spent) (v .kept) (v .stem) (v .length - v .stem))
-
--- what is written of a walk: its first entries
-unfoldable pub shownWalk : ℕ → List ℕ → List ℕ → List ℕ
-shownWalk n walk lent = take n walk ++ drop n lent
 
 -- Had the search not come to an edge that comes or goes? Below the place of the tip stand, on the walk, the states that have not finished their outer moves. The state
 -- behind each of them was discovered through the last of its edges that was taken: an edge that goes has to stand behind that one.
@@ -195,7 +176,7 @@ Sought g size start (At s) old a r a′ = (c : Result) × Ran g bound (backAt si
 -- What searching and answering leaves: the search, its answer, and the walk at the head of the lent list.
 pub record Settles (g : Game) (size start : ℕ) (from : Resumption) (old : Verdict) (a : Records) (lent : List ℕ) (r : Settled) (a′ : Records) (lent′ : List ℕ) : Type 0 where
   pub sought : Sought g size start from old a (r .verdict) a′
-  pub answer-is : r .answer ≡ answerIs (r .verdict)
+  pub answer-is : r .answer ≡ answerIs (r .verdict .spent) (r .verdict .kept) (r .verdict .stem) (r .verdict .length)
   pub wrote : r .verdict .stem ≤ r .verdict .length → r .verdict .length ≤ 512 → r .verdict .length ≤ length lent → lent′ ≡ shownWalk (r .verdict .length) (a′ .walk) lent
 
 -- What a call leaves, whose lines are given as numbers: a refusal, and all is as it was; or the table's arrays changed, and what searching and answering leaves.

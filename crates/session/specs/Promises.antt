@@ -1,18 +1,18 @@
 -- What load and the calls behind it promise, in terms of the plain table. Assumes nothing.
-use Prim.Native.Nat.{ℕ, suc, _+_, _<_}
+use Prim.Native.Nat.{ℕ, suc}
 use mathlib.Core.Path.{_≡_}
 use mathlib.Core.Logic.{_≢_}
-use mathlib.Core.List.{List, [], _∷_, _++_, map}
-use lib.ListN.{length, take}
-use Rattle.plain.specs.Search.{Config, outer, nested, exhausted, found, Verdict, none, lasso, unfinished, verdict, count, run}
+use mathlib.Core.List.{List, [], _∷_, map}
+use lib.ListN.{length}
+use Rattle.plain.specs.Search.{Config, outer, nested, exhausted, found, unfinished, verdict, count, run}
 use Rattle.plain.specs.Table.{Table, searched, final}
 use Rattle.plain.specs.Refusals.{Load, accepted, refused, loadTrial}
-use Rattle.plain.specs.Machine.{BatchLine, changesIn, callFor, batchCall, Position as PlainPosition, alone, atLine, Refusal as PlainRefusal, Update as PlainUpdate, single, batch, loadAnswer, tableOf, Call, answerTo, tableAfter, answers, written, Line, roundLine, noneLine, noLine, answerLine, answerLines}
+use Rattle.plain.specs.Machine.{BatchLine, changesIn, callFor, batchCall, Update as PlainUpdate, single, batch, loadAnswer, tableOf, Call, answerTo, tableAfter, answers, Line, answerLine, answerLines}
 use Rattle.plain.specs.Claims.{Arises, OneByOne, LineTrue, LineCounted, LoopTold}
-use Rattle.plain.specs.Lists.{Begins}
 use Rattle.search.specs.Archive.{Archived}
-use Rattle.session.specs.declared.Answer.{Answer}
-use Rattle.session.specs.declared.Answer.the-variants.{Refused, Clear, Round}
+use Rattle.verdict.specs.declared.Answer.{Answer}
+use Rattle.verdict.specs.declared.Answer.the-variants.{Refused}
+use Rattle.verdict.specs.Answers.{shown, Tells, Answered, LoadAnswered}
 use Rattle.table.specs.declared.Refusal.{Refusal}
 use Rattle.table.specs.declared.Position.{Position}
 use Rattle.table.specs.declared.Position.the-variants as Position
@@ -23,27 +23,6 @@ use Rattle.session.specs.declared.Outcome.{Outcome}
 use Rattle.table.specs.Filing.{changeOf, Stored}
 use Rattle.table.specs.Batches.{linesIn}
 use Rattle.session.specs.Model.{arraysHeld, noGame}
-
--- the plain table's word for where a refusal stands, and for the refusal
-abbrev pub positionOf : Position → PlainPosition
-positionOf Position.Alone = alone
-positionOf (Position.Line i) = atLine i
-
-abbrev pub refusalOf : Refusal → PlainRefusal
-refusalOf r = record { number = r .number; position = positionOf (r .position) }
-
--- The document's number and values for each case of the answer: `no` and the refusal's number, of a batch with its position; `none`, spent, kept; `round`, spent, kept, the lengths of
--- stem and round, and the walk, which stands at the head of the lent list as the call leaves it.
-unfoldable pub shown : Answer → List ℕ → Line
-shown (Refused r) list = noLine (refusalOf r)
-shown (Clear spent kept) list = noneLine spent kept
-shown (Round spent kept stem cycle) list = roundLine spent kept stem cycle (take (stem + cycle) list)
-
--- An answer that is no refusal: what a caller sees of an accepted call.
-abbrev pub NoRefusal : Answer → Type 0
-NoRefusal (Refused r) = ⊥
-NoRefusal (Clear spent kept) = Unit {0}
-NoRefusal (Round spent kept stem cycle) = Unit {0}
 
 -- what is asked of the plain table: one change, or a batch, whose lines stand in a list of numbers
 abbrev pub updateOf : Update → List ℕ → PlainUpdate
@@ -59,12 +38,6 @@ callOf u lent = record { update = u; room = length lent }
 abbrev pub withoutGame : PlainUpdate → Refusal
 withoutGame (single c) = record { number = 6; position = Position.Alone }
 withoutGame (batch xs) = record { number = 2; position = Position.Line 0 }
-
--- the walk that is kept, with the length of its stem and its own, is that of the verdict
-abbrev pub Tells : ℕ → ℕ → List ℕ → Verdict → Type 0
-Tells stemLength walkLength walk none = (stemLength ≡ 0) × (walkLength ≡ 0)
-Tells stemLength walkLength walk (lasso stem cycle) = (stemLength ≡ length stem) × (walkLength ≡ length stem + length cycle) × Begins (stem ++ cycle) walk × (0 < length cycle)
-Tells stemLength walkLength walk unfinished = ⊥
 
 -- how many states are on the open path
 abbrev pub heightOf : Config → ℕ
@@ -88,8 +61,7 @@ pub record Holds (s : Session) (t : Table) : Type 0 where
 
 -- A LOAD: its answer and the lent list are those of the plain table, and the session of an accepted one holds that table.
 pub record Loads (l : Load) (lent : List ℕ) (r : Outcome) (lent′ : List ℕ) : Type 0 where
-  pub answers : answerLine (loadAnswer (loadTrial l (length lent)) (tableOf l)) ≡ shown (r .answer) lent′ ∷ []
-  pub writes : lent′ ≡ written (loadAnswer (loadTrial l (length lent)) (tableOf l)) lent
+  pub answers : LoadAnswered l lent (r .answer) lent′
   pub holds : loadTrial l (length lent) ≡ accepted → Holds (r .session) (tableOf l)
   -- what a refused load hands back in place of a session has no state, so every call on it is refused
   pub empty : (n : ℕ) → loadTrial l (length lent) ≡ refused n → r .session ≡ noGame
@@ -98,8 +70,7 @@ pub record Loads (l : Load) (lent : List ℕ) (r : Outcome) (lent′ : List ℕ)
 -- table that the call leaves. For every session, forged too: a refusal gives back the session and the list as they were. What a refused load hands back holds no
 -- table, and every call on it is refused.
 pub record Updates (u : PlainUpdate) (s : Session) (lent : List ℕ) (r : Outcome) (lent′ : List ℕ) : Type 0 where
-  pub answers : (t : Table) → Holds s t → answerLine (answerTo (callOf u lent) t) ≡ shown (r .answer) lent′ ∷ []
-  pub writes : (t : Table) → Holds s t → lent′ ≡ written (answerTo (callOf u lent) t) lent
+  pub answers : (t : Table) → Holds s t → Answered (answerTo (callOf u lent) t) lent (r .answer) lent′
   pub holds : (t : Table) → Holds s t → Holds (r .session) (tableAfter (callOf u lent) t)
   pub refused : (n : Refusal) → r .answer ≡ Refused n → (r .session ≡ s) × (lent′ ≡ lent)
   pub no-game : s .size ≡ 0 → r .answer ≡ Refused (withoutGame u)
@@ -128,8 +99,7 @@ pub data Served : Session → List Exchange → Type 0 where
 -- One call on a session that holds t. "every call answers as the plain table with its plain search run afresh on the moves then present, oldest first: same
 -- number, or same verdict and same walk, entry for entry"; the looks told are right; and what is told is true of the table as the call leaves it (demand 2).
 pub record CallRight (x : Exchange) (t : Table) : Type 0 where
-  pub answers : answerLine (answerTo (callIn x) t) ≡ shown (x .answered) (x .after) ∷ []
-  pub writes : x .after ≡ written (answerTo (callIn x) t) (x .lent)
+  pub answers : Answered (answerTo (callIn x) t) (x .lent) (x .answered) (x .after)
   pub counts : LineCounted (shown (x .answered) (x .after)) (x .asked) t
   pub truth : LineTrue (shown (x .answered) (x .after)) (tableAfter (callIn x) t)
 
@@ -143,8 +113,7 @@ AllRight = EachCall CallRight
 
 -- DEMAND 3, "a single claim about the whole list": of a load that was accepted, and of every list of calls from its session on.
 pub record Demand3 (l : Load) (lent : List ℕ) (r : Outcome) (lent′ : List ℕ) (xs : List Exchange) : Type 0 where
-  pub load-answers : answerLine (loadAnswer accepted (tableOf l)) ≡ shown (r .answer) lent′ ∷ []
-  pub load-writes : lent′ ≡ written (loadAnswer accepted (tableOf l)) lent
+  pub load-answers : Answered (loadAnswer accepted (tableOf l)) lent (r .answer) lent′
   pub load-truth : LineTrue (shown (r .answer) lent′) (tableOf l)
   -- the answers, one behind the other, are those of the plain table run on the same calls
   pub same-answers : map (λ (x : Exchange). shown (x .answered) (x .after)) xs ≡ answerLines (answers (map callIn xs) (tableOf l))
@@ -158,10 +127,10 @@ pub record LoopsTold (l : Load) (r : Outcome) (lent′ : List ℕ) (xs : List Ex
 
 -- ---- document 02, ticket 5, on the contracts
 
--- A batch of one change, and that change, each asked of the same session with the same list, where the change is accepted: the same line is told, with its counts and
--- its walk, the same list is left, and the sessions that are returned hold the same table.
+-- A batch of one change, and that change, each asked of the same session with the same list, where the change is accepted: the answer is the same, with its counts, the
+-- same list is left, with its walk, and the sessions that are returned hold the same table.
 pub record SameCall (u v : PlainUpdate) (lent : List ℕ) (t : Table) (r r₂ : Outcome) (lent′ lent₂ : List ℕ) : Type 0 where
-  pub same-line : shown (r .answer) lent′ ≡ shown (r₂ .answer) lent₂
+  pub same-answer : r .answer ≡ r₂ .answer
   pub same-list : lent′ ≡ lent₂
   pub same-table : tableAfter (callOf u lent) t ≡ tableAfter (callOf v lent) t
   pub holds : Holds (r .session) (tableAfter (callOf v lent) t)

@@ -6,6 +6,7 @@ use table::Refusal;
 use table::Subject;
 use table::Trial;
 use table::Update;
+use verdict::Answer;
 ghost use mathlib.Core.Path.{_≡_};
 ghost use mathlib.Core.List.{_++_};
 ghost use Prim.Native.Nat.{_+_, _≤_};
@@ -16,23 +17,8 @@ ghost use Rattle.look.specs.Numbers.{plus};
 ghost use Rattle.search.specs.Core.{gameOf, Lengths};
 ghost use Rattle.table.specs.Trials.{arraysOf};
 ghost use Rattle.table.specs.Batches.{lineIn, linesIn, statesIn, numbersIn};
-ghost use Rattle.session.specs.Model.{unexploredEdge, passedOverIn, allPassedOver, namedMost, earliestOf, resumptionOf, isFound, verdictOf, noVerdict, recordsOf, Sought, answerIs, isAlone, onlyLine, isRefused, refusing, noGame, shownWalk, Settles, UpdatedIn};
+ghost use Rattle.session.specs.Model.{unexploredEdge, passedOverIn, allPassedOver, namedMost, earliestOf, resumptionOf, isFound, verdictOf, noVerdict, recordsOf, Sought, isAlone, onlyLine, noGame, Settles, UpdatedIn};
 ghost use Rattle.session.specs.Promises.{updateOf, Loads, Updates};
-
-// The answer to a call: a refusal, or the probes spent and kept, and with a round the lengths of stem and round.
-pub enum Answer {
-    Refused(Refusal),
-    Clear {
-        spent: u16,
-        kept: u16,
-    },
-    Round {
-        spent: u16,
-        kept: u16,
-        stem: u16,
-        cycle: u16,
-    },
-}
 
 // What a search has come to: the lengths of stem and walk (0: no walk), the height of the open path, and the probes.
 struct Verdict {
@@ -328,68 +314,6 @@ fn seek(
     }
 }
 
-// The answer that a verdict makes.
-fn answer_of(v: Verdict) -> Answer
-    ensures { λ r. ⌜ r ≡ answerIs v ⌝ }
-{
-    if v.length == 0 {
-        return Answer::Clear {
-            spent: v.spent,
-            kept: v.kept,
-        };
-    }
-    let mut cycle: u16 = 0;
-    if v.stem <= v.length {
-        cycle = v.length - v.stem;
-    }
-    Answer::Round {
-        spent: v.spent,
-        kept: v.kept,
-        stem: v.stem,
-        cycle: cycle,
-    }
-}
-
-// Entries of the walk, from a place on, at the head of the list.
-fn write_part(walk: &[u16; 512], from: u16, count: u16, out: &mut [u16])
-    requires { ⌜ length (now walk) ≡ 512 ⌝ }
-    ensures { λ r. ⌜ (from + count ≤ 512 → count ≤ length (now (out .entry)) → now (out .exit) ≡ take count (drop from (now (walk .entry))) ++ drop count (now (out .entry))) × (length (now (out .exit)) ≡ length (now (out .entry))) ⌝ }
-{
-    let mut i: usize = 0;
-    while i < wide(count) {
-        let at = wide(from) + i;
-        if at < 512 {
-            if i < out.len() {
-                out[i] = walk[at];
-            }
-        }
-        i += 1;
-    }
-}
-
-// Writes the walk: the stem, and the cycle into the part of the list behind the stem.
-fn write_walk(v: Verdict, walk: &[u16; 512], lent: &mut [u16])
-    requires { ⌜ length (now walk) ≡ 512 ⌝ }
-    ensures { λ r. ⌜ (v .stem ≤ v .length → v .length ≤ 512 → v .length ≤ length (now (lent .entry)) → now (lent .exit) ≡ shownWalk (v .length) (now (walk .entry)) (now (lent .entry))) ⌝ }
-{
-    let stem = v.stem;
-    let length = v.length;
-    if stem <= length {
-        if wide(length) <= lent.len() {
-            write_part(walk, 0, stem, lent);
-            let at = wide(stem);
-            write_part(walk, stem, length - stem, &mut lent[at..]);
-        }
-    }
-}
-
-// The answer to a refused call.
-fn refused(number: u16, position: Position) -> Answer
-    ensures { λ r. ⌜ r ≡ refusing number position ⌝ }
-{
-    Answer::Refused(Refusal { number, position })
-}
-
 // What stands in place of a session where a load is refused: it has no state, so every change of it is refused.
 fn no_game() -> Session
     ensures { λ r. ⌜ r ≡ noGame ⌝ }
@@ -468,9 +392,9 @@ fn settle(
         from,
         old,
     );
-    write_walk(v, walk, lent);
+    verdict::write_walk(walk, v.stem, v.length, lent);
     Settled {
-        answer: answer_of(v),
+        answer: verdict::answer_of(v.spent, v.kept, v.stem, v.length),
         verdict: v,
     }
 }
@@ -492,7 +416,7 @@ pub fn load(size: u16, start: u16, words: [u64; 8], numbers: &[u16], lent: &mut 
     );
     if let Trial::Refused(n) = trial {
         return Outcome {
-            answer: refused(n, Position::Alone),
+            answer: verdict::refused(n, Position::Alone),
             session: no_game(),
         };
     }
@@ -588,7 +512,7 @@ fn update_in(
     if let Trial::Refused(n) = trial {
         let position = attempt.position;
         return Settled {
-            answer: refused(n, position),
+            answer: verdict::refused(n, position),
             verdict: old,
         };
     }
@@ -631,22 +555,6 @@ fn only_line(asked: Update) -> BatchLine
             first: 0,
             second: 0,
         },
-    }
-}
-
-// Is the answer a refusal?
-pub fn is_refused(answer: Answer) -> bool
-    ensures { λ r. ⌜ r ≡ isRefused answer ⌝ }
-{
-    match answer {
-        Answer::Refused(refusal) => true,
-        Answer::Clear { spent, kept } => false,
-        Answer::Round {
-            spent,
-            kept,
-            stem,
-            cycle,
-        } => false,
     }
 }
 

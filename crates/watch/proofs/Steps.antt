@@ -22,16 +22,16 @@ use Rattle.line.specs.declared.Word.{Word}
 use Rattle.line.specs.declared.Word.the-variants as W
 use Rattle.line.specs.declared.Record.{Record}
 use Rattle.table.specs.declared.Op.{Op}
-use Rattle.session.specs.declared.Answer.{Answer}
-use Rattle.session.specs.declared.Answer.the-variants.{Refused, Clear, Round}
+use Rattle.verdict.specs.declared.Answer.{Answer}
+use Rattle.verdict.specs.declared.Answer.the-variants.{Refused, Clear, Round}
+use Rattle.verdict.specs.Answers.{isRefused, shown}
 use Rattle.session.specs.declared.Session.{Session}
 use Rattle.session.specs.declared.Outcome.{Outcome}
 use Rattle.table.specs.declared.BatchLine.{BatchLine as CodedLine}
 use Rattle.table.specs.Filing.{changeOf}
 use Rattle.table.specs.Batches.{lineIn, linesIn}
 use Rattle.table.proofs.Batches.{line-makes}
-use Rattle.session.specs.Model.{isRefused}
-use Rattle.session.specs.Promises.{shown, Holds, Loads, Updates}
+use Rattle.session.specs.Promises.{Holds, Loads, Updates}
 use Rattle.lead.specs.declared.Stage.{Stage}
 use Rattle.lead.specs.declared.Stage.the-variants.{Waiting, Gathering, Playing, Batching, Over}
 use Rattle.lead.specs.declared.Lead.{Lead}
@@ -222,7 +222,7 @@ module _ (ns walk : List ℕ) (s : Session) (c : Outcome) (walk′ : List ℕ) w
   comes-change : (op : Op) (l : Lead) (p : Play) → l .stage ≡ Playing → Holds s (p .table) → length walk ≡ room → Comes l (changing op l) (updateStep (single (changeOf op)) p)
   comes-change op l p h k e w = (
     (h, rw e at (w .holds (p .table) k)),
-    sym (w .answers (p .table) k) ∙ ap (λ (n : ℕ). answerLine (answerTo (record { update = single (changeOf op); room = n }) (p .table))) e,
+    sym (w .answers (p .table) k .line) ∙ ap (λ (n : ℕ). answerLine (answerTo (record { update = single (changeOf op); room = n }) (p .table))) e,
   )
 
   -- the batch that is held is answered as the whole one
@@ -232,7 +232,7 @@ module _ (ns walk : List ℕ) (s : Session) (c : Outcome) (walk′ : List ℕ) w
       let v : Updates (batch first) s walk c walk′ = subst (λ (ys : List BatchLine). Updates (batch ys) s walk c walk′) (g .lines) w in
       let whole = held-call xs (p .table) room in (
         (refl, rw (whole .1) at (rw e at (v .holds (p .table) k))),
-        sym (v .answers (p .table) k) ∙ ap (λ (n : ℕ). answerLine (answerTo (record { update = batch first; room = n }) (p .table))) e ∙ ap answerLine (whole .0),
+        sym (v .answers (p .table) k .line) ∙ ap (λ (n : ℕ). answerLine (answerTo (record { update = batch first; room = n }) (p .table))) e ∙ ap answerLine (whole .0),
       )
 
   -- a load, by what trying it gives
@@ -241,7 +241,7 @@ module _ (ns walk : List ℕ) (s : Session) (c : Outcome) (walk′ : List ℕ) w
   unfolding loadAnswer answerLine tellsNo
   load-by accepted l d k g lo =
       let t = tableOf (loadOf d) in
-      let told : answerLine (loadAnswer accepted t) ≡ shown (c .answer) walk′ ∷ [] = rw k at (lo .answers) in
+      let told : answerLine (loadAnswer accepted t) ≡ shown (c .answer) walk′ ∷ [] = rw k at (lo .answers .line) in
       let yes : isRefused (c .answer) ≡ false = refused-as (loadAnswer accepted t) (c .answer) walk′ told ∙ verdict-yes (verdict (final t)) (count (final t)) 0 in
       let half : l .count / 2 ≡ length (d .moves) = omega (arith, g .count) in (
         (ap (λ (b : Bool). cond b Over Playing) yes, lo .holds k),
@@ -250,7 +250,7 @@ module _ (ns walk : List ℕ) (s : Session) (c : Outcome) (walk′ : List ℕ) w
       )
   load-by (refused n) l d k g lo =
       let a = loadAnswer (refused n) (tableOf (loadOf d)) in
-      let told : answerLine a ≡ shown (c .answer) walk′ ∷ [] = rw k at (lo .answers) in
+      let told : answerLine a ≡ shown (c .answer) walk′ ∷ [] = rw k at (lo .answers .line) in
       let no : isRefused (c .answer) ≡ true = refused-as a (c .answer) walk′ told in (
         ap (λ (b : Bool). cond b Over Playing) no,
         ap (λ (b : Bool). cond b (shown (c .answer) walk′ ∷ []) (gameLine (l .size) (l .count / 2) (acceptingCount (l .words)) ∷ shown (c .answer) walk′ ∷ [])) no ∙ sym told,

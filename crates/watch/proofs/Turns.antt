@@ -14,7 +14,8 @@ use Rattle.line.specs.Records.{recordOf}
 use Rattle.line.specs.declared.Record.{Record}
 use Rattle.line.proofs.Fields.{lines-at, lines-none}
 use Rattle.answer.specs.Rendering.{render}
-use Rattle.session.specs.declared.Answer.{Answer}
+use Rattle.verdict.specs.declared.Answer.{Answer}
+use Rattle.verdict.specs.Answers.{isRefused}
 use Rattle.session.specs.declared.Session.{Session}
 use Rattle.session.specs.declared.Outcome.{Outcome}
 use Rattle.lead.specs.declared.Lead.{Lead}
@@ -27,7 +28,6 @@ use Rattle.lead.specs.Asked.{numbersMost, asked, filed, isOver}
 use Rattle.lead.proofs.Task.{the-type}
 use Rattle.watch.specs.Text.{Held, waiting, gathering, playing, batching, ended, room, step, printed}
 use Rattle.watch.specs.declared.Written.{Written}
-use Rattle.session.specs.Model.{isRefused}
 use Rattle.watch.specs.Model.{Serves, linesMost, linesFor, linesTold, Laid, Writes}
 use Rattle.watch.proofs.Output.{AtMostTwo}
 use Rattle.watch.proofs.Steps.{Tracks, Follows, stepped}

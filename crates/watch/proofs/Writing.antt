@@ -16,12 +16,12 @@ use Rattle.marks.proofs.Counts.{count-le}
 use Rattle.answer.specs.Bytes.{overwritten, Put}
 use Rattle.answer.specs.Rendering.{render, rendered}
 use Rattle.answer.proofs.Laws.{put-then, put-none, length-round}
-use Rattle.session.specs.declared.Answer.{Answer}
-use Rattle.session.specs.declared.Answer.the-variants.{Refused, Clear, Round}
+use Rattle.verdict.specs.declared.Answer.{Answer}
+use Rattle.verdict.specs.declared.Answer.the-variants.{Refused, Clear, Round}
+use Rattle.verdict.specs.Answers.{positionOf, refusalOf, shown}
 use Rattle.table.specs.declared.Refusal.{Refusal}
 use Rattle.table.specs.declared.Position.{Position}
 use Rattle.table.specs.declared.Position.the-variants.{Alone, Line}
-use Rattle.session.specs.Promises.{positionOf, refusalOf, shown}
 use Rattle.lead.specs.declared.Plan.{Plan}
 use Rattle.watch.specs.declared.LineLengths.{LineLengths}
 use Rattle.watch.specs.Text.{room}

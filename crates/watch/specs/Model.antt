@@ -11,12 +11,12 @@ use Rattle.plain.specs.Refusals.{Load}
 use Rattle.plain.specs.Machine.{Line, gameLine}
 use Rattle.answer.specs.Bytes.{overwritten}
 use Rattle.answer.specs.Rendering.{render, rendered}
-use Rattle.session.specs.declared.Answer.{Answer}
-use Rattle.session.specs.declared.Answer.the-variants.{Refused}
+use Rattle.verdict.specs.declared.Answer.{Answer}
+use Rattle.verdict.specs.declared.Answer.the-variants.{Refused}
+use Rattle.verdict.specs.Answers.{isRefused, shown}
 use Rattle.session.specs.declared.Session.{Session}
 use Rattle.session.specs.declared.Outcome.{Outcome}
-use Rattle.session.specs.Model.{isRefused}
-use Rattle.session.specs.Promises.{shown, updateOf, Loads, Updates}
+use Rattle.session.specs.Promises.{updateOf, Loads, Updates}
 use Rattle.lead.specs.declared.Stage.the-variants.{Playing, Over}
 use Rattle.lead.specs.declared.Lead.{Lead}
 use Rattle.lead.specs.declared.Ask.{Ask}

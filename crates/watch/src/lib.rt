@@ -6,11 +6,11 @@ use lead::Stage;
 use lead::Task;
 use lead::staged;
 use rows::wide;
-use session::Answer;
 use session::Outcome;
 use session::Session;
 use table::Position;
 use table::Refusal;
+use verdict::Answer;
 ghost use mathlib.Core.Path.{_≡_};
 ghost use mathlib.Core.List.{_∷_, []};
 ghost use Prim.Native.Nat.{_≤_, min};
@@ -18,7 +18,7 @@ ghost use lib.ListN.{length, take};
 ghost use Rattle.answer.specs.Bytes.{Put};
 ghost use Rattle.answer.specs.Rendering.{render};
 ghost use Rattle.plain.specs.Machine.{noLine};
-ghost use Rattle.session.specs.Promises.{shown, refusalOf};
+ghost use Rattle.verdict.specs.Answers.{shown, refusalOf};
 ghost use Rattle.session.specs.Model.{noGame};
 ghost use Rattle.watch.specs.Model.{Serves, gameMost, linesMost, linesFor, linesOfLoad, leadLoaded, leadFor, Laid, Writes, fits};
 ghost use Rattle.watch.specs.Text.{room, counted, outputOf, outputMost, Fitted, Watched};
@@ -123,7 +123,7 @@ fn put_load(lead: Lead, answer: Answer, walk: &[u16], out: &mut [u8]) -> LineLen
     requires { ⌜ (length (now walk) ≤ room) × (linesMost ≤ length (now out)) ⌝ }
     ensures { λ r. ⌜ Laid (linesOfLoad lead answer (now (walk .entry))) (now (out .entry)) (now (out .exit)) (r .first) (r .len) ⌝ }
 {
-    if session::is_refused(answer) {
+    if verdict::is_refused(answer) {
         return put_one(answer, walk, out);
     }
     let words = lead.words;
@@ -154,7 +154,7 @@ fn put_lines(plan: Plan, answer: Answer, walk: &[u16], out: &mut [u8]) -> LineLe
 fn lead_loaded(lead: Lead, answer: Answer) -> Lead
     ensures { λ r. ⌜ r ≡ leadLoaded lead answer ⌝ }
 {
-    if session::is_refused(answer) {
+    if verdict::is_refused(answer) {
         return staged(Stage::Over, lead);
     }
     staged(Stage::Playing, lead)

@@ -3,7 +3,7 @@ use mathlib.Core.Path.{refl}
 use borrow.Author.Needs.{needs}
 use Rattle.plain.specs.Refusals.{firstHeld, badSize, loadTrial}
 use Rattle.plain.specs.Machine.{loadAnswer, answerLine}
-use Rattle.session.proofs.Told.{shown-refused}
+use Rattle.verdict.proofs.Told.{shown-refused}
 use Rattle.watch.proofs.no_session.Statement.{statement}
 use Rattle.watch.proofs.no_session.Tie as tie
 
@@ -18,7 +18,7 @@ load-requires c κs = search needs
 
 returns : tie.Need-returns
 unfolding firstHeld badSize loadTrial loadAnswer answerLine
-returns c = let l = c .before .load in (shown-refused (l .result .answer) _ 2 (l .ensures .answers), l .ensures .empty 2 refl)
+returns c = let l = c .before .load in (shown-refused (l .result .answer) _ 2 (l .ensures .answers .line), l .ensures .empty 2 refl)
 
 pub no-session-spec : {M : Type 1} → statement M
 no-session-spec =

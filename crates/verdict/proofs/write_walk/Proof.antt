@@ -2,9 +2,9 @@
 use native.Mathlib.Omega.{arith}
 use denote.Ref.{now}
 use borrow.Author.Needs.{needs}
-use Rattle.session.proofs.Writing.{written-both}
-use Rattle.session.proofs.write_walk.Statement.{statement}
-use Rattle.session.proofs.write_walk.Tie as tie
+use Rattle.verdict.proofs.Writing.{written-both}
+use Rattle.verdict.proofs.write_walk.Statement.{statement}
+use Rattle.verdict.proofs.write_walk.Tie as tie
 
 wide-requires : tie.Need-wide-requires
 wide-requires c κs = search needs
@@ -40,7 +40,7 @@ returns c =
     let f = w .before .before .before in
     let e = f .before .before in
     let a = e .before .before .before .before .args in
-    λ low fits room. written-both (now (a .walk)) (now (a .lent)) (a .v .stem) (a .v .length) (e .before .before .before .before .pre) low fits room
+    λ low fits room. written-both (now (a .walk)) (now (a .lent)) (a .stem) (a .len) (e .before .before .before .before .pre) low fits room
     (f .write-part .last .1 .1 .1 .0) (n .write-part2 .last .1 .1 .1 .0) (w .wide2 .result) (w .wide2 .ensures .0)
     (f .write-part .ensures .1) (f .write-part .ensures .0) (n .write-part2 .ensures .0)
 

@@ -7,7 +7,7 @@ use native.Mathlib.Omega.{arith}
 use lib.ListN.{length, getD, set, take, drop, length-drop, drop-of-length-le}
 use lib.Seq.{getD-drop, length-take-le, take-at, drop-at, take-all, take-add, drop-drop}
 use borrow.Rule.Slice.PartMut.{putMid}
-use Rattle.session.specs.Model.{shownWalk}
+use Rattle.verdict.specs.Answers.{shownWalk}
 
 -- the first n entries of xs, the rest as it was
 abbrev pub over : ℕ → List ℕ → List ℕ → List ℕ

@@ -6,9 +6,9 @@ use native.Mathlib.Omega.{arith}
 use denote.Ref.{now}
 use lib.ListN.{length, getD, set, drop, length-set}
 use borrow.Author.Needs.{needs}
-use Rattle.session.proofs.Writing.{over, written-one}
-use Rattle.session.proofs.write_part.Statement.{statement}
-use Rattle.session.proofs.write_part.Tie as tie
+use Rattle.verdict.proofs.Writing.{over, written-one}
+use Rattle.verdict.proofs.write_part.Statement.{statement}
+use Rattle.verdict.proofs.write_part.Tie as tie
 
 abbrev Inv-loop : tie.InvT-loop
 Inv-loop walk from count out₀ i₀ out i = (i ≤ count) × (length out ≡ length out₀) × (from + count ≤ 512 → count ≤ length out₀ → out ≡ over i (drop from walk) out₀)
