@@ -126,7 +126,7 @@ module _ (l : Load) (lent lent′ : List ℕ) (rows : Rows) (a : Records) (r : S
           total-is = rw e (g .total-is);
         },
         subst (λ (x : ℕ × ℕ). Answered (answer (verdict (final t)) (x .0) (x .1)) lent (answerIs (v .spent) (v .kept) (v .stem) (v .length)) lent′) (λ i. (all i, none-kept i))
-        (told (v .spent) (v .kept) (v .stem) (v .length) (verdict (final t)) (a .walk) lent lent′ tells wrote),
+            (told (v .spent) (v .kept) (v .stem) (v .length) (verdict (final t)) (a .walk) lent lent′ tells wrote),
       )
 
   pub load-accepted : (total : ℕ) → total ≡ plus (v .kept) (v .spent) → Loads l lent (record { answer = r .answer; session = sessionOf (l .size) (l .start) b a v total }) lent′
