@@ -10,7 +10,7 @@ use lib.Dec.{ltb, leb}
 use lib.ListN.{length, getD}
 use borrow.Author.Tests.{ltb-true, ltb-false, leb-true, lt-ltb, le-ltb, le-leb, lt-leb}
 use Rattle.plain.proofs.Tests.{contra, either, and-true}
-use Rattle.rows.specs.Rows.{rowAt, Compressed}
+use Rattle.rows.specs.Rows.{entries, rowAt, Compressed}
 use Rattle.rows.proofs.Paste.{same-place}
 use Rattle.rows.proofs.Entries.{row-length, row-at, no-row}
 use Rattle.rows.proofs.Change.{starts-within}
@@ -73,6 +73,12 @@ module _ (targets starts : List ℕ) (v : ℕ) where
     row-size = ⊎-elim
         (λ e. omega (arith, ap length (row-whole e), row-length targets starts v, z .whole e .0, z .whole e .1))
         (λ e. omega (arith, ap length (row-none e), z .empty e .0, z .empty e .1)) (either (fits starts v))
+
+    pub row-places : rowIn targets starts v ≡ entries (r .stop - r .from) (r .from) targets
+    unfolding rowAt entries
+    row-places = ⊎-elim
+        (λ e. row-whole e ∙ (λ i. entries (sym (z .whole e .1) i - sym (z .whole e .0) i) (sym (z .whole e .0) i) targets))
+        (λ e. row-none e ∙ (λ i. entries (sym (z .empty e .1) i - sym (z .empty e .0) i) (sym (z .empty e .0) i) targets)) (either (fits starts v))
 
     -- an edge of the row, at its place
     module _ (k : ℕ) (edge : k < r .stop - r .from) where

@@ -3,13 +3,14 @@ use mathlib.Core.Path.{_≡_}
 use mathlib.Core.Logic.{⊎-elim}
 use mathlib.Core.Bool.{Bool, true, false}
 use mathlib.Core.List.{List, [], _∷_, _++_}
-use Prim.Native.Nat.{ℕ, zero, suc, _+_, _≤_, _<_}
+use Prim.Native.Nat.{ℕ, zero, suc, _≤_, _<_}
 use native.Mathlib.Omega.{arith}
 use lib.Dec.{eqb, ltb}
 use lib.ListN.{length, drop, length-append, length-drop}
 use borrow.Author.Tests.{ltb-false}
 use Rattle.plain.specs.Lists.{elem, In}
-use Rattle.plain.specs.Search.{Graph, Edge, Frame, frame, onPath, Config, outer, nested, exhausted, found, discoveredOf, markedOf, count, visit, finish, probe, step, steps, run, statesOf}
+use Rattle.plain.specs.Search.{Graph, Edge, Frame, frame, onPath, Config, outer, nested, exhausted, found, discoveredOf, markedOf, visit, finish, probe, step, steps, run, statesOf}
+use Rattle.plain.specs.Limits.{WalkFew, Limits}
 use Rattle.plain.specs.Table.{Table, searched, budget}
 use Rattle.plain.specs.Refusals.{badSize}
 use Rattle.plain.proofs.Tests.{or-false, in-nil, in-tail, in-append}
@@ -20,21 +21,6 @@ use Rattle.plain.proofs.Rows.{row-short}
 use Rattle.plain.proofs.Tables.{Valid}
 use Rattle.plain.proofs.Demands.{upto, in-upto, once-upto, length-upto, total-le, start-in, target-in}
 use Rattle.plain.proofs.Walks.{states-length}
-
--- the states of the paths fit a walk of 512 entries
-abbrev pub WalkFew : Config → Type 0
-WalkFew (outer p d k l) = length p ≤ 512
-WalkFew (nested b p q d k l) = length p + length q ≤ 512
-WalkFew (exhausted d k l) = Unit {0}
-WalkFew (found h p q d k l) = Unit {0}
-
--- what bounds a configuration
-pub record Limits (g : Graph) (c : Config) : Type 0 where
-  pub below : (x : ℕ) → In x (discoveredOf c) → x < 512
-  pub few : length (discoveredOf c) ≤ 512
-  pub probes-few : count c ≤ 4096
-  pub rows-short : (v : ℕ) → length (g .successors v) ≤ 2048
-  pub walk-few : WalkFew c
 
 -- a graph of states below a size of at most 512, with at most 2,048 edges
 pub record Small (g : Graph) (size : ℕ) : Type 0 where

@@ -1,5 +1,6 @@
 pub mod Lists
 pub mod Search
+pub mod Limits
 pub mod Unexplored
 pub mod Cycles
 pub mod Table

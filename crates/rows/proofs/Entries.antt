@@ -2,9 +2,10 @@
 use Prim.Native.Nat.{ℕ, zero, suc, _+_, _-_, _≤_, _<_}
 use native.Mathlib.Nat.{not-suc-le-zero, le-of-suc-le-suc}
 use native.Mathlib.Omega.{arith}
+use native.Mathlib.Numerals.{add-one}
 use mathlib.Core.Path.{_≡_, refl, sym, ap, _∙_}
 use mathlib.Core.List.{List, [], _∷_, _++_}
-use lib.ListN.{length, getD, take, drop, drop-of-length-le}
+use lib.ListN.{length, getD, take, drop, drop-of-length-le, List·getD-append}
 use lib.Seq.{ext-getD, drop-cons, take-at, drop-at}
 use borrow.Author.Tests.{eq-eqb, ne-eqb}
 use Rattle.rows.specs.Rows.{entries, degreeAt, rowAt, placeOf, Compressed}
@@ -36,6 +37,12 @@ entries-same n p q xs ys f =
     entries-at n p xs i k ∙ f i k ∙ sym (entries-at n q ys i k))
 
 -- the first n, then the m behind them
+-- the first entries
+pub entries-front : (xs ys : List ℕ) → entries (length xs) 0 (xs ++ ys) ≡ xs
+entries-front xs ys = ext-getD 0 (entries (length xs) 0 (xs ++ ys)) xs (entries-length (length xs) 0 (xs ++ ys))
+    (λ i h. let k : i < length xs = omega (arith, h, entries-length (length xs) 0 (xs ++ ys)) in
+    sym (entries-first (length xs) (xs ++ ys) i k) ∙ List·getD-append xs ys 0 i k)
+
 pub entries-add : (n m at : ℕ) (xs : List ℕ) → entries (n + m) at xs ≡ entries n at xs ++ entries m (at + n) xs
 unfolding entries
 entries-add zero m at xs =
@@ -57,6 +64,17 @@ module _ (n k : ℕ) (fits : k ≤ n) (at : ℕ) (xs : List ℕ) where
 
   pub entries-drop : drop k (entries n at xs) ≡ entries (n - k) (at + k) xs
   entries-drop = ap (drop k) split ∙ drop-at (entries k at xs) (entries (n - k) (at + k) xs) k (entries-length k at xs)
+
+-- entries up to a place: none, or the first and the rest
+pub entries-none : (at stop : ℕ) (xs : List ℕ) → stop ≤ at → entries (stop - at) at xs ≡ []
+unfolding entries
+entries-none at stop xs h = let e : stop - at ≡ 0 = omega arith in ap (λ (n : ℕ). entries n at xs) e
+
+pub entries-next : (at stop : ℕ) (xs : List ℕ) → at < stop → entries (stop - at) at xs ≡ getD xs at 0 ∷ entries (stop - (at + 1)) (at + 1) xs
+unfolding entries
+entries-next at stop xs h =
+    let e : stop - at ≡ suc (stop - (at + 1)) = omega arith in
+    rw (e, add-one at)
 
 -- The row of a state.
 

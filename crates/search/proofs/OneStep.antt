@@ -17,7 +17,7 @@ use Rattle.plain.proofs.Paths.{On, Off, Distinct, on-head, on-cases}
 use Rattle.plain.proofs.Invariant.{Linked, Outer as OuterInv, Marks, Nested as NestedInv, Inv, next-known}
 use Rattle.plain.proofs.Lassos.{path-run, before-from}
 use Rattle.plain.proofs.Walks.{begins-push, begins-pop, begins-at, states-length}
-use Rattle.plain.proofs.Limits.{Limits}
+use Rattle.plain.specs.Limits.{Limits}
 use Rattle.plain.proofs.Restore.{put-same, put-hit, put-other, ShapeOf, Counted}
 use Rattle.look.specs.Numbers.{noNumber, up, plus}
 use Rattle.look.proofs.Counting.{up-more, plus-more, further-more, no-edge, edge-left, drop-further}

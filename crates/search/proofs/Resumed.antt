@@ -18,7 +18,8 @@ use Rattle.plain.proofs.Invariant.{Inv, inv-run}
 use Rattle.plain.proofs.Prefix.{discovery, Agree, FirstMeeting}
 use Rattle.plain.proofs.Restore.{Restored, noted-run}
 use Rattle.plain.proofs.Resume.{resumed, resumed-from}
-use Rattle.plain.proofs.Limits.{Limits, Small, within, limits, marked-known}
+use Rattle.plain.specs.Limits.{Limits}
+use Rattle.plain.proofs.Limits.{Small, within, limits, marked-known}
 use Rattle.look.specs.Numbers.{noNumber}
 use Rattle.search.specs.Core.{Game, Core, runFor, step, rewound}
 use Rattle.search.specs.Archive.{rootOf, stampIn, notesOf, Archived}

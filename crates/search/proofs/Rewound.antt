@@ -16,7 +16,7 @@ use Rattle.plain.specs.Notes.{Note, Notes, Below}
 use Rattle.plain.proofs.Tests.{contra, either, in-nil, or-false}
 use Rattle.plain.proofs.Paths.{On, Off, Distinct, on-head, on-tail}
 use Rattle.plain.proofs.Invariant.{Inv}
-use Rattle.plain.proofs.Limits.{Limits}
+use Rattle.plain.specs.Limits.{Limits}
 use Rattle.plain.proofs.Prefix.{discovery}
 use Rattle.look.specs.Numbers.{noNumber, up}
 use Rattle.look.proofs.Counting.{up-more}

@@ -6,8 +6,8 @@ use mathlib.Core.List.{List, [], _∷_, _++_, append-assoc, map}
 use Prim.Native.Nat.{ℕ, suc, _-_, _≤_, _<_}
 use native.Mathlib.Omega.{arith}
 use lib.Dec.{ltb}
-use lib.ListN.{length, getD, take, drop, length-append, take-append-drop, length-take, List·getD-append}
-use lib.Seq.{ext-getD, getD-at}
+use lib.ListN.{length, getD, take, drop, length-append, take-append-drop, length-take}
+use lib.Seq.{getD-at}
 use borrow.Author.Tests.{eq-eqb, ne-eqb, lt-ltb, le-ltb, ltb-true, not-false}
 use Rattle.plain.specs.Lists.{elem, In, before, from, all}
 use Rattle.plain.specs.Search.{Graph, Edge, Frame, frame, onPath, Config, outer, nested, exhausted, found, discoveredOf, probesOf, run, statesOf, stemOf, cycleOf, verdict, meets}
@@ -30,7 +30,7 @@ use Rattle.plain.proofs.Unexplored.{rows-once, shared-finished}
 use Rattle.plain.proofs.Explored.{finished-is, left-unlooked, front-looked, finished-looked}
 use Rattle.rows.specs.Rows.{entries, rowAt, placeOf}
 use Rattle.rows.specs.Change.{Rows}
-use Rattle.rows.proofs.Entries.{entries-length, entries-first}
+use Rattle.rows.proofs.Entries.{entries-front}
 use Rattle.look.specs.Numbers.{noNumber}
 use Rattle.search.specs.Archive.{notesOf}
 use Rattle.plain.proofs.Walks.{states-length}
@@ -88,11 +88,6 @@ switched-mark true x state rows index walk tip e = ap (λ (y : Subject). unexplo
 switched-mark false x state rows index walk tip e = ap (λ (y : Subject). unexploredIn (switching false y) rows index walk tip) e
 
 -- ---- the walk, and the states that have not finished
-
-entries-front : (xs ys : List ℕ) → entries (length xs) 0 (xs ++ ys) ≡ xs
-entries-front xs ys = ext-getD 0 (entries (length xs) 0 (xs ++ ys)) xs (entries-length (length xs) 0 (xs ++ ys))
-    (λ i h. let k : i < length xs = omega (arith, h, entries-length (length xs) 0 (xs ++ ys)) in
-    sym (entries-first (length xs) (xs ++ ys) i k) ∙ List·getD-append xs ys 0 i k)
 
 -- a list that has an entry is not empty
 in-some : (x : ℕ) (xs : List ℕ) → In x xs → 0 < length xs

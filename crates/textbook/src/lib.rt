@@ -1,0 +1,216 @@
+// The nested depth-first search as it is taught, for a table without history. One function visits a state, another goes through its moves, and each calls the other.
+// The inner search is made in the same manner. Every function is safe, and ends, for any contents of the arrays.
+use rows::wide;
+use table::Position;
+use table::Trial;
+use verdict::Answer;
+ghost use mathlib.Core.Path.{_≡_};
+ghost use mathlib.Core.Bool.{Bool, true, false};
+ghost use mathlib.Core.List.{List};
+ghost use lib.ListN.{length, getD, set};
+ghost use Rattle.rows.specs.Rows.{Tabled};
+ghost use Rattle.verdict.specs.Answers.{LoadAnswered};
+ghost use Rattle.textbook.specs.Search.{isRound, boardOf, Sized, Reads, ReadsAll, Visits, Moves, Tells};
+
+// What a search has come to: no round, or a round. The walk then has so many states, of which so many are the stem.
+enum Finding {
+    Clear,
+    Round { stem: u16, length: u16 },
+}
+
+fn is_round(r: Finding) -> bool
+    ensures { λ b. ⌜ b ≡ isRound r ⌝ }
+{
+    match r {
+        Finding::Clear => false,
+        Finding::Round { stem, length } => true,
+    }
+}
+
+// Is the state in the set? One of 512 or above counts as in every set.
+fn contains(states: &[bool; 512], v: u16) -> bool
+    requires { ⌜ length (now states) ≡ 512 ⌝ }
+    ensures { λ r. ⌜ r ≡ getD (now (states .entry)) v true ⌝ }
+{
+    let i = wide(v);
+    if i < look::STATES { states[i] } else { true }
+}
+
+// Puts the state into the set.
+fn insert(states: &mut [bool; 512], v: u16)
+    requires { ⌜ length (now states) ≡ 512 ⌝ }
+    ensures { λ r. ⌜ now (states .exit) ≡ set (now (states .entry)) v true ⌝ }
+{
+    let i = wide(v);
+    if i < look::STATES {
+        states[i] = true;
+    }
+}
+
+// THE INNER SEARCH visits a state: it is marked, and its moves are gone through. The open path is so many states high; behind it the walk goes on with the states of the
+// inner search, of which this one has that place.
+fn inner_visit(
+    targets: &[u16; 2048],
+    starts: &[u16; 513],
+    marked: &mut [bool; 512],
+    walk: &mut [u16; 512],
+    spent: &mut u16,
+    v: u16,
+    height: u16,
+    place: u16,
+) -> Finding
+    requires { ⌜ Tabled (now targets) (now starts) × Sized (now marked) (now walk) ⌝ }
+    ensures { λ r. ⌜ ((met : List Bool) → Visits (Reads (now (targets .entry)) (now (starts .entry))) true v height place (boardOf met (now (marked .entry)) (now (walk .entry)) (now (spent .entry))) (boardOf met (now (marked .exit)) (now (walk .exit)) (now (spent .exit))) r) ⌝ }
+{
+    insert(marked, v);
+    look::put(walk, place, v);
+    inner_moves(targets, starts, marked, walk, spent, v, height, look::up(place))
+}
+
+// Its moves are taken oldest first. If the target is on the open path, a round is found; if it is unmarked, it is visited.
+fn inner_moves(
+    targets: &[u16; 2048],
+    starts: &[u16; 513],
+    marked: &mut [bool; 512],
+    walk: &mut [u16; 512],
+    spent: &mut u16,
+    v: u16,
+    height: u16,
+    place: u16,
+) -> Finding
+    requires { ⌜ Tabled (now targets) (now starts) × Sized (now marked) (now walk) ⌝ }
+    ensures { λ r. ⌜ ((met : List Bool) → Moves (Reads (now (targets .entry)) (now (starts .entry))) true v height place (boardOf met (now (marked .entry)) (now (walk .entry)) (now (spent .entry))) (boardOf met (now (marked .exit)) (now (walk .exit)) (now (spent .exit))) r) ⌝ }
+{
+    let row = look::row_of(starts, v);
+    let mut at = row.from;
+    let stop = row.stop;
+    while at < stop {
+        let t = look::look(targets, spent, at);
+        let stem = look::find(walk, height, t);
+        if stem < height {
+            return Finding::Round {
+                stem,
+                length: place,
+            };
+        }
+        if !contains(marked, t) {
+            let r = inner_visit(targets, starts, marked, walk, spent, t, height, place);
+            if is_round(r) {
+                return r;
+            }
+        }
+        at += 1;
+    }
+    Finding::Clear
+}
+
+// THE OUTER SEARCH visits a state: it is met, and its moves are gone through; after the last of them, if it pays, an inner search starts from it. On the open path it has
+// that place.
+fn visit(
+    targets: &[u16; 2048],
+    starts: &[u16; 513],
+    words: &[u64; 8],
+    met: &mut [bool; 512],
+    marked: &mut [bool; 512],
+    walk: &mut [u16; 512],
+    spent: &mut u16,
+    v: u16,
+    place: u16,
+) -> Finding
+    requires { ⌜ Tabled (now targets) (now starts) × (length (now met) ≡ 512) × Sized (now marked) (now walk) ⌝ }
+    ensures { λ r. ⌜ Visits (ReadsAll (now (targets .entry)) (now (starts .entry)) (now (words .entry))) false v 0 place (boardOf (now (met .entry)) (now (marked .entry)) (now (walk .entry)) (now (spent .entry))) (boardOf (now (met .exit)) (now (marked .exit)) (now (walk .exit)) (now (spent .exit))) r ⌝ }
+{
+    insert(met, v);
+    look::put(walk, place, v);
+    let height = look::up(place);
+    let r = moves(targets, starts, words, met, marked, walk, spent, v, height);
+    if is_round(r) {
+        return r;
+    }
+    if marks::accepts_in(words, wide(v)) {
+        return inner_visit(targets, starts, marked, walk, spent, v, height, place);
+    }
+    r
+}
+
+// Its moves are taken oldest first. If the target is not met, it is visited.
+fn moves(
+    targets: &[u16; 2048],
+    starts: &[u16; 513],
+    words: &[u64; 8],
+    met: &mut [bool; 512],
+    marked: &mut [bool; 512],
+    walk: &mut [u16; 512],
+    spent: &mut u16,
+    v: u16,
+    place: u16,
+) -> Finding
+    requires { ⌜ Tabled (now targets) (now starts) × (length (now met) ≡ 512) × Sized (now marked) (now walk) ⌝ }
+    ensures { λ r. ⌜ Moves (ReadsAll (now (targets .entry)) (now (starts .entry)) (now (words .entry))) false v 0 place (boardOf (now (met .entry)) (now (marked .entry)) (now (walk .entry)) (now (spent .entry))) (boardOf (now (met .exit)) (now (marked .exit)) (now (walk .exit)) (now (spent .exit))) r ⌝ }
+{
+    let row = look::row_of(starts, v);
+    let mut at = row.from;
+    let stop = row.stop;
+    while at < stop {
+        let t = look::look(targets, spent, at);
+        if !contains(met, t) {
+            let r = visit(targets, starts, words, met, marked, walk, spent, t, place);
+            if is_round(r) {
+                return r;
+            }
+        }
+        at += 1;
+    }
+    Finding::Clear
+}
+
+// The answer, and the walk in the lent list. Nothing is kept: there was no search before.
+fn tell(r: Finding, spent: u16, walk: &[u16; 512], lent: &mut [u16]) -> Answer
+    requires { ⌜ length (now walk) ≡ 512 ⌝ }
+    ensures { λ a. ⌜ Tells r spent (now (walk .entry)) (now (lent .entry)) a (now (lent .exit)) ⌝ }
+{
+    match r {
+        Finding::Clear => verdict::answer_of(spent, 0, 0, 0),
+        Finding::Round { stem, length } => {
+            verdict::write_walk(walk, stem, length, lent);
+            verdict::answer_of(spent, 0, stem, length)
+        }
+    }
+}
+
+// Searches a game: the count of states, the start state, the paying words, the moves as a list of numbers, and the list lent for the walk. It is answered as a load of it
+// is.
+pub fn search(size: u16, start: u16, words: [u64; 8], numbers: &[u16], lent: &mut [u16]) -> Answer
+    ensures { λ r. ⌜ LoadAnswered (record { size = size; start = start; words = words; numbers = now (numbers .entry) }) (now (lent .entry)) r (now (lent .exit)) ⌝ }
+{
+    let mut targets: [u16; 2048] = [0; 2048];
+    let mut starts: [u16; 513] = [0; 513];
+    let trial = table::load_trial(
+        size,
+        start,
+        &words,
+        numbers,
+        &mut targets,
+        &mut starts,
+        lent.len(),
+    );
+    if let Trial::Refused(n) = trial {
+        return verdict::refused(n, Position::Alone);
+    }
+    let mut met: [bool; 512] = [false; 512];
+    let mut marked: [bool; 512] = [false; 512];
+    let mut walk: [u16; 512] = [0; 512];
+    let mut spent: u16 = 0;
+    let r = visit(
+        &targets,
+        &starts,
+        &words,
+        &mut met,
+        &mut marked,
+        &mut walk,
+        &mut spent,
+        start,
+        0,
+    );
+    tell(r, spent, &walk, lent)
+}
