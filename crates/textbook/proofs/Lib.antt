@@ -1,3 +1,4 @@
 pub mod Sets
 pub mod Steps
 pub mod Turns
+pub mod Whole

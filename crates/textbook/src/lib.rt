@@ -64,7 +64,16 @@ fn inner_visit(
 {
     insert(marked, v);
     look::put(walk, place, v);
-    inner_moves(targets, starts, marked, walk, spent, v, height, look::up(place))
+    inner_moves(
+        targets,
+        starts,
+        marked,
+        walk,
+        spent,
+        v,
+        height,
+        look::up(place),
+    )
 }
 
 // Its moves are taken oldest first. If the target is on the open path, a round is found; if it is unmarked, it is visited.

@@ -1,6 +1,6 @@
 -- `inner_visit` and `inner_moves`, which call each other, meet their contracts. What falls is the count of the unmarked states (Sets.antt, `left`), and in the loop the moves
 -- left. Assumes nothing.
-use mathlib.Core.Path.{_≡_, refl, sym, _∙_}
+use mathlib.Core.Path.{refl, sym, _∙_}
 use mathlib.Core.Logic.{⊎-elim}
 use mathlib.Core.Bool.{Bool, true}
 use mathlib.Core.List.{List, []}
@@ -106,10 +106,6 @@ find-requires : (t : ℕ) → inner-moves-lts.Need-find-requires (moves-claims t
 find-requires t c κs =
     let l = c .before .before .before .before in
     l .loop .inv [] .kept .walk-size ∙ l .before .before .pre .1 .1 .walk-size
-
--- a look: the turn before it, the target, and the count
-abbrev Looked : ℕ → Type 0
-Looked t = inner-moves-lts.After-look (moves-claims t) (inner-moves-at t) inner-moves.Post Inv-loop μ-loop
 
 returns : (t : ℕ) → inner-moves-lts.Need-returns (moves-claims t) (inner-moves-at t) inner-moves.Post Inv-loop μ-loop
 returns t c =
