@@ -1,37 +1,28 @@
 -- `main` is safe and ends, and writes what the plain definition prints: behind the lines of what was read so far, the lead, the list of numbers and the session
 -- stand for what is held behind their records. The arrays keep their lengths, and each line takes off what may still come. Assumes nothing.
-use mathlib.Core.Path.{_≡_, refl, sym, ap, subst, _∙_}
+use mathlib.Core.Path.{_≡_, sym, ap, subst, _∙_}
 use mathlib.Core.List.{List, [], _∷_, _++_, map}
-use mathlib.Core.Bool.{true, true≢false}
+use mathlib.Core.Bool.{true}
 use mathlib.Core.Logic.{⊎-elim}
 use native.Mathlib.Omega.{arith}
 use borrow.Author.Needs.{needs}
 use borrow.Author.Tests.{not-false}
 use Prim.Native.Nat.{ℕ, _≤_}
-use lib.ListN.{length, replicate}
+use lib.ListN.{length}
 use lib.Seq.{length-take-le}
 use Rattle.line.specs.Records.{recordOf}
 use Rattle.lead.specs.declared.Lead.{Lead}
 use Rattle.lead.specs.Asked.{numbersMost}
-use Rattle.watch.specs.Text.{waiting, room, limit}
+use Rattle.watch.specs.Text.{waiting, room}
 use Rattle.watch.specs.Model.{linesMost}
 use Rattle.watch.proofs.Steps.{Tracks}
 use Rattle.watch.proofs.Output.{laid-within, laid-first}
 use Rattle.watch.proofs.Turns.{Done, done-asked, done-not, Behind, behind}
-use Rattle.monitor.specs.declared.Status.{Status}
-use Rattle.monitor.specs.declared.Status.the-variants.{More, Line, Last, Over}
-use Rattle.monitor.specs.declared.Reader.{Reader}
-use Rattle.monitor.specs.Lines.{chunk, heldMost, Within, heldIn, isLine, hasLine, heldBehind}
-use Rattle.monitor.proofs.Reading.{within-same}
-use Rattle.monitor.proofs.Printing.{Read, read-start, Come, come, onwards, printed, told-bytes, one-behind}
+use Rattle.console.specs.Lines.{chunk, heldMost, Within, heldIn, isLine, hasLine, heldBehind}
+use Rattle.console.proofs.Reading.{within-begun, within-onward, onward-fewer}
+use Rattle.console.proofs.Printing.{Read, read-begun, Come, come, read-onward, printed, told-bytes, one-behind}
 use Rattle.monitor.proofs.main.Statement.{statement}
 use Rattle.monitor.proofs.main.Tie as tie
-
-line-status : (st : Status) → isLine st ≡ true → st ≡ Line
-line-status More e = absurd (true≢false (sym e))
-line-status Line e = refl
-line-status Last e = absurd (true≢false (sym e))
-line-status Over e = absurd (true≢false (sym e))
 
 abbrev Inv-loop : tie.InvT-loop
 Inv-loop numbers₀ walk₀ lines₀ buf₀ held₀ lead₀ c₀ r₀ numbers walk lines buf held lead c r =
@@ -47,13 +38,8 @@ first-lead-requires c κs = search needs
 no-session-requires : tie.Need-no-session-requires Inv-loop μ-loop
 no-session-requires c κs = search needs
 
-standing-requires : tie.Need-standing-requires Inv-loop μ-loop
-standing-requires c κs = search needs
-
-starts : (c : tie.After-standing Inv-loop μ-loop) → Read (c .standing .result) (replicate 33 0) (replicate 512 0) [] []
-starts c =
-    let e : c .standing .result ≡ record { at = 0; end = 0; len = 0; left = limit; status = More } = c .standing .ensures in
-    read-start _ _ _ (ap (λ (r : Reader). r .len) e) (ap (λ (r : Reader). r .left) e) (ap (λ (r : Reader). r .at) e) (ap (λ (r : Reader). r .end) e)
+begin-requires : tie.Need-begin-requires Inv-loop μ-loop
+begin-requires c κs = search needs
 
 loop-holds : tie.Need-loop-holds Inv-loop μ-loop
 unfolding heldBehind
@@ -63,8 +49,8 @@ loop-holds c = (
   search needs,
   search needs,
   search needs,
-  within-same (c .standing .result) _ 512 (c .standing .ensures) (record { at = omega arith; end = omega arith; len = omega arith }),
-  ([], ([], (starts c, ap (λ (l : Lead). l .stage) (c .before .before .first-lead .ensures)))),
+  within-begun (c .begin .result) (c .begin .ensures),
+  ([], ([], (read-begun (c .begin .result) _ _ (c .begin .ensures), ap (λ (l : Lead). l .stage) (c .before .before .first-lead .ensures)))),
 )
 
 next-line-requires : tie.Need-next-line-requires Inv-loop μ-loop
@@ -215,35 +201,27 @@ is-line-requires c κs = search needs
 returns-4 : tie.Need-returns-4 Inv-loop μ-loop
 returns-4 c = search needs
 
-standing-requires-2 : tie.Need-standing-requires-2 Inv-loop μ-loop
-standing-requires-2 c κs = search needs
+onward-requires : tie.Need-onward-requires Inv-loop μ-loop
+onward-requires c κs = search needs
 
--- how the next line is begun
-abbrev onward : Reader → Reader
-onward r = record { at = r .at; end = r .end; len = 0; left = r .left; status = More }
-
-abbrev answered : tie.After-standing2 Inv-loop μ-loop → tie.After-write Inv-loop μ-loop
+abbrev answered : tie.After-onward Inv-loop μ-loop → tie.After-write Inv-loop μ-loop
 answered c = c .before .before .before .before .before .before .before .before .before .before .before .before
 
-begun : (c : tie.After-standing2 Inv-loop μ-loop) → c .standing2 .result ≡ onward (found (answered c) .next-line .result)
-begun c = c .standing2 .ensures
-
 -- the line was not the last
-ended : (c : tie.After-standing2 Inv-loop μ-loop) → found (answered c) .next-line .result .status ≡ Line
-ended c =
-    let n = found (answered c) .next-line in
-    line-status (n .result .status) (sym (c .before .before .is-line .ensures) ∙ not-false (c .before .before .is-line .result) (c .before .if4 .left))
+ended : (c : tie.After-onward Inv-loop μ-loop) → isLine (found (answered c) .next-line .result .status) ≡ true
+ended c = sym (c .before .before .is-line .ensures) ∙ not-false (c .before .before .is-line .result) (c .before .if4 .left)
 
-goes-on : (c : tie.After-standing2 Inv-loop μ-loop)
-    → Read (c .standing2 .result) (found (answered c) .next-line .last .1 .0) (found (answered c) .next-line .last .0) (seen-by (answered c)) (before-it (answered c) ++ (line-in (answered c) ∷ []))
+goes-on : (c : tie.After-onward Inv-loop μ-loop)
+    → Read (c .onward .result) (found (answered c) .next-line .last .1 .0) (found (answered c) .next-line .last .0) (seen-by (answered c)) (before-it (answered c) ++ (line-in (answered c) ∷ []))
 goes-on c =
     let w = answered c in
-    let b = begun c in
-    onwards (at-loop w .loop .r) (at-loop w .loop .held) (at-loop w .loop .buf) _ _ _ _ _ (found w .next-line .ensures) (c .standing2 .result) (ended c)
-    (ap (λ (r : Reader). r .len) b) (ap (λ (r : Reader). r .left) b) (ap (λ (r : Reader). r .at) b) (ap (λ (r : Reader). r .end) b) (at-loop w .loop .inv .6 .1 .1 .0)
+    read-onward (at-loop w .loop .r) (at-loop w .loop .held) (at-loop w .loop .buf) _ _ _ _ _ (found w .next-line .ensures) (c .onward .result) (c .onward .ensures) (ended c)
+    (at-loop w .loop .inv .6 .1 .1 .0)
 
 loop-less : tie.Need-loop-less Inv-loop μ-loop
-loop-less c = omega (arith, ap (λ (r : Reader). r .left) (begun c), found (answered c) .next-line .ensures .falls (ended c))
+loop-less c =
+    let w = answered c in
+    onward-fewer (at-loop w .loop .r) (at-loop w .loop .held) (at-loop w .loop .buf) _ _ _ (found w .next-line .ensures) (c .onward .result) (c .onward .ensures) (ended c)
 
 loop-again : tie.Need-loop-again Inv-loop μ-loop
 loop-again c =
@@ -255,7 +233,7 @@ loop-again c =
       w .write .kept .1 .1 .1 .0 ∙ i .2,
       e .space,
       e .size,
-      within-same (c .standing2 .result) (onward (found w .next-line .result)) 512 (begun c) (record { at = e .within .at; end = e .within .end; len = omega arith }),
+      within-onward (c .onward .result) _ (c .onward .ensures) (e .within),
       (before-it w ++ (line-in w ∷ []), (seen-by w, (goes-on c, subst (Tracks (w .write .result .lead) (reading w .read .last .1 .0) (served w .match .c .session)) (one-behind (before-it w) (line-in w)) (told w .tracks)))),
     )
 
@@ -267,7 +245,7 @@ main-spec =
     μ-loop
     first-lead-requires
     no-session-requires
-    standing-requires
+    begin-requires
     loop-holds
     next-line-requires
     has-line-requires
@@ -294,6 +272,6 @@ main-spec =
     returns-3
     is-line-requires
     returns-4
-    standing-requires-2
+    onward-requires
     loop-less
     loop-again)

@@ -1,4 +1,4 @@
--- The lines that the program hands on are, for the reader of records, the lines of the text as document 01 counts them. Assumes nothing.
+-- The lines that a program hands on are, for the reader of records, the lines of the text as document 01 counts them. Assumes nothing.
 use Prim.Native.Nat.{ℕ, zero, suc, _≤_, _<_}
 use mathlib.Core.Path.{_≡_, refl, sym, ap, ap₂, _∙_}
 use mathlib.Core.Bool.{Bool, true, false, cond}
@@ -15,7 +15,7 @@ use Rattle.line.specs.Fields.{newline, onFirst, parted, linesOf}
 use Rattle.line.specs.Records.{recordOf}
 use Rattle.line.proofs.Records.{record-held}
 use Rattle.watch.specs.Text.{limit, wholeLines, counted}
-use Rattle.monitor.specs.Lines.{pushed, last, handed}
+use Rattle.console.specs.Lines.{pushed, last, handed}
 
 -- ---- whole lines: what is held of each is its first 33 bytes
 

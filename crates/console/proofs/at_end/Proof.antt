@@ -2,11 +2,11 @@
 use mathlib.Core.Path.{_≡_, _∙_}
 use borrow.Author.Needs.{needs}
 use borrow.Author.Tests.{eq-eqb, ne-eqb}
-use Rattle.monitor.specs.declared.Status.the-variants.{Last, Over}
-use Rattle.monitor.specs.declared.Reader.{Reader}
-use Rattle.monitor.specs.Lines.{endOf}
-use Rattle.monitor.proofs.at_end.Statement.{statement}
-use Rattle.monitor.proofs.at_end.Tie as tie
+use Rattle.console.specs.declared.Status.the-variants.{Last, Over}
+use Rattle.console.specs.declared.Reader.{Reader}
+use Rattle.console.specs.Lines.{endOf}
+use Rattle.console.proofs.at_end.Statement.{statement}
+use Rattle.console.proofs.at_end.Tie as tie
 
 empty-end : (r : Reader) → r .len ≡ 0 → record { at = 0; end = 0; len = r .len; left = r .left; status = Over } ≡ endOf r
 unfolding endOf

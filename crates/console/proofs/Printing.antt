@@ -14,10 +14,11 @@ use Rattle.watch.specs.declared.Written.{Written}
 use Rattle.watch.specs.Text.{Held, waiting, step, limit}
 use Rattle.watch.specs.Model.{linesMost, Laid, Writes}
 use Rattle.watch.proofs.Output.{laid-bytes}
-use Rattle.monitor.specs.declared.Status.{Status}
-use Rattle.monitor.specs.declared.Status.the-variants.{More, Line, Last, Over}
-use Rattle.monitor.specs.declared.Reader.{Reader}
-use Rattle.monitor.specs.Lines.{handed, heldIn, bytesIn, hasLine, heldBehind, bytesTold, Printed, Found, Next}
+use Rattle.console.specs.declared.Status.{Status}
+use Rattle.console.specs.declared.Status.the-variants.{More, Line, Last, Over}
+use Rattle.console.specs.declared.Reader.{Reader}
+use Rattle.console.specs.Lines.{handed, heldIn, bytesIn, hasLine, isLine, heldBehind, bytesTold, Printed, Found, Next}
+use Rattle.console.proofs.Reading.{line-status, begun, onward}
 
 -- What was read so far: its lines up to here, and those that the bytes left of the last read begin, whatever bytes follow.
 pub record Read (r : Reader) (held buf seen : List ℕ) (ls : List (List ℕ)) : Type 0 where
@@ -25,6 +26,10 @@ pub record Read (r : Reader) (held buf seen : List ℕ) (ls : List (List ℕ)) :
 
 pub read-start : (q : Reader) (held buf : List ℕ) → q .len ≡ 0 → q .left ≡ limit → q .at ≡ 0 → q .end ≡ 0 → Read q held buf [] []
 read-start q held buf z l a n = record { goes = λ more. rw (z, l, a, n) refl }
+
+pub read-begun : (q : Reader) (held buf : List ℕ) → q ≡ begun → Read q held buf [] []
+read-begun q held buf e =
+    read-start q held buf (ap (λ (r : Reader). r .len) e) (ap (λ (r : Reader). r .left) e) (ap (λ (r : Reader). r .at) e) (ap (λ (r : Reader). r .end) e)
 
 -- one line more
 pub record Come (r′ : Reader) (held′ buf′ seen : List ℕ) (ls : List (List ℕ)) : Type 0 where
@@ -69,6 +74,11 @@ module _ (r : Reader) (held buf : List ℕ) (r′ : Reader) (held′ buf′ seen
   pub onwards : (n : Next r held buf r′ held′ buf′) (q : Reader) → r′ .status ≡ Line → q .len ≡ 0 → q .left ≡ r′ .left → q .at ≡ r′ .at → q .end ≡ r′ .end
       → Read r held buf seen ls → Read q held′ buf′ (seen ++ n .brought) (ls ++ (heldIn r′ held′ ∷ []))
   onwards n q e z l a m h = on-by (r′ .status) (n .brought) q e z l a m (n .goes) h
+
+  pub read-onward : (n : Next r held buf r′ held′ buf′) (q : Reader) → q ≡ onward r′ → isLine (r′ .status) ≡ true
+      → Read r held buf seen ls → Read q held′ buf′ (seen ++ n .brought) (ls ++ (heldIn r′ held′ ∷ []))
+  read-onward n q b e h =
+      onwards n q (line-status (r′ .status) e) (ap (λ (x : Reader). x .len) b) (ap (λ (x : Reader). x .left) b) (ap (λ (x : Reader). x .at) b) (ap (λ (x : Reader). x .end) b) h
 
 -- the bytes at the head of the buffer, as the plain definition prints them and as the plan tells them
 pub printed : (r′ : Reader) (held′ buf′ seen : List ℕ) (ls : List (List ℕ)) (d d′ : List ℕ) (first len : ℕ) → Come r′ held′ buf′ seen ls

@@ -3,9 +3,9 @@ use Prim.Native.Nat.{_-_}
 use native.Mathlib.Omega.{arith}
 use borrow.Author.Needs.{needs}
 use lib.ListN.{length-set}
-use Rattle.monitor.proofs.Reading.{Going, going-start, going-byte, push-room, push-full, took-over, took-line, took-all}
-use Rattle.monitor.proofs.take_bytes.Statement.{statement}
-use Rattle.monitor.proofs.take_bytes.Tie as tie
+use Rattle.console.proofs.Reading.{Going, going-start, going-byte, push-room, push-full, took-over, took-line, took-all}
+use Rattle.console.proofs.take_bytes.Statement.{statement}
+use Rattle.console.proofs.take_bytes.Tie as tie
 
 abbrev Inv-loop : tie.InvT-loop
 Inv-loop buf held₀ end at₀ len₀ left₀ held at len left = Going held₀ buf end at₀ len₀ left₀ held at len left

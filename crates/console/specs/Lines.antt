@@ -1,4 +1,4 @@
--- The lines that the program puts together from the bytes of its reads. Assumes nothing.
+-- The lines that a program puts together from the bytes of its reads. Assumes nothing.
 use Prim.Native.Nat.{ℕ, zero, suc, _+_, _-_, _≤_, _<_}
 use mathlib.Core.Path.{_≡_}
 use mathlib.Core.Bool.{Bool, true, false, cond}
@@ -14,9 +14,9 @@ use Rattle.lead.specs.declared.Lead.{Lead}
 use Rattle.lead.specs.Asked.{asked}
 use Rattle.watch.specs.Model.{linesMost, linesTold}
 use Rattle.watch.specs.Text.{Held, waiting, step, limit}
-use Rattle.monitor.specs.declared.Status.{Status}
-use Rattle.monitor.specs.declared.Status.the-variants.{More, Line, Last, Over}
-use Rattle.monitor.specs.declared.Reader.{Reader}
+use Rattle.console.specs.declared.Status.{Status}
+use Rattle.console.specs.declared.Status.the-variants.{More, Line, Last, Over}
+use Rattle.console.specs.declared.Reader.{Reader}
 
 -- a read brings at most so many bytes
 abbrev pub chunk : ℕ

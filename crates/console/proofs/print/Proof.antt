@@ -3,8 +3,8 @@ use Prim.Native.Nat.{_-_, _≤_}
 use native.Mathlib.Omega.{arith}
 use borrow.Author.Needs.{needs}
 use lib.ListN.{length}
-use Rattle.monitor.proofs.print.Statement.{statement}
-use Rattle.monitor.proofs.print.Tie as tie
+use Rattle.console.proofs.print.Statement.{statement}
+use Rattle.console.proofs.print.Tie as tie
 
 abbrev Inv-loop : tie.InvT-loop
 Inv-loop line walk bytes at₀ at = at ≤ length bytes

@@ -5,10 +5,10 @@ use mathlib.Core.Path.{sym, _∙_}
 use mathlib.Core.List.{List}
 use native.Mathlib.Omega.{arith}
 use borrow.Author.Needs.{needs}
-use Rattle.monitor.specs.declared.Reader.{Reader}
-use Rattle.monitor.proofs.Reading.{Reached, reached-first, reached-again, goesOn, took-fewer, within-buf, within-same, afresh, took-afresh, next-found, next-end}
-use Rattle.monitor.proofs.next_line.Statement.{statement}
-use Rattle.monitor.proofs.next_line.Tie as tie
+use Rattle.console.specs.declared.Reader.{Reader}
+use Rattle.console.proofs.Reading.{Reached, reached-first, reached-again, goesOn, took-fewer, within-buf, within-same, afresh, took-afresh, next-found, next-end}
+use Rattle.console.proofs.next_line.Statement.{statement}
+use Rattle.console.proofs.next_line.Tie as tie
 
 abbrev Inv-loop : tie.InvT-loop
 Inv-loop buf₀ held₀ s₀ buf held s = (r : Reader) (h b : List ℕ) → Reached r h b s₀ held₀ buf₀ → Reached r h b s held buf
