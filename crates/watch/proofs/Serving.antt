@@ -12,7 +12,7 @@ use Rattle.watch.specs.Model.{numbersHeld, gathered}
 use Rattle.watch.proofs.Writing.{take-least}
 
 -- as many numbers as there are
-same-numbers : (l : Lead) (ns : List ℕ) (n k : ℕ) → n ≡ min k (length ns) → k ≡ l .count → take n ns ≡ numbersHeld l ns
+pub same-numbers : (l : Lead) (ns : List ℕ) (n k : ℕ) → n ≡ min k (length ns) → k ≡ l .count → take n ns ≡ numbersHeld l ns
 same-numbers l ns n k e f = ap (λ (m : ℕ). take m ns) (e ∙ ap (λ (m : ℕ). min m (length ns)) f) ∙ take-least (l .count) ns
 
 pub load-all : (l : Lead) (ns walk : List ℕ) (n k : ℕ) (r : Outcome) (walk′ : List ℕ) → n ≡ min k (length ns) → k ≡ l .count

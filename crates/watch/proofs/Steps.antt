@@ -24,7 +24,7 @@ use Rattle.line.specs.declared.Record.{Record}
 use Rattle.table.specs.declared.Op.{Op}
 use Rattle.verdict.specs.declared.Answer.{Answer}
 use Rattle.verdict.specs.declared.Answer.the-variants.{Refused, Clear, Round}
-use Rattle.verdict.specs.Answers.{isRefused, shown}
+use Rattle.verdict.specs.Answers.{LoadAnswered, isRefused, shown}
 use Rattle.session.specs.declared.Session.{Session}
 use Rattle.session.specs.declared.Outcome.{Outcome}
 use Rattle.table.specs.declared.BatchLine.{BatchLine as CodedLine}
@@ -113,11 +113,11 @@ no-moves [] e = refl
 no-moves (m ∷ ms) e = let z : _≡_ {A = ℕ} 0 1 = cc in absurd (omega arith)
 
 -- the tests of the code on the count of numbers are those on the moves
-count-empty : (n : ℕ) (moves : List Edge) → n ≡ 2 * length moves → eqb n 0 ≡ empty moves
+pub count-empty : (n : ℕ) (moves : List Edge) → n ≡ 2 * length moves → eqb n 0 ≡ empty moves
 count-empty n [] e = eq-eqb n 0 e
 count-empty n (m ∷ ms) e = ne-eqb n 0 (λ z. omega arith)
 
-count-full : (l : Lead) (moves : List Edge) → l .count ≡ 2 * length moves → isFull l ≡ full moves
+pub count-full : (l : Lead) (moves : List Edge) → l .count ≡ 2 * length moves → isFull l ≡ full moves
 unfolding isFull full
 count-full l moves e = elim (decLe 2048 (length moves)) [
   | yes h ↦ le-leb 4096 (l .count) (omega arith) ∙ sym (le-leb 2048 (length moves) h)
@@ -128,6 +128,29 @@ flat-append : (ms : List Edge) (e : Edge) → flat (ms ++ (e ∷ [])) ≡ flat m
 unfolding flat
 flat-append [] e = refl
 flat-append (m ∷ ms) e = ap (λ (ns : List ℕ). m .0 ∷ m .1 ∷ ns) (flat-append ms e)
+
+-- ---- the lines of a load, by what trying it gives
+
+abbrev isNo : Trial → Bool
+isNo accepted = false
+isNo (refused n) = true
+
+pub load-lines : (x : Trial) (l : Lead) (ns : List ℕ) (d : Draft) (walk : List ℕ) (a : Answer) (walk′ : List ℕ) → loadTrial (loadOf d) (length walk) ≡ x → Gathers l ns d
+    → LoadAnswered (loadOf d) walk a walk′ → (isRefused a ≡ isNo x) × (linesFor (Asks AskLoad) l a walk′ ≡ loadStep x d .lines)
+unfolding loadAnswer answerLine tellsNo
+load-lines accepted l ns d walk a walk′ k g lo =
+    let t = tableOf (loadOf d) in
+    let told : answerLine (loadAnswer accepted t) ≡ shown a walk′ ∷ [] = rw k at (lo .line) in
+    let yes : isRefused a ≡ false = refused-as (loadAnswer accepted t) a walk′ told ∙ verdict-yes (verdict (final t)) (count (final t)) 0 in
+    let half : l .count / 2 ≡ length (d .moves) = omega (arith, g .count) in (
+      yes,
+      ap (λ (b : Bool). cond b (shown a walk′ ∷ []) (gameLine (l .size) (l .count / 2) (acceptingCount (l .words)) ∷ shown a walk′ ∷ [])) yes
+          ∙ rw (g .size, g .words, half) (ap (λ (ls : List Line). gameLine (d .size) (length (d .moves)) (acceptingCount (d .marks)) ∷ ls) (sym told)),
+    )
+load-lines (refused n) l ns d walk a walk′ k g lo =
+    let told : answerLine (loadAnswer (refused n) (tableOf (loadOf d))) ≡ shown a walk′ ∷ [] = rw k at (lo .line) in
+    let no : isRefused a ≡ true = refused-as (loadAnswer (refused n) (tableOf (loadOf d))) a walk′ told in
+    (no, ap (λ (b : Bool). cond b (shown a walk′ ∷ []) (gameLine (l .size) (l .count / 2) (acceptingCount (l .words)) ∷ shown a walk′ ∷ [])) no ∙ sym told)
 
 -- ---- what a line after `go` requests
 
@@ -238,23 +261,12 @@ module _ (ns walk : List ℕ) (s : Session) (c : Outcome) (walk′ : List ℕ) w
   -- a load, by what trying it gives
   load-by : (x : Trial) (l : Lead) (d : Draft) → loadTrial (loadOf d) (length walk) ≡ x → Gathers l ns d → Loads (loadOf d) walk c walk′
       → Tracks (leadFor (Asks AskLoad) l (c .answer)) ns (c .session) (loadStep x d .next) × (linesFor (Asks AskLoad) l (c .answer) walk′ ≡ loadStep x d .lines)
-  unfolding loadAnswer answerLine tellsNo
   load-by accepted l d k g lo =
-      let t = tableOf (loadOf d) in
-      let told : answerLine (loadAnswer accepted t) ≡ shown (c .answer) walk′ ∷ [] = rw k at (lo .answers .line) in
-      let yes : isRefused (c .answer) ≡ false = refused-as (loadAnswer accepted t) (c .answer) walk′ told ∙ verdict-yes (verdict (final t)) (count (final t)) 0 in
-      let half : l .count / 2 ≡ length (d .moves) = omega (arith, g .count) in (
-        (ap (λ (b : Bool). cond b Over Playing) yes, lo .holds k),
-        ap (λ (b : Bool). cond b (shown (c .answer) walk′ ∷ []) (gameLine (l .size) (l .count / 2) (acceptingCount (l .words)) ∷ shown (c .answer) walk′ ∷ [])) yes
-            ∙ rw (g .size, g .words, half) (ap (λ (ls : List Line). gameLine (d .size) (length (d .moves)) (acceptingCount (d .marks)) ∷ ls) (sym told)),
-      )
+      let w = load-lines accepted l ns d walk (c .answer) walk′ k g (lo .answers) in
+      ((ap (λ (b : Bool). cond b Over Playing) (w .0), lo .holds k), w .1)
   load-by (refused n) l d k g lo =
-      let a = loadAnswer (refused n) (tableOf (loadOf d)) in
-      let told : answerLine a ≡ shown (c .answer) walk′ ∷ [] = rw k at (lo .answers .line) in
-      let no : isRefused (c .answer) ≡ true = refused-as a (c .answer) walk′ told in (
-        ap (λ (b : Bool). cond b Over Playing) no,
-        ap (λ (b : Bool). cond b (shown (c .answer) walk′ ∷ []) (gameLine (l .size) (l .count / 2) (acceptingCount (l .words)) ∷ shown (c .answer) walk′ ∷ [])) no ∙ sym told,
-      )
+      let w = load-lines (refused n) l ns d walk (c .answer) walk′ k g (lo .answers) in
+      (ap (λ (b : Bool). cond b Over Playing) (w .0), w .1)
 
   comes-load : (l : Lead) (d : Draft) → Gathers l ns d → length walk ≡ room → Comes l (loading l) (loadStep (loadTrial (loadOf d) room) d)
   comes-load l d g e w =

@@ -57,7 +57,7 @@ pub fn no_session() -> Outcome
     session::load(0, 0, [0; 8], &numbers, &mut lent)
 }
 
-fn least(a: usize, b: usize) -> usize
+pub fn least(a: usize, b: usize) -> usize
     ensures { λ r. ⌜ r ≡ min a b ⌝ }
 {
     if a < b { a } else { b }
