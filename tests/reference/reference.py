@@ -148,6 +148,12 @@ class TextbookSearch:
         self.found = walk is not None
         self.stem, self.round = walk or ([], [])
 
+    def targets(self, state):
+        """Of its moves, oldest first, one look each."""
+        for move in self.moves[state]:
+            self.looks.append(move)
+            yield move[1]
+
     def visit(self, state):
         self.met.add(state)
         self.open_path.append(state)
@@ -158,12 +164,10 @@ class TextbookSearch:
         return walk
 
     def go_through_moves(self, state):
-        for move in self.moves[state]:
-            self.looks.append(move)
-            if move[1] not in self.met:
-                walk = self.visit(move[1])
-                if walk is not None:
-                    return walk
+        for target in self.targets(state):
+            walk = None if target in self.met else self.visit(target)
+            if walk is not None:
+                return walk
         return None
 
     def inner_visit(self, state):
@@ -174,15 +178,13 @@ class TextbookSearch:
         return walk
 
     def inner_go_through_moves(self, state):
-        for move in self.moves[state]:
-            self.looks.append(move)
-            if move[1] in self.open_path:
-                stem = self.open_path[:self.open_path.index(move[1])]
+        for target in self.targets(state):
+            if target in self.open_path:
+                stem = self.open_path[:self.open_path.index(target)]
                 return stem, self.open_path[len(stem):] + self.inner_path[1:]
-            if move[1] not in self.marks:
-                walk = self.inner_visit(move[1])
-                if walk is not None:
-                    return walk
+            walk = None if target in self.marks else self.inner_visit(target)
+            if walk is not None:
+                return walk
         return None
 
 
@@ -1404,7 +1406,7 @@ def test_games():
         text = as_text("|".join(rows))
         assert answer_text(text + b"\n") == lines, name
         assert answer_text(text) == lines, name
-        assert desk_text(text) == loaded, name
+        assert desk_hears(text) == loaded, name
 
 
 def game_rows(size, start, pay, moves):
@@ -1417,11 +1419,18 @@ def as_text(rows):
 
 
 def says(given, wanted):
-    """The box answers so, and the desk the first two lines of it: no load gets more, and no other line has an answer there."""
+    """The box answers so, and the desk the first two lines of it: a load has no more, and other lines no answer there."""
     given, wanted = as_text(given), as_text(wanted)
     got = answer_text(given)
     assert got == wanted, (given, got)
-    assert desk_text(given) == first_two(wanted), (given, wanted)
+    assert desk_hears(given) == first_two(wanted), (given, wanted)
+
+
+def desk_hears(text):
+    """The desk's output for a text: the box's for the text up to its `go`, and the first two lines of that for all of it."""
+    got = desk_text(text)
+    assert got == answer_text(up_to_go(text)) == first_two(answer_text(text)), (text, got)
+    return got
 
 
 def first_two(output):
@@ -1858,13 +1867,6 @@ def test_textbook():
     for most in (8, 40, 511, 512):
         assert min(seen[most, True], seen[most, False], seen[most, "inner searches"]) >= 15, seen
     assert min(seen[most, "walk of 100"] for most in (511, 512)) >= 5, seen
-
-
-def desk_hears(text):
-    """The desk's output for a text is the box's for the text up to its `go`, and the first two lines of that for all of it."""
-    got = desk_text(text)
-    assert got == answer_text(up_to_go(text)) == first_two(answer_text(text)), (text, got)
-    return got
 
 
 def test_desk_lines():
