@@ -1,9 +1,11 @@
-"""What the test scripts share: where things stand, the reference, seeds, and how a difference is told."""
+"""What the test scripts share: where things stand, the reference, seeds, how a program is run and how a difference is told."""
 
+import contextlib
 import functools
 import os
 import pathlib
 import re
+import signal
 import struct
 import subprocess
 import sys
@@ -21,6 +23,7 @@ reference.answer_lines = functools.lru_cache(maxsize=None)(
 STORED = ROOT / "tests" / "stored"
 # Another program or archive can be put to the same tests.
 MONITOR = os.environ.get("MONITOR", str(ROOT / "target" / "bin" / "monitor"))
+DESK = os.environ.get("DESK", str(ROOT / "target" / "bin" / "desk"))
 ARCHIVE = os.environ.get("ARCHIVE", str(ROOT / "target" / "staticlib" / "libwatch.a"))
 
 
@@ -84,13 +87,145 @@ def shrunk(text, differs, tries=300):
     return b"".join(lines)
 
 
+# ------------------------------------------------------------- programs
+
+PATIENCE = 20      # seconds after which a program that should have answered or ended counts as hanging
+
+
+def runner(*command):
+    """A way to run a text: the program's output for it."""
+    return lambda text: subprocess.run(command, input=text, stdout=subprocess.PIPE, timeout=PATIENCE).stdout
+
+
+def compare(what, text, wanted, run, model=None):
+    """The output that this run of the text gives, which has to be the wanted one. With a model, which gives the wanted output
+    of any text, a difference is also told of a short text."""
+    try:
+        got = run(text)
+    except subprocess.TimeoutExpired:
+        fail(what + ": the program does not end", cut_off(text, 2000))
+    if got == wanted:
+        return got
+    rows = [what + ": the output differs", *difference(wanted, got)]
+    if model:
+        small = shrunk(text, lambda t: run(t) != model(t))
+        rows += ["a short input that differs too:", cut_off(small, 2000), *difference(model(small), run(small))]
+    fail(*rows)
+
+
+def in_parts(program, parts):
+    """A way to run a text: it goes into a pipe in the parts that parts(text) gives, with the pauses between them."""
+    def run(text):
+        process = subprocess.Popen([program], stdin=subprocess.PIPE, stdout=subprocess.PIPE, bufsize=0)
+        try:
+            for part, pause in parts(text):
+                process.stdin.write(part)
+                time.sleep(pause)
+        except BrokenPipeError:                # the program has ended before
+            pass
+        try:
+            return process.communicate(timeout=PATIENCE)[0]
+        finally:
+            process.kill()
+    return run
+
+
+def compare_in_parts(program, texts, model, rng):
+    """Each of these texts, named, in parts of three sorts."""
+    def single_bytes(text):
+        return ((text[i:i + 1], 0) for i in range(len(text)))
+
+    def random_places(text):
+        at = sorted(rng.sample(range(len(text) + 1), min(len(text), 30)))
+        return ((text[a:b], 0.002) for a, b in zip([0] + at, at + [len(text)]))
+
+    def line_ends(text):
+        return ((line, 0.0005) for line in lines_of(text))
+
+    for what, text in texts:
+        for way in (single_bytes, random_places, line_ends):
+            compare("%s, by %s" % (what, way.__name__), text, model(text), in_parts(program, way))
+
+
+class Hall:
+    """A hall that sends a program a line and waits for its answer."""
+
+    def __init__(self, program, what, **how):
+        self.what = what
+        self.program = subprocess.Popen([program], stdin=subprocess.PIPE, stdout=subprocess.PIPE, bufsize=0, **how)
+
+    @contextlib.contextmanager
+    def patience(self, fault):
+        """Ends a program that lets the hall wait too long."""
+        def over(*_):
+            self.program.kill()
+            fail(self.what + ": " + fault)
+        signal.signal(signal.SIGALRM, over)
+        signal.alarm(PATIENCE)
+        try:
+            yield
+        finally:
+            signal.alarm(0)
+
+    def send(self, lines):
+        with self.patience("the program neither reads nor ends"):
+            self.program.stdin.write(lines)
+
+    def hears(self, wanted):
+        got = b""
+        with self.patience("no answer before the next line"):
+            while len(got) < len(wanted):
+                part = self.program.stdout.read(len(wanted) - len(got))
+                if not part:
+                    break
+                got += part
+        if got != wanted:
+            fail(self.what, *difference(wanted, got))
+
+    def ends(self):
+        try:
+            self.program.wait(timeout=PATIENCE)
+        except subprocess.TimeoutExpired:
+            self.program.kill()
+            fail(self.what + ": the program does not end")
+        if not self.program.stdout.closed and self.program.stdout.read():
+            fail(self.what + ": there is more output")
+
+
+REFUSED_LOADS = [as_lines(rows) for rows in (["go"], ["game 2 2", "go"], ["game 2 0", "", "go"], ["game 2 0", "pay 512"])]
+
+
+def ends_behind(program, what, text, wanted):
+    """The program answers this text so and ends, with the input open."""
+    hall = Hall(program, what + ", input open")
+    hall.send(text)
+    hall.hears(wanted)
+    hall.ends()
+
+
+def without_output(program, text):
+    """Inputs and outputs that cannot be used: the program, started by a shell with them, ends and has no output."""
+    for what, words in (("closed input", "<&-"), ("an input that cannot be read", "</"), ("an empty input", "</dev/null"),
+                        ("closed output", ">&-"), ("an output without room", ">/dev/full")):
+        compare(what, text, b"", runner("sh", "-c", 'exec "$0" ' + words, program))
+
+
+def in_turn(seed, parts):
+    """Each part of a script with its time. Those that draw take the seed."""
+    for part in parts:
+        began = time.time()
+        part(*[seed] * part.__code__.co_argcount)
+        print("%-14s %5.1f s" % (part.__name__, time.time() - began))
+        sys.stdout.flush()
+
+
 # ------------------------------------------------------------- tools
 
 def built(*paths):
     """Fails where something is not built yet."""
     for path in paths:
         if not os.path.exists(path):
-            fail(path + " is not there: rt check monitor, rt staticlib watch")
+            fail(path + " is not there: rt check monitor, rt check desk, rt staticlib watch")
 
 
 def need(name, *packages):

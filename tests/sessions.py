@@ -17,8 +17,8 @@ import sys
 import common
 from common import ROOT, STORED, as_lines, difference, fail, game_a
 from batches import LENGTHS, NUMBERS, some_lines
-from reference import (BATCH_GAMES, CHANGES, GAMES, MARK_GAMES, MOST_MOVES, MOST_STATES, SELF_GAMES, UNREACHED_GAMES, Table,
-                       answer_text, bench_answer, flat, made, plain_search, read_line, rows_of, words_of)
+from reference import (BATCH_GAMES, CHANGES, FIELDS, GAMES, MARK_GAMES, MOST_MOVES, MOST_STATES, SELF_GAMES, UNREACHED_GAMES, Table,
+                       answer_text, bench_answer, flat, made, plain_search, read_line, records, rows_of, words_of)
 
 
 # ------------------------------------------------------------ one text
@@ -175,12 +175,13 @@ NO_CALL = [line for line in HOSTILE if read_line(line, CHANGES | {b"begin"}) is 
 STAGES = [b"", b"game\t2\t0\n", b"game\t2\t0\npay\t1\n", b"game\t2\t0\npay\t1\nmove\t1\t0\n",
           b"game\t2\t0\npay\t1\nmove\t1\t0\ngo\n", b"game\t2\t0\npay\t1\nmove\t1\t0\ngo\nbegin\nadd\t0\t0\n"]
 BEHIND = [b"go\n"] * 4 + [b"", b"cut\t0\t0\nend\n"]
+BEFORE_GO = 4                                  # how many of these are places before `go`
 
 
-def staged():
-    """Each hostile line at each place of a small session, with lines behind it that show what became of it."""
+def staged(places=len(STAGES)):
+    """Each hostile line at each of the first places of a small session, with lines behind it that show what became of it."""
     for line in HOSTILE + [b"x" * 70000, b"add\t0\t1\n" * 9000]:
-        for before, behind in zip(STAGES, BEHIND):
+        for before, behind in list(zip(STAGES, BEHIND))[:places]:
             yield before + line + b"\n" + behind + b"add\t0\t1\nunmark\t1\ncut\t0\t1"
 
 
@@ -469,6 +470,26 @@ KINDS = {make.__name__: make for make in (small, mid, full, chain, stems, batche
 
 def session(seed, kind):
     return KINDS[kind](random.Random("%s %s" % (seed, kind)))
+
+
+def fresh(seed, counts):
+    """So many random sessions of each kind: what to call one, and its text."""
+    for kind, count in counts.items():
+        for i in range(count):
+            name = "%d.%d" % (seed, i)
+            yield "SEED=%d, %s %s" % (seed, kind, name), session(name, kind)
+
+
+def as_left(data):
+    """The game that the changes of a session lead to, those of a batch taken one by one, as a text that loads it."""
+    lines = [line for line in (read_line(line, FIELDS) for line in records(data)) if line]
+    (_, (size, start)), go = lines[0], lines.index((b"go", []))
+    text = Text(size, start, [args[0] for word, args in lines[:go] if word == b"pay"],
+                [tuple(args) for word, args in lines[:go] if word == b"move"])
+    for word, args in lines[go + 1:]:
+        if word in CHANGES:
+            getattr(text, word.decode())(args[0] if len(args) == 1 else tuple(args))
+    return Text(size, start, list(text.pays), list(text.moves)).data()
 
 
 # ------------------------------------------------------- stored sessions

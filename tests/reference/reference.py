@@ -8,8 +8,12 @@ pay is turned on and off by `mark` and `unmark`. Where a move comes or goes, the
 search is also run on the table as it was: what that run had not come to keeps
 every look. A batch of changes is done as a whole, with one answer, or not at all.
 
+For the examiner's desk there is the search as candidates learn it, by procedures
+that call each other, for a game that is loaded and not changed.
+
     python3 reference.py --selftest      run the tests of this file
     python3 reference.py < text          answer a whole input text
+    python3 reference.py --desk < text   the same as the examiner's desk
 """
 
 import itertools
@@ -119,6 +123,69 @@ def keeps_all(run, word, states):
     if word in ("add", "cut"):
         return not_come_to(run, word, states)
     return states[0] not in run.met_after
+
+
+# --------------------------------------------- the search on the examiner's desk
+
+# Two procedures for each state of the open path, and two for each of the inner search's path.
+sys.setrecursionlimit(max(sys.getrecursionlimit(), 4 * MOST_STATES + 1000))
+
+
+class TextbookSearch:
+    """The search as candidates learn it, for a table without history. One procedure visits a state, the other goes
+    through its moves, and each calls the other; the inner search is a second such pair. Each hands back the walk, as
+    stem and round, or None where there is none."""
+
+    def __init__(self, size, start, pays, moves):
+        self.pays = pays
+        self.moves = {state: [] for state in range(size)}     # that leave a state, oldest first
+        for move in moves:
+            self.moves[move[0]].append(move)
+        self.met, self.marks = set(), set()
+        self.open_path, self.inner_path = [], []
+        self.looks = []                                       # the moves, in the order taken
+        walk = self.visit(start)
+        self.found = walk is not None
+        self.stem, self.round = walk or ([], [])
+
+    def targets(self, state):
+        """Of its moves, oldest first, one look each."""
+        for move in self.moves[state]:
+            self.looks.append(move)
+            yield move[1]
+
+    def visit(self, state):
+        self.met.add(state)
+        self.open_path.append(state)
+        walk = self.go_through_moves(state)
+        if walk is None and self.pays[state]:
+            walk = self.inner_visit(state)
+        self.open_path.pop()
+        return walk
+
+    def go_through_moves(self, state):
+        for target in self.targets(state):
+            walk = None if target in self.met else self.visit(target)
+            if walk is not None:
+                return walk
+        return None
+
+    def inner_visit(self, state):
+        self.marks.add(state)
+        self.inner_path.append(state)
+        walk = self.inner_go_through_moves(state)
+        self.inner_path.pop()
+        return walk
+
+    def inner_go_through_moves(self, state):
+        for target in self.targets(state):
+            if target in self.open_path:
+                stem = self.open_path[:self.open_path.index(target)]
+                return stem, self.open_path[len(stem):] + self.inner_path[1:]
+            walk = None if target in self.marks else self.inner_visit(target)
+            if walk is not None:
+                return walk
+        return None
 
 
 # ----------------------------------------------------------------- the table
@@ -259,6 +326,13 @@ class Table:
         return ("round", spent, kept, run.stem, run.round)
 
 
+class DeskTable(Table):
+    """The table on the examiner's desk: for a load and nothing else."""
+
+    def _search(self):
+        return TextbookSearch(self.size, self.start, self.pays, self.moves)
+
+
 def is_marked(words, state):
     return words[state // 64] >> (state % 64) & 1 == 1
 
@@ -385,6 +459,17 @@ def batch_lines(lines):
 
 def answer_text(data):
     return b"".join(answer_lines(data))
+
+
+def desk_text(data):
+    """The output of the desk program, which reads up to and with `go` and no further."""
+    return b"".join(load_lines(iter(records(data)), DeskTable()))
+
+
+def up_to_go(data):
+    """The text cut behind its first line `go`, or whole where it has none."""
+    at = (b"\n" + data).find(b"\ngo\n")
+    return data if at < 0 else data[:at + len(b"go\n")]
 
 
 def bench_answer(data, output_length):
@@ -1032,6 +1117,31 @@ BATCH_GAMES = [
 SINGLES = GAMES + SELF_GAMES + MARK_GAMES + UNREACHED_GAMES
 WORKED = SINGLES + BATCH_GAMES
 
+# N, paying states, moves; and, worked by hand, the looks, with a bar where an inner search begins and where it ends
+# without success; stem and round, if there are any. Start is 0.
+LOOKS = [
+    (4, "2", "01 12", "01 12", None),                                   # Game A
+    (1, "", "", "", None),                                              # B, and so on
+    (2, "1", "01 10", "01 10 | 10", ([], [0, 1])),
+    (2, "0", "01 10", "01 10 | 01 10", ([], [0, 1])),
+    (2, "", "01 10", "01 10", None),
+    (3, "0", "01 12 21", "01 12 21 | 01 12 21 |", None),
+    (3, "1", "12 21", "", None),
+    (3, "12", "01 02 10 20", "01 10 | 10", ([], [0, 1])),
+    (3, "12", "02 10 20 01", "02 20 | 20", ([], [0, 2])),               # Game H at its end
+    (3, "01", "01 12 21", "01 12 21 | 12 21", ([0], [1, 2])),           # Game I
+    (1, "0", "00", "00 | 00", ([], [0])),
+    # the marks of one inner search spare the next a look
+    (5, "14", "01 12 23 04 42 40", "01 12 23 | 12 23 | 04 42 40 | 42 40", ([], [0, 4])),
+    # a closed run of the inner search off the open path is no round
+    (4, "0", "03 01 31 13 30", "03 31 13 30 01 | 03 31 13 30", ([], [0, 3])),
+    # of the inner search's path 5 is no part at the stop
+    (6, "2", "01 12 25 23 34 41", "01 12 25 23 34 41 | 25 23 34 41", ([0], [1, 2, 3, 4])),
+    # 1 has left the open path, marked and not
+    (4, "13", "01 12 03 31", "01 12 | 12 | 03 31 | 31 |", None),
+    (4, "3", "01 12 03 31", "01 12 03 31 | 31 12 |", None),
+]
+
 
 def made(table, call, room):
     """A call of these tables, made: its answer. A line outside a batch that is no change makes none, and gets 1."""
@@ -1141,7 +1251,20 @@ def pays_again(table):
     return any(table.pays[s] and (s, s) in table.moves for s in reached)
 
 
+def same_search(size, start, pays, moves):
+    """The run of the plain search, with which the textbook search agrees in verdict, walk and looks."""
+    run, search = plain_search(size, start, pays, moves), TextbookSearch(size, start, pays, moves)
+    assert search.looks == run.looks, (size, start, pays, moves)
+    assert (search.found, search.stem, search.round) == (run.found, run.stem, run.round), (size, start, pays, moves)
+    return run
+
+
+def check_textbook(table):
+    same_search(table.size, table.start, table.pays, table.moves)
+
+
 def check_run(table):
+    check_textbook(table)
     run = table.run
     told = told_of(table)
     assert told.looks == run.looks and list(told.met.items()) == list(run.met_after.items())
@@ -1270,10 +1393,10 @@ def test_games():
     for name, size, pay, moves, first, calls in WORKED:
         table = Table()
         assert table.load(size, 0, words_of(pay), flat(moves), size) == first, name
-        checked = check_run if size <= 8 else lambda table: None       # that of a full table takes too long
+        checked = check_run if size <= 8 else check_textbook       # the whole of a full table takes too long
         checked(table)
-        rows = ["game %d 0" % size] + ["pay %d" % s for s in pay] + ["move %d %d" % m for m in moves] + ["go"]
-        lines = b"game\t%d\t%d\t%d\n" % (size, len(moves), len(pay)) + answer_line(first)
+        rows = game_rows(size, 0, pay, moves)
+        loaded = lines = b"game\t%d\t%d\t%d\n" % (size, len(moves), len(pay)) + answer_line(first)
         for *call, answer in calls:
             got = made(table, call, size)
             assert got == answer, (name, call, got)
@@ -1283,6 +1406,12 @@ def test_games():
         text = as_text("|".join(rows))
         assert answer_text(text + b"\n") == lines, name
         assert answer_text(text) == lines, name
+        assert desk_hears(text) == loaded, name
+
+
+def game_rows(size, start, pay, moves):
+    """The lines that load a game, with spaces for tabs."""
+    return ["game %d %d" % (size, start)] + ["pay %d" % s for s in pay] + ["move %d %d" % m for m in moves] + ["go"]
 
 
 def as_text(rows):
@@ -1290,8 +1419,22 @@ def as_text(rows):
 
 
 def says(given, wanted):
-    got = answer_text(as_text(given))
-    assert got == as_text(wanted), (given, got)
+    """The box answers so, and the desk the first two lines of it: a load has no more, and other lines no answer there."""
+    given, wanted = as_text(given), as_text(wanted)
+    got = answer_text(given)
+    assert got == wanted, (given, got)
+    assert desk_hears(given) == first_two(wanted), (given, wanted)
+
+
+def desk_hears(text):
+    """The desk's output for a text: the box's for the text up to its `go`, and the first two lines of that for all of it."""
+    got = desk_text(text)
+    assert got == answer_text(up_to_go(text)) == first_two(answer_text(text)), (text, got)
+    return got
+
+
+def first_two(output):
+    return b"".join(output.splitlines(True)[:2])
 
 
 def test_game_a_as_printed():
@@ -1656,6 +1799,99 @@ def test_small_batches():
             batched(again(t)[0], list(lines), t.size)
 
 
+def test_looks():
+    def two(text):
+        return [(int(a), int(b)) for a, b in text.replace("|", "").split()]
+    for size, pays, moves, looks, walk in LOOKS:
+        search = TextbookSearch(size, 0, [str(s) in pays for s in range(size)], two(moves))
+        assert search.looks == two(looks), (moves, search.looks)
+        assert search.found == (walk is not None) and (search.stem, search.round) == (walk or ([], [])), (moves, search.round)
+
+
+def deepest(tip, closed=True):
+    """The moves of a game in which the search goes through all 512 states, and the inner search from this state, the only
+    one that pays, through all that come behind it. Each state's last move leads on; those before it lead to states met
+    by then, and behind the tip to none up to it, which would be a round. The last state closes the round, or not."""
+    back = [(s, s - far) for far in range(4) for s in range(far, MOST_STATES) if s < tip or s - far > tip]
+    ring = [(s, (s + 1) % MOST_STATES) for s in range(MOST_STATES)]
+    return back[:MOST_MOVES - MOST_STATES] + ring[:MOST_STATES - (not closed)]
+
+
+def test_deepest():
+    for tip, closed in itertools.product((0, 1, 255, 510, 511), (True, False)):
+        moves, pays = deepest(tip, closed), [s == tip for s in range(MOST_STATES)]
+        assert len(moves) == len(set(moves)) == MOST_MOVES - (not closed)
+        run = same_search(MOST_STATES, 0, pays, moves)
+        outer = sorted(moves, key=lambda move: move[0])       # a state's in their order
+        assert run.looks == outer + [move for move in outer if move[0] >= tip]
+        assert (run.stem, run.round) == ([], list(range(MOST_STATES)) if closed else [])
+        same_search(MOST_STATES, 0, pays, moves[::-1])
+        text = as_text("|".join(game_rows(MOST_STATES, 0, [tip], moves)))
+        line = ("round", len(run.looks), 0, [], run.round) if closed else ("none", len(run.looks), 0)
+        assert desk_text(text) == b"game\t512\t%d\t1\n" % len(moves) + answer_line(line)
+
+
+def random_game(rng, size, count):
+    """Start, paying states and up to so many moves of a game. The moves lead on in a hidden order, but for a share, of none
+    to half of them, that leads back. Some games have a line through all states, older than the others or among them."""
+    order = rng.sample(range(size), size)
+    back = rng.choice((0, 0.01, 0.1, 0.5))
+    moves = list(zip(order, order[1:])) if rng.random() < 0.6 else []
+    for _ in range(count - len(moves)):
+        a, b = sorted(rng.choices(range(size), k=2))
+        if rng.random() < back:
+            moves.append((order[b], order[a]))
+        elif a < b:
+            moves.append((order[a], order[b]))
+    moves = list(dict.fromkeys(moves))
+    if rng.random() < 0.5:
+        rng.shuffle(moves)
+    density = rng.choice((0, 0.01, 0.1, 0.5, 1))
+    pay = [s for s in range(size) if s == order[size // 2] or rng.random() < density]
+    return order[0] if rng.random() < 0.8 else rng.randrange(size), pay, moves
+
+
+def test_textbook():
+    """Random games of each size. In many there is more than one inner search, and some walks are long."""
+    rng = random.Random(12)
+    seen = Counter()
+    for most, count in ((2, 300), (8, 3000), (40, 400), (511, 60), (512, 60)):
+        for _ in range(count):
+            size = MOST_STATES if most == MOST_STATES else rng.randint(1, most)
+            start, pay, moves = random_game(rng, size, int(size * rng.choice((1, 1.5, 2, 4))))
+            run = same_search(size, start, [s in pay for s in range(size)], moves)
+            seen[most, run.found] += 1
+            seen[most, "inner searches"] += len(set(pay) & set(run.finished)) > 1
+            seen[most, "walk of 100"] += len(run.stem + run.round) >= 100
+            desk_hears(as_text("|".join(game_rows(size, start, pay, moves))))
+    for most in (8, 40, 511, 512):
+        assert min(seen[most, True], seen[most, False], seen[most, "inner searches"]) >= 15, seen
+    assert min(seen[most, "walk of 100"] for most in (511, 512)) >= 5, seen
+
+
+def test_desk_lines():
+    """A text cut off anywhere, and what stands behind a `go`."""
+    rows = "game 3 0|pay 1|pay 1|move 0 1|move 1 2|move 2 1|go|"
+    text, wanted = as_text(rows), as_text("game 3 3 1|round 5 0 1 2 0 1 2|")
+    for at in range(len(text) - 1):
+        whole = text[at:at + 1] == b"\n"                      # what stands before is whole lines, the last without its newline
+        assert desk_hears(text[:at]) == b"" or not whole
+        for more in (b"\n", b"x", b"\ngo\n", b"\n\ngo\n", b"go\n", b"\tgo\n", b"go", b"\r\ngo\n"):
+            desk_hears(text[:at] + more)
+    for behind in (b"", b"x", b"\n", b"go\n", b"go", text, text[:-1], b"cut\t0\t1\n", b"begin\ncut\t0\t1\nend\n", b"\0" * 99,
+                   b"x" * 99999):
+        assert desk_hears(text + behind) == wanted
+    assert desk_hears(text[:-1]) == wanted                    # the last line lacks its newline
+    assert desk_hears(text.replace(b"pay\t1\n", b"pay\t1\n" * 20000)) == wanted
+    for row, number in (("pay 3", 4), ("pay 512", 1), ("move 0 1", 1), ("game 3 0", 1), ("x" * 33, 1), ("", 1), ("begin", 1)):
+        assert desk_hears(as_text(rows.replace("pay 1", row, 1))) == b"no\t%d\n" % number
+    for row, number in (("move 0 3", 6), ("move 0 1", 8), ("pay 1", 1), ("add 0 1", 1), ("move 0 0|" * 2046, 5), ("end", 1)):
+        assert desk_hears(as_text(rows.replace("go", row + "|go"))) == b"no\t%d\n" % number
+    assert desk_hears(as_text("game 513 0|pay 511")) == b"" and desk_hears(as_text("game 513 0|pay 511|go")) == b"no\t2\n"
+    assert desk_hears(as_text("game 3 3|go|go")) == b"no\t3\n"
+    assert desk_hears(as_text("game 3 0|go|move 0 1|go")) == as_text("game 3 0 0|none 0 0|")
+
+
 def selftest():
     test_games()
     test_game_a_as_printed()
@@ -1670,13 +1906,18 @@ def selftest():
     test_batch_numbers()
     test_batches()
     test_small_batches()
+    test_looks()
+    test_deepest()
+    test_textbook()
+    test_desk_lines()
     print("ok")
 
 
 if __name__ == "__main__":
     if sys.argv[1:] == ["--selftest"]:
         selftest()
-    elif not sys.argv[1:]:
-        sys.stdout.buffer.write(answer_text(sys.stdin.buffer.read()))
+    elif sys.argv[1:] in ([], ["--desk"]):
+        answer = desk_text if sys.argv[1:] else answer_text
+        sys.stdout.buffer.write(answer(sys.stdin.buffer.read()))
     else:
-        sys.exit("usage: reference.py --selftest, or a text on standard input")
+        sys.exit("usage: reference.py --selftest, or a text on standard input, with --desk or without")
