@@ -129,7 +129,24 @@ unfolding flat
 flat-append [] e = refl
 flat-append (m ∷ ms) e = ap (λ (ns : List ℕ). m .0 ∷ m .1 ∷ ns) (flat-append ms e)
 
--- ---- the lines of a load, by what trying it gives
+-- ---- a load
+
+-- what is to be loaded
+pub gathered-is : (l : Lead) (ns : List ℕ) (d : Draft) → Gathers l ns d → gathered l ns ≡ loadOf d
+gathered-is l ns d g = λ i. record { size = g .size i; start = g .start i; words = g .words i; numbers = g .moves i }
+
+-- behind a line the numbers that were gathered are the same
+pub still-gathers : (l : Lead) (r : Record) (ns ns′ : List ℕ) (d : Draft) → ns′ ≡ filed l r ns → Gathers l ns d → Gathers l ns′ d
+still-gathers l r ns ns′ d f g = record {
+  stage = g .stage;
+  size = g .size;
+  start = g .start;
+  words = g .words;
+  count = g .count;
+  moves = ap (take (l .count)) f ∙ numbers-kept l r ns ∙ g .moves;
+}
+
+-- its lines, by what trying it gives
 
 abbrev isNo : Trial → Bool
 isNo accepted = false
@@ -270,8 +287,7 @@ module _ (ns walk : List ℕ) (s : Session) (c : Outcome) (walk′ : List ℕ) w
 
   comes-load : (l : Lead) (d : Draft) → Gathers l ns d → length walk ≡ room → Comes l (loading l) (loadStep (loadTrial (loadOf d) room) d)
   comes-load l d g e w =
-      let same : gathered l ns ≡ loadOf d = λ i. record { size = g .size i; start = g .start i; words = g .words i; numbers = g .moves i } in
-      load-by (loadTrial (loadOf d) room) l d (ap (loadTrial (loadOf d)) e) g (rw same at w)
+      load-by (loadTrial (loadOf d) room) l d (ap (loadTrial (loadOf d)) e) g (rw (gathered-is l ns d g) at w)
 
   -- ---- by what is held
 
@@ -294,9 +310,6 @@ module _ (ns walk : List ℕ) (s : Session) (c : Outcome) (walk′ : List ℕ) w
 
   -- before `go`: ns₀ is the list as the line finds it
   module _ (ns₀ : List ℕ) (l : Lead) (r : Record) (d : Draft) (g : Gathers l ns₀ d) (f : ns ≡ filed l r ns₀) (n : length ns₀ ≡ numbersMost) where
-    moved : Gathers l ns d
-    moved = record { stage = g .stage; size = g .size; start = g .start; words = g .words; count = g .count; moves = ap (take (l .count)) f ∙ numbers-kept l r ns₀ ∙ g .moves }
-
     one-more : isFull l ≡ false → isWord (r .word) Move ≡ true
         → Gathers (record { stage = Gathering; size = l .size; start = l .start; words = l .words; count = l .count + 2 }) ns (withMove r d)
     unfolding isFull takesMove
@@ -321,7 +334,7 @@ module _ (ns walk : List ℕ) (s : Session) (c : Outcome) (walk′ : List ℕ) w
         (record { stage = refl; size = g .size; start = g .start; words = ap (λ (w : List ℕ). withMark w (r .first)) (g .words); count = omega (arith, ap length z); moves = ap flat (sym z) }))
         (λ b. comes-cond l (isWord (r .word) Move) _ _ _ _
         (λ m. rw (← count-full l (d .moves) (g .count)) (comes-cond l (isFull l) _ _ _ _ (λ x. comes-refusing l Over l 5 ended refl) (λ x. comes-quiet l _ (gathering (withMove r d)) (one-more x m))))
-        (λ m. comes-cond l (isWord (r .word) Go) _ _ _ _ (λ x. comes-load l d moved e) (λ x. comes-refusing l Over l 1 ended refl))))
+        (λ m. comes-cond l (isWord (r .word) Go) _ _ _ _ (λ x. comes-load l d (still-gathers l r ns₀ ns d f g) e) (λ x. comes-refusing l Over l 1 ended refl))))
 
   -- inside a batch: ns₀ is the list as the line finds it
   module _ (ns₀ : List ℕ) (l : Lead) (r : Record) (p : Play) (xs : List BatchLine) (g : Collects l ns₀ xs) (f : ns ≡ filed l r ns₀) (n : length ns₀ ≡ numbersMost) where

@@ -1,0 +1,160 @@
+-- One line of a game, up to `go`: what is held behind it, and the lines that tell it. Assumes nothing.
+use mathlib.Core.Path.{_≡_, refl, sym, ap, subst, subst⁻¹, _∙_}
+use mathlib.Core.Bool.{Bool, true, false, _&&_, cond}
+use mathlib.Core.Logic.{⊎-elim}
+use mathlib.Core.List.{List, [], _∷_}
+use Prim.Native.Nat.{ℕ, min}
+use native.Mathlib.Omega.{arith}
+use denote.Enum.Declared.{tagOf}
+use types.Run.{OneOf}
+use Rattle.lead.proofs.Task.{the-type}
+use lib.ListN.{length, take}
+use Rattle.plain.specs.Refusals.{loadTrial}
+use Rattle.plain.specs.Machine.{Line}
+use Rattle.plain.proofs.Tests.{contra}
+use Rattle.line.specs.Words.{isWord}
+use Rattle.line.specs.declared.Word.the-variants.{Game, Pay, Move, Go}
+use Rattle.line.specs.declared.Record.{Record}
+use Rattle.table.specs.declared.Refusal.{Refusal}
+use Rattle.verdict.specs.declared.Answer.{Answer}
+use Rattle.verdict.specs.Answers.{isRefused, LoadAnswered}
+use Rattle.session.specs.Model.{noGame}
+use Rattle.lead.specs.declared.Stage.{Stage}
+use Rattle.lead.specs.declared.Stage.the-variants.{Playing, Over}
+use Rattle.lead.specs.declared.Lead.{Lead}
+use Rattle.lead.specs.declared.Ask.{Ask}
+use Rattle.lead.specs.declared.Task.{Task}
+use Rattle.lead.specs.declared.Task.the-variants.{Nothing, Refuse, Ask as Asks}
+use Rattle.lead.specs.declared.Plan.{Plan}
+use Rattle.lead.specs.Asked.{numbersMost, noTask, refusing, loading, isFull, askedFirst, askedMove, askedBefore, askedAt, asked, filed}
+use Rattle.watch.specs.declared.Written.{Written}
+use Rattle.watch.specs.Text.{Draft, Held, waiting, gathering, playing, batching, ended, Step, room, empty, loadOf, loadStep, beforeGo, step}
+use Rattle.watch.specs.Model.{linesMost, gathered, linesFor, leadFor, linesTold, Laid, Writes}
+use Rattle.watch.proofs.Steps.{Gathers, Tracks, Follows, count-empty, count-full, gathered-is, still-gathers, load-lines, stepped}
+use Rattle.watch.proofs.Writing.{told-lines}
+use Rattle.watch.proofs.Serving.{same-numbers}
+use Rattle.desk.specs.Desk.{isRead}
+
+-- what asks for an answer is searched for; before that nothing is
+abbrev pub Searched : Task → Lead → List ℕ → List ℕ → Answer → List ℕ → Type 0
+Searched Nothing l ns walk a walk′ = Unit {0}
+Searched (Refuse refusal) l ns walk a walk′ = Unit {0}
+Searched (Asks ask) l ns walk a walk′ = LoadAnswered (gathered l ns) walk a walk′
+
+no-ask : {A : Type 0} {ask : Ask} → Nothing ≡ Asks ask → A
+no-ask e = let z : _≡_ {A = ℕ} 0 1 = cc in absurd (omega arith)
+
+no-answer : {A : Type 0} {refusal : Refusal} {ask : Ask} → Refuse refusal ≡ Asks ask → A
+no-answer e = let z : _≡_ {A = ℕ} 0 1 = cc in absurd (omega arith)
+
+-- ---- up to `go`, what asks anything asks for the load of what is gathered
+
+module _ (l : Lead) (r : Record) where
+  -- a plan that asks anything, and the step of its line: the load's
+  abbrev Only : Draft → Plan → Step → Type 0
+  Only d p u = (ask : Ask) → p .task ≡ Asks ask → (p ≡ loading l) × (u ≡ loadStep (loadTrial (loadOf d) room) d)
+
+  only-cond : (d : Draft) (b : Bool) (p q : Plan) (u v : Step) → Only d p u → Only d q v → Only d (cond b p q) (cond b u v)
+  only-cond d true p q u v h k = h
+  only-cond d false p q u v h k = k
+
+  before-go : (ns : List ℕ) (d : Draft) → Gathers l ns d → Only d (askedBefore l r) (beforeGo d r)
+  unfolding askedBefore askedMove beforeGo
+  before-go ns d g = rw (count-empty (l .count) (d .moves) (g .count)) (only-cond d (isWord (r .word) Pay && empty (d .moves)) _ _ _ _
+      (λ ask e. no-ask e)
+      (only-cond d (isWord (r .word) Move) _ _ _ _
+      (rw (← count-full l (d .moves) (g .count)) (only-cond d (isFull l) _ _ _ _ (λ ask e. no-answer e) (λ ask e. no-ask e)))
+      (only-cond d (isWord (r .word) Go) _ _ _ _ (λ ask e. (refl, refl)) (λ ask e. no-answer e))))
+
+  at-first : (b : Bool) (p : Lead) (ask : Ask) → cond b (noTask p) (refusing Over l 1) .task ≡ Asks ask → ⊥
+  at-first true p ask e = no-ask e
+  at-first false p ask e = no-answer e
+
+  pub record Loading (ns : List ℕ) (p : Held) : Type 0 where
+    pub draft : Draft
+    pub gathers : Gathers l ns draft
+    pub plan-is : asked l r ≡ loading l
+    pub step-is : step p r ≡ loadStep (loadTrial (loadOf draft) room) draft
+
+  loads : (ns : List ℕ) (p : Held) → Tracks l ns noGame p → isRead (l .stage) ≡ false → (ask : Ask) → asked l r .task ≡ Asks ask → Loading ns p
+  unfolding asked askedFirst step
+  loads ns waiting h unread ask e = absurd (at-first (isWord (r .word) Game) _ ask (sym (ap (λ (x : Stage). askedAt x l r .task) h) ∙ e))
+  loads ns (gathering d) h unread ask e =
+      let is : asked l r ≡ askedBefore l r = ap (λ (x : Stage). askedAt x l r) (h .stage) in
+      let w = before-go ns d h ask (sym (ap (λ (x : Plan). x .task) is) ∙ e) in
+      record { draft = d; gathers = h; plan-is = is ∙ w .0; step-is = w .1 }
+  loads ns (playing p) h unread ask e = absurd (contra (ap isRead (h .0)) unread)
+  loads ns (batching p xs) h unread ask e = absurd (contra (ap isRead (h .0 .stage)) unread)
+  loads ns ended h unread ask e = absurd (contra (ap isRead h) unread)
+
+-- ---- behind one line
+
+-- the lines at the head of the buffer, and what is held, where the game is not read whole
+pub record Behind (p : Held) (r : Record) (ns d d′ : List ℕ) (w : Written) : Type 0 where
+  pub tracks : isRead (w .lead .stage) ≡ false → Tracks (w .lead) ns noGame (step p r .next)
+  pub laid : Laid (step p r .lines) d d′ (w .first) (w .len)
+
+module _ (l : Lead) (ns : List ℕ) (p : Held) (walk : List ℕ) (r : Record) (ns′ : List ℕ) (a : Answer) (walk′ : List ℕ)
+    (n : length ns ≡ numbersMost) (k : length walk ≡ room) (h : Tracks l ns noGame p) (unread : isRead (l .stage) ≡ false) (f : ns′ ≡ filed l r ns) where
+  abbrev q : Plan
+  q = asked l r
+
+  abbrev next : Lead
+  next = leadFor (q .task) (q .lead) a
+
+  abbrev Comes : Type 0
+  Comes = (linesFor (q .task) (q .lead) a walk′ ≡ step p r .lines) × (isRead (next .stage) ≡ false → Tracks next ns′ noGame (step p r .next))
+
+  -- a line that asks nothing is the box's
+  quietly : Follows (q .task) l ns′ noGame walk (record { answer = a; session = noGame }) walk′ → Comes
+  quietly w = let m = stepped l ns noGame p walk r ns′ (record { answer = a; session = noGame }) walk′ n k h f w in (m .1, λ _. m .0)
+
+  -- behind a load the game is read whole
+  over : (b : Bool) → isRead (cond b Over Playing) ≡ true
+  over true = refl
+  over false = refl
+
+  by-task : (task : Task) → q .task ≡ task → Searched task l ns′ walk a walk′ → Comes
+  by-task Nothing e w = quietly (subst⁻¹ (λ (x : Task). Follows x l ns′ noGame walk (record { answer = a; session = noGame }) walk′) e refl)
+  by-task (Refuse refusal) e w = quietly (subst⁻¹ (λ (x : Task). Follows x l ns′ noGame walk (record { answer = a; session = noGame }) walk′) e refl)
+  by-task (Asks ask) e w =
+      let m = loads l r ns p h unread ask e in
+      let d = m .draft in
+      let g = still-gathers l r ns ns′ d f (m .gathers) in
+      let told = load-lines (loadTrial (loadOf d) room) l ns′ d walk a walk′ (ap (loadTrial (loadOf d)) k) g (rw (gathered-is l ns′ d g) at w) in (
+        ap (λ (x : Plan). linesFor (x .task) (x .lead) a walk′) (m .plan-is) ∙ told .1 ∙ sym (ap (λ (u : Step). u .lines) (m .step-is)),
+        λ y. absurd (contra (ap (λ (x : Plan). isRead (leadFor (x .task) (x .lead) a .stage)) (m .plan-is) ∙ over (isRefused a)) y),
+      )
+
+  pub behind : (plan : Plan) → plan ≡ q → (d d′ : List ℕ) (w : Written) → Searched (plan .task) l ns′ walk a walk′ → length walk′ ≡ room → length d ≡ linesMost → Writes plan a walk′ d d′ w
+      → Behind p r ns′ d d′ w
+  behind plan e d d′ w s k′ b t =
+      let m = by-task (q .task) refl (subst (λ (x : Plan). Searched (x .task) l ns′ walk a walk′) e s) in
+      let t′ : Writes q a walk′ d d′ w = subst (λ (x : Plan). Writes x a walk′ d d′ w) e t in
+      let lines : linesTold q a walk′ (length d) ≡ step p r .lines = sym (told-lines q a walk′ (length d) (omega arith) (omega arith)) ∙ m .0 in
+      record {
+        tracks = subst⁻¹ (λ (x : Lead). isRead (x .stage) ≡ false → Tracks x ns′ noGame (step p r .next)) (t′ .goes) (m .1);
+        laid = subst (λ (x : List Line). Laid x d d′ (w .first) (w .len)) lines (t′ .laid);
+      }
+
+-- ---- what is searched
+
+pub search-all : (l : Lead) (ns walk : List ℕ) (n k : ℕ) (a : Answer) (walk′ : List ℕ) → n ≡ min k (length ns) → k ≡ l .count
+    → LoadAnswered (record { size = l .size; start = l .start; words = l .words; numbers = take n ns }) walk a walk′ → LoadAnswered (gathered l ns) walk a walk′
+search-all l ns walk n k a walk′ e f h =
+    subst (λ (xs : List ℕ). LoadAnswered (record { size = l .size; start = l .start; words = l .words; numbers = xs }) walk a walk′) (same-numbers l ns n k e f) h
+
+module _ (l : Lead) (ns walk : List ℕ) (k : length walk ≡ room) (a : Answer) (walk′ : List ℕ) where
+  -- what a line asks for is searched for, or nothing is, and the list of the walk keeps its length
+  pub record Done (task : Task) : Type 0 where
+    pub searched : Searched task l ns walk a walk′
+    pub size : length walk′ ≡ room
+
+  pub done-asked : (task : Task) (ask : Ask) (b : Answer) (w : List ℕ) → task ≡ Asks ask → walk′ ≡ w → a ≡ b → length w ≡ length walk → LoadAnswered (gathered l ns) walk b w → Done task
+  done-asked task ask b w e f g h v = rw (e, f, g) (record { searched = v; size = h ∙ k })
+
+  -- the tags of the tasks that ask nothing
+  pub done-not : (task : Task) → OneOf (0 ∷ 1 ∷ []) (tagOf the-type task) → walk′ ≡ walk → Done task
+  done-not Nothing o f = record { searched = tt; size = ap length f ∙ k }
+  done-not (Refuse refusal) o f = record { searched = tt; size = ap length f ∙ k }
+  done-not (Asks ask) o f = absurd (⊎-elim (λ z. omega arith) (λ z. omega arith) o)

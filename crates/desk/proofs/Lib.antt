@@ -1,0 +1,2 @@
+pub mod AsLoad
+pub mod Gathering
