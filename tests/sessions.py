@@ -626,6 +626,12 @@ def bundle():
     return b"".join(map(SEPARATOR.join, blocks())), b"".join(out + b"%d\n" % number for out, number in answers)
 
 
+def desk_game_a():
+    """Game A up to `go`, and one line more, which the desk program does not answer."""
+    given, wanted = (common.lines_of(part) for part in game_a())
+    return b"".join(given[:given.index(b"go\n") + 2]), b"".join(wanted[:2])
+
+
 def stored_files():
     """Path and content of each stored file."""
     for name, text in stored():
@@ -634,6 +640,9 @@ def stored_files():
     given, wanted = game_a()
     yield ROOT / "crates/monitor/stdin", given
     yield ROOT / "crates/monitor/stdout", wanted
+    given, wanted = desk_game_a()
+    yield ROOT / "crates/desk/stdin", given
+    yield ROOT / "crates/desk/stdout", wanted
     given, wanted = bundle()
     yield ROOT / "crates/texts/stdin", given
     yield ROOT / "crates/texts/stdout", wanted
