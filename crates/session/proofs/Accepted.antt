@@ -38,6 +38,7 @@ use Rattle.session.specs.declared.Settled.{Settled}
 use Rattle.session.specs.declared.Resumption.{Resumption}
 use Rattle.session.specs.declared.Resumption.the-variants.{Nowhere, At}
 use Rattle.session.specs.declared.Verdict.{Verdict}
+use Rattle.verdict.specs.declared.Answer.{Answer}
 use Rattle.verdict.specs.declared.Answer.the-variants.{Refused}
 use Rattle.table.specs.Trials.{Arrays}
 use Rattle.table.specs.Filing.{Stored}
@@ -45,8 +46,8 @@ use Rattle.table.specs.Batches.{linesIn, statesIn, numbersIn, TriedIn, callTrie
 use Rattle.table.proofs.Batches.{lines-other}
 use Rattle.session.specs.Model.{Records, recordsOf, recordsIn, arraysHeld, gameIn, allPassedOver, namedMost, earliestOf, resumptionOf, backAt, Sought, verdictOf, sessionOf, Settles, isAlone, onlyLine, UpdatedIn}
 use Rattle.session.specs.Promises.{heightOf, Holds, updateOf, callOf, withoutGame, Updates}
-use Rattle.verdict.proofs.Told.{told, tells-fits, never-refused}
-use Rattle.verdict.specs.Answers.{refusing, answerIs, shownWalk, positionOf, shown, Tells, Answered}
+use Rattle.verdict.proofs.Told.{told, never-refused}
+use Rattle.verdict.specs.Answers.{refusing, positionOf, shown, WalkOf, Answered, Tells}
 use Rattle.session.proofs.Sought.{matches, Reached, reached}
 use Rattle.session.proofs.Asking.{Asks, asked-so}
 use Rattle.session.proofs.FirstMet.{earliest-is}
@@ -58,7 +59,7 @@ record Worth (u : PlainUpdate) (t : Table) (v : Verdict) (a : Records) : Type 0 
   steps : ℕ
   ended : verdict (run (searched (applied u t)) steps) ≢ unfinished
   archive : Archived (searched (applied u t)) steps (a .number) (a .parent) (a .index) (a .probes) (a .stamp) (a .walk)
-  tells : Tells (v .stem) (v .length) (a .walk) (verdict (final (applied u t)))
+  tells : WalkOf (v .stem) (v .length) (a .walk) (verdict (final (applied u t)))
   height-is : v .height ≡ heightOf (final (applied u t))
   kept-is : v .kept ≡ kept u t
   adds-up : v .kept + v .spent ≡ count (final (applied u t))
@@ -151,7 +152,7 @@ module _ (u : PlainUpdate) (ns : List ℕ) (s : Session) (b : Arrays) (a : Recor
         steps = h .steps;
         ended = w .still-ended;
         archive = archive-moved (searched t) (searched t′) (h .steps) (recordsHeld s) (h .archived) (w .holds) (w .same-steps);
-        tells = subst⁻¹ (λ (x : PlainVerdict). Tells (s .stem) (s .length) (s .walk) x) (alike-verdict (final t) (final t′) (w .same-final)) (h .told);
+        tells = subst⁻¹ (λ (x : PlainVerdict). WalkOf (s .stem) (s .length) (s .walk) x) (alike-verdict (final t) (final t′) (w .same-final)) (h .told);
         height-is = h .height-is ∙ sym (alike heightOf bare-height (final t) (final t′) (w .same-final));
         kept-is = h .total-is ∙ sym (ap count (w .all-kept) ∙ looks);
         adds-up = z;
@@ -248,16 +249,14 @@ module _ (u : PlainUpdate) (ns : List ℕ) (s : Session) (b : Arrays) (a : Recor
   abbrev plain : PlainAnswer
   plain = answer (verdict (final t′)) (count (final t′) - kept u t) (kept u t)
 
-  next-answers : (lent lent′ : List ℕ) → room ≤ length lent → (v .stem ≤ v .length → v .length ≤ 512 → v .length ≤ length lent → lent′ ≡ shownWalk (v .length) (a .walk) lent)
-      → Answered plain lent (answerIs (v .spent) (v .kept) (v .stem) (v .length)) lent′
-  next-answers lent lent′ e wrote =
+  next-answers : (lent lent′ : List ℕ) (r : Answer) → room ≤ length lent → Tells (v .spent) (v .kept) (v .stem) (v .length) (a .walk) lent r lent′ → Answered plain lent r lent′
+  next-answers lent lent′ r e s =
       let w = worth in
-      let f = tells-fits (v .stem) (v .length) (verdict (final t′)) (a .walk) (t′ .size) (w .tells) (verdict-right t′ ok′ .short) in
       let size : t′ .size ≡ t .size = update-size u t in
       let rest : v .spent ≡ count (final t′) - kept u t = omega (arith, w .kept-is, w .adds-up) in
-      subst (λ (x : ℕ × ℕ). Answered (answer (verdict (final t′)) (x .0) (x .1)) lent (answerIs (v .spent) (v .kept) (v .stem) (v .length)) lent′) (λ i. (rest i, w .kept-is i))
-      (told (v .spent) (v .kept) (v .stem) (v .length) (verdict (final t′)) (a .walk) lent lent′ (w .tells)
-      (wrote (f .0) (omega (arith, f .1, size-few (t′ .size) (ok′ .size-ok))) (omega (arith, f .1, size, update-room u t room yes-it-is))))
+      subst (λ (x : ℕ × ℕ). Answered (answer (verdict (final t′)) (x .0) (x .1)) lent r lent′) (λ i. (rest i, w .kept-is i))
+      (told (v .spent) (v .kept) (v .stem) (v .length) (verdict (final t′)) (a .walk) lent lent′ r (t′ .size) (w .tells) s (verdict-right t′ ok′ .short)
+      (size-few (t′ .size) (ok′ .size-ok)) (omega (arith, size, update-room u t room yes-it-is)))
 
 -- ---- the contract of a call
 
@@ -328,14 +327,14 @@ module _ (u : PlainUpdate) (alone : Bool) (ns : List ℕ) (q : Asks u alone (lin
       → Settles (gameIn b) (s .size) (s .start) (takenUp ns s) (oldOf s) (recordsHeld s) lent r a lent′
       → Updates u s lent (record { answer = r .answer; session = sessionOf (s .size) (s .start) b a (r .verdict) (plus (r .verdict .kept) (r .verdict .spent)) }) lent′
   unfolding trialOf
-  call-accepted lent′ b a r e new w = rw (w .answer-is) (record {
-    answers = λ t h. subst⁻¹ (λ (x : PlainAnswer). Answered x lent (answerIs (r .verdict .spent) (r .verdict .kept) (r .verdict .stem) (r .verdict .length)) lent′) (answer-accepted (callOf u lent) t (is t h))
-        (next-answers u ns s b a (r .verdict) (w .sought) t h (length lent) (is t h) (lines t h) (stored t h) lent lent′ (omega arith) (w .wrote));
+  call-accepted lent′ b a r e new w = record {
+    answers = λ t h. subst⁻¹ (λ (x : PlainAnswer). Answered x lent (r .answer) lent′) (answer-accepted (callOf u lent) t (is t h))
+        (next-answers u ns s b a (r .verdict) (w .sought) t h (length lent) (is t h) (lines t h) (stored t h) lent lent′ (r .answer) (omega arith) (w .tells));
     holds = λ t h. subst⁻¹ (λ (x : Table). Holds (next u ns s b a (r .verdict) (w .sought) t h (length lent) (is t h) (lines t h) (stored t h)) x)
         (table-accepted (callOf u lent) t (is t h)) (next-holds u ns s b a (r .verdict) (w .sought) t h (length lent) (is t h) (lines t h) (stored t h));
-    refused = λ m z. absurd (never-refused (r .verdict .spent) (r .verdict .kept) (r .verdict .stem) (r .verdict .length) m z);
+    refused = λ m z. absurd (never-refused (r .verdict .spent) (r .verdict .kept) (r .verdict .stem) (r .verdict .length) m (sym (w .tells .answer-is) ∙ z));
     no-game = λ z. absurd (refused-not (sym (none-is z .0) ∙ e));
-  })
+  }
     where
       is : (t : Table) → Holds s t → updateTrial u t (length lent) ≡ accepted
       is t h = trial-is t h ∙ e

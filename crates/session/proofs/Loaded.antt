@@ -29,9 +29,9 @@ use Rattle.table.specs.Filing.{Filed, Stored}
 use Rattle.session.specs.Model.{Records, recordsOf, gameIn, recordsIn, backAt, verdictOf, noVerdict, sessionOf, noGame, Settles}
 use Rattle.session.specs.Promises.{Holds, Loads}
 use Rattle.table.proofs.Trying.{tried-refused}
-use Rattle.verdict.proofs.Told.{told, tells-fits}
+use Rattle.verdict.proofs.Told.{told}
 use Rattle.verdict.proofs.Loads.{room-enough, load-refused as refused-answer, load-accepted as accepted-answer}
-use Rattle.verdict.specs.Answers.{refusing, answerIs, Tells, Answered}
+use Rattle.verdict.specs.Answers.{refusing, WalkOf, Answered}
 use Rattle.session.proofs.Sought.{matches, Reached, reached}
 use Rattle.table.specs.declared.Position.the-variants.{Alone}
 
@@ -104,14 +104,12 @@ module _ (l : Load) (lent lent′ : List ℕ) (rows : Rows) (a : Records) (r : S
 
   -- what the records of a core are, the records are
   made-as : (c : Result) → Reached t 0 c → v ≡ verdictOf (c .walker) (c .spent) → a ≡ recordsIn c
-      → Holds (sessionOf (l .size) (l .start) b a v (plus (v .kept) (v .spent))) t × Answered plain lent (answerIs (v .spent) (v .kept) (v .stem) (v .length)) lent′
+      → Holds (sessionOf (l .size) (l .start) b a v (plus (v .kept) (v .spent))) t × Answered plain lent (r .answer) lent′
   unfolding tableOf steps
   made-as c g e f =
       let none-kept : v .kept ≡ 0 = ap (λ (x : Verdict). x .kept) e ∙ g .kept-is in
-      let tells : Tells (v .stem) (v .length) (a .walk) (verdict (final t)) = rw (e, f) (g .tells) in
+      let tells : WalkOf (v .stem) (v .length) (a .walk) (verdict (final t)) = rw (e, f) (g .tells) in
       let sum : v .kept + v .spent ≡ count (final t) = rw e (g .adds-up) in
-      let fit = tells-fits (v .stem) (v .length) (verdict (final t)) (a .walk) (l .size) tells (verdict-right t ok .short) in
-      let wrote = settles .wrote (fit .0) (omega (arith, fit .1, size-few (l .size) (ok .size-ok))) (omega (arith, fit .1, room-enough l (length lent) yes-it-is)) in
       let all : v .spent ≡ count (final t) = omega arith in (
         record {
           arises = arises;
@@ -125,16 +123,17 @@ module _ (l : Load) (lent lent′ : List ℕ) (rows : Rows) (a : Records) (r : S
           height-is = ap (λ (x : Verdict). x .height) e ∙ g .height-is;
           total-is = rw e (g .total-is);
         },
-        subst (λ (x : ℕ × ℕ). Answered (answer (verdict (final t)) (x .0) (x .1)) lent (answerIs (v .spent) (v .kept) (v .stem) (v .length)) lent′) (λ i. (all i, none-kept i))
-            (told (v .spent) (v .kept) (v .stem) (v .length) (verdict (final t)) (a .walk) lent lent′ tells wrote),
+        subst (λ (x : ℕ × ℕ). Answered (answer (verdict (final t)) (x .0) (x .1)) lent (r .answer) lent′) (λ i. (all i, none-kept i))
+            (told (v .spent) (v .kept) (v .stem) (v .length) (verdict (final t)) (a .walk) lent lent′ (r .answer) (l .size) tells (settles .tells) (verdict-right t ok .short)
+            (size-few (l .size) (ok .size-ok)) (room-enough l (length lent) yes-it-is)),
       )
 
   pub load-accepted : (total : ℕ) → total ≡ plus (v .kept) (v .spent) → Loads l lent (record { answer = r .answer; session = sessionOf (l .size) (l .start) b a v total }) lent′
   load-accepted total e =
       let g = begun in
       let w = made-as (g .0) (g .1) (g .2) (g .3) in
-      rw (settles .answer-is, e) (record {
-        answers = accepted-answer l lent _ lent′ yes-it-is (w .1);
+      rw e (record {
+        answers = accepted-answer l lent (r .answer) lent′ yes-it-is (w .1);
         holds = λ z. w .0;
         empty = λ n z. absurd (let q : accepted ≡ refused n = sym yes-it-is ∙ z in let y : _≡_ {A = ℕ} 0 1 = cc in omega arith);
       })

@@ -51,7 +51,7 @@ use Rattle.plain.proofs.Limits.{limits, size-few, small}
 use Rattle.table.proofs.Changing.{named-below}
 use Rattle.table.proofs.Batches.{change-back}
 use Rattle.table.specs.Batches.{opFor}
-use Rattle.verdict.specs.Answers.{Tells}
+use Rattle.verdict.specs.Answers.{WalkOf}
 
 -- ---- laws of the definitions
 
@@ -149,7 +149,7 @@ module _ (g : Graph) where
     pub last-is : (x : ℕ) → In x (statesOf (unfinishedPath c)) → LastTaken r x (getD walk (suc (placeOf x (statesOf (unfinishedPath c)))) 0) (unfinishedPath c)
 
   pub path-told : (c : Config) (r r′ : Notes) (stem length height : ℕ) (walk : List ℕ) → Inv g c → ShapeOf g r′ c → ((x : ℕ) → In x (discoveredOf c) → r .of x ≡ r′ .of x)
-      → ((x : ℕ) → Within r′ x) → Tells stem length walk (verdict c) → height ≡ heightOf c → PathTold r c (height - 1) walk
+      → ((x : ℕ) → Within r′ x) → WalkOf stem length walk (verdict c) → height ≡ heightOf c → PathTold r c (height - 1) walk
   unfolding verdict statesOf entries stemOf cycleOf onPath
   path-told (outer p d k l) r r′ stem n height walk v h same few t e = absurd t
   path-told (nested s p q d k l) r r′ stem n height walk v h same few t e = absurd t

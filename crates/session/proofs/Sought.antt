@@ -30,7 +30,7 @@ use Rattle.session.specs.Model.{Records, gameIn, recordsIn, isFound, ver
 use Rattle.session.specs.Promises.{heightOf}
 use Rattle.table.specs.Trials.{Arrays}
 use Rattle.table.specs.Filing.{Stored}
-use Rattle.verdict.specs.Answers.{Tells}
+use Rattle.verdict.specs.Answers.{WalkOf}
 
 -- the rows and words are those of the table's graph
 pub matches : (t : Table) (b : Arrays) → Stored t b → Matches (searched t) (gameIn b)
@@ -45,7 +45,7 @@ matches t b s =
 
 -- it tells the walk and the height of the open path
 stands-tells : (g : Graph) (s : Core) (c : Config) (spent : ℕ) → Stands g s c → verdict c ≢ unfinished → ((stem cycle : List ℕ) → verdict c ≡ lasso stem cycle → 0 < length cycle)
-    → Tells (verdictOf (s .walker) spent .stem) (verdictOf (s .walker) spent .length) (s .walk) (verdict c) × (verdictOf (s .walker) spent .height ≡ heightOf c)
+    → WalkOf (verdictOf (s .walker) spent .stem) (verdictOf (s .walker) spent .length) (s .walk) (verdict c) × (verdictOf (s .walker) spent .height ≡ heightOf c)
 unfolding verdict verdictOf
 stands-tells g s (outer p d k l) spent a n f = absurd (n refl)
 stands-tells g s (nested b p q d k l) spent a n f = absurd (n refl)
@@ -67,7 +67,7 @@ pub record Reached (t : Table) (start-at : ℕ) (r : Result) : Type 0 where
   pub steps : ℕ
   pub ended : verdict (run (searched t) steps) ≢ unfinished
   pub archive : Archived (searched t) steps (r .number) (r .parent) (r .index) (r .probes) (r .stamp) (r .walk)
-  pub tells : Tells (verdictOf (r .walker) (r .spent) .stem) (verdictOf (r .walker) (r .spent) .length) (r .walk) (verdict (final t))
+  pub tells : WalkOf (verdictOf (r .walker) (r .spent) .stem) (verdictOf (r .walker) (r .spent) .length) (r .walk) (verdict (final t))
   pub height-is : verdictOf (r .walker) (r .spent) .height ≡ heightOf (final t)
   pub kept-is : verdictOf (r .walker) (r .spent) .kept ≡ count (run (searched t) start-at)
   pub adds-up : verdictOf (r .walker) (r .spent) .kept + verdictOf (r .walker) (r .spent) .spent ≡ count (final t)

@@ -1,5 +1,5 @@
 -- What the inner functions of the session do, over the lists that its arrays hold. Cited by their contracts alone. Assumes nothing.
-use Prim.Native.Nat.{ℕ, suc, _-_, _≤_}
+use Prim.Native.Nat.{ℕ, suc, _-_}
 use mathlib.Core.Path.{_≡_}
 use mathlib.Core.Bool.{Bool, true, false, cond, _&&_, _||_}
 use mathlib.Core.List.{List, [], _∷_}
@@ -28,7 +28,7 @@ use Rattle.session.specs.declared.Resumption.the-variants.{Nowhere, At}
 use Rattle.session.specs.declared.Verdict.{Verdict}
 use Rattle.session.specs.declared.Settled.{Settled}
 use Rattle.session.specs.declared.Session.{Session}
-use Rattle.verdict.specs.Answers.{refusing, answerIs, shownWalk}
+use Rattle.verdict.specs.Answers.{refusing, Tells}
 
 -- what the arrays that outlive a search hold
 pub record Records : Type 0 where
@@ -176,8 +176,7 @@ Sought g size start (At s) old a r a′ = (c : Result) × Ran g bound (backAt si
 -- What searching and answering leaves: the search, its answer, and the walk at the head of the lent list.
 pub record Settles (g : Game) (size start : ℕ) (from : Resumption) (old : Verdict) (a : Records) (lent : List ℕ) (r : Settled) (a′ : Records) (lent′ : List ℕ) : Type 0 where
   pub sought : Sought g size start from old a (r .verdict) a′
-  pub answer-is : r .answer ≡ answerIs (r .verdict .spent) (r .verdict .kept) (r .verdict .stem) (r .verdict .length)
-  pub wrote : r .verdict .stem ≤ r .verdict .length → r .verdict .length ≤ 512 → r .verdict .length ≤ length lent → lent′ ≡ shownWalk (r .verdict .length) (a′ .walk) lent
+  pub tells : Tells (r .verdict .spent) (r .verdict .kept) (r .verdict .stem) (r .verdict .length) (a′ .walk) lent (r .answer) lent′
 
 -- What a call leaves, whose lines are given as numbers: a refusal, and all is as it was; or the table's arrays changed, and what searching and answering leaves.
 pub record UpdatedIn (alone : Bool) (ns : List ℕ) (size start : ℕ) (old : Verdict) (b : Arrays) (a : Records) (lent : List ℕ) (r : Settled) (b′ : Arrays) (a′ : Records) (lent′ : List ℕ) : Type 0 where

@@ -12,7 +12,7 @@ use Rattle.plain.specs.Claims.{Arises, OneByOne, LineTrue, LineCounted, LoopTol
 use Rattle.search.specs.Archive.{Archived}
 use Rattle.verdict.specs.declared.Answer.{Answer}
 use Rattle.verdict.specs.declared.Answer.the-variants.{Refused}
-use Rattle.verdict.specs.Answers.{shown, Tells, Answered, LoadAnswered}
+use Rattle.verdict.specs.Answers.{shown, WalkOf, Answered, LoadAnswered}
 use Rattle.table.specs.declared.Refusal.{Refusal}
 use Rattle.table.specs.declared.Position.{Position}
 use Rattle.table.specs.declared.Position.the-variants as Position
@@ -55,7 +55,7 @@ pub record Holds (s : Session) (t : Table) : Type 0 where
   pub steps : ℕ
   pub ended : verdict (run (searched t) steps) ≢ unfinished
   pub archived : Archived (searched t) steps (s .number) (s .parent) (s .index) (s .probes) (s .stamp) (s .walk)
-  pub told : Tells (s .stem) (s .length) (s .walk) (verdict (final t))
+  pub told : WalkOf (s .stem) (s .length) (s .walk) (verdict (final t))
   pub height-is : s .height ≡ heightOf (final t)
   pub total-is : s .total ≡ count (final t)
 

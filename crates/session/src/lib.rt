@@ -392,9 +392,8 @@ fn settle(
         from,
         old,
     );
-    verdict::write_walk(walk, v.stem, v.length, lent);
     Settled {
-        answer: verdict::answer_of(v.spent, v.kept, v.stem, v.length),
+        answer: verdict::tell(v.spent, v.kept, v.stem, v.length, walk, lent),
         verdict: v,
     }
 }

@@ -10,8 +10,6 @@ use Rattle.plain.specs.Search.{Graph, Edge, Frame, frame, Config, outer, nested
 use Rattle.plain.specs.Limits.{Limits}
 use Rattle.plain.specs.Table.{accepts}
 use Rattle.look.specs.Scan.{rowIn}
-use Rattle.verdict.specs.declared.Answer.{Answer}
-use Rattle.verdict.specs.Answers.{answerIs, shownWalk}
 use Rattle.textbook.specs.declared.Finding.{Finding}
 use Rattle.textbook.specs.declared.Finding.the-variants.{Clear, Round}
 
@@ -29,11 +27,6 @@ stemIn (Round stem len) = stem
 abbrev pub lengthIn : Finding → ℕ
 lengthIn Clear = 0
 lengthIn (Round stem len) = len
-
--- the answer, and the walk at the head of the list
-pub record Tells (r : Finding) (spent : ℕ) (walk lent : List ℕ) (a : Answer) (lent′ : List ℕ) : Type 0 where
-  pub answer-is : a ≡ answerIs spent 0 (stemIn r) (lengthIn r)
-  pub wrote : stemIn r ≤ lengthIn r → lengthIn r ≤ 512 → lengthIn r ≤ length lent → lent′ ≡ shownWalk (lengthIn r) walk lent
 
 -- ---- the board: what the search writes on
 

@@ -10,7 +10,7 @@ ghost use mathlib.Core.List.{List};
 ghost use lib.ListN.{length, getD, set};
 ghost use Rattle.rows.specs.Rows.{Tabled};
 ghost use Rattle.verdict.specs.Answers.{LoadAnswered};
-ghost use Rattle.textbook.specs.Search.{isRound, boardOf, Sized, Reads, ReadsAll, Visits, Moves, Tells};
+ghost use Rattle.textbook.specs.Search.{isRound, stemIn, lengthIn, boardOf, Sized, Reads, ReadsAll, Visits, Moves};
 
 // What a search has come to: no round, or a round. The walk then has so many states, of which so many are the stem.
 enum Finding {
@@ -24,6 +24,25 @@ fn is_round(r: Finding) -> bool
     match r {
         Finding::Clear => false,
         Finding::Round { stem, length } => true,
+    }
+}
+
+// The lengths of the stem and of the walk, 0 where there is none.
+fn stem_of(r: Finding) -> u16
+    ensures { λ n. ⌜ n ≡ stemIn r ⌝ }
+{
+    match r {
+        Finding::Clear => 0,
+        Finding::Round { stem, length } => stem,
+    }
+}
+
+fn length_of(r: Finding) -> u16
+    ensures { λ n. ⌜ n ≡ lengthIn r ⌝ }
+{
+    match r {
+        Finding::Clear => 0,
+        Finding::Round { stem, length } => length,
     }
 }
 
@@ -45,6 +64,66 @@ fn insert(states: &mut [bool; 512], v: u16)
     if i < look::STATES {
         states[i] = true;
     }
+}
+
+// THE OUTER SEARCH visits a state: it is met, and its moves are gone through; after the last of them, if it pays, an inner search starts from it. On the open path it has
+// that place.
+fn visit(
+    targets: &[u16; 2048],
+    starts: &[u16; 513],
+    words: &[u64; 8],
+    met: &mut [bool; 512],
+    marked: &mut [bool; 512],
+    walk: &mut [u16; 512],
+    spent: &mut u16,
+    v: u16,
+    place: u16,
+) -> Finding
+    requires { ⌜ Tabled (now targets) (now starts) × (length (now met) ≡ 512) × Sized (now marked) (now walk) ⌝ }
+    ensures { λ r. ⌜ Visits (ReadsAll (now (targets .entry)) (now (starts .entry)) (now (words .entry))) false v 0 place (boardOf (now (met .entry)) (now (marked .entry)) (now (walk .entry)) (now (spent .entry))) (boardOf (now (met .exit)) (now (marked .exit)) (now (walk .exit)) (now (spent .exit))) r ⌝ }
+{
+    insert(met, v);
+    look::put(walk, place, v);
+    let height = look::up(place);
+    let r = moves(targets, starts, words, met, marked, walk, spent, v, height);
+    if is_round(r) {
+        return r;
+    }
+    if marks::accepts_in(words, wide(v)) {
+        return inner_visit(targets, starts, marked, walk, spent, v, height, place);
+    }
+    r
+}
+
+// Its moves are taken oldest first. If the target is not met, it is visited.
+fn moves(
+    targets: &[u16; 2048],
+    starts: &[u16; 513],
+    words: &[u64; 8],
+    met: &mut [bool; 512],
+    marked: &mut [bool; 512],
+    walk: &mut [u16; 512],
+    spent: &mut u16,
+    v: u16,
+    place: u16,
+) -> Finding
+    requires { ⌜ Tabled (now targets) (now starts) × (length (now met) ≡ 512) × Sized (now marked) (now walk) ⌝ }
+    ensures { λ r. ⌜ Moves (ReadsAll (now (targets .entry)) (now (starts .entry)) (now (words .entry))) false v 0 place (boardOf (now (met .entry)) (now (marked .entry)) (now (walk .entry)) (now (spent .entry))) (boardOf (now (met .exit)) (now (marked .exit)) (now (walk .exit)) (now (spent .exit))) r ⌝ }
+{
+    let row = look::row_of(starts, v);
+    let mut at = row.from;
+    let stop = row.stop;
+    while at < stop {
+        let t = look::look(targets, spent, at);
+        if !contains(met, t) {
+            let r = visit(targets, starts, words, met, marked, walk, spent, t, place);
+            if is_round(r) {
+                return r;
+            }
+        }
+        at += 1;
+    }
+    Finding::Clear
 }
 
 // THE INNER SEARCH visits a state: it is marked, and its moves are gone through. The open path is so many states high; behind it the walk goes on with the states of the
@@ -113,80 +192,6 @@ fn inner_moves(
     Finding::Clear
 }
 
-// THE OUTER SEARCH visits a state: it is met, and its moves are gone through; after the last of them, if it pays, an inner search starts from it. On the open path it has
-// that place.
-fn visit(
-    targets: &[u16; 2048],
-    starts: &[u16; 513],
-    words: &[u64; 8],
-    met: &mut [bool; 512],
-    marked: &mut [bool; 512],
-    walk: &mut [u16; 512],
-    spent: &mut u16,
-    v: u16,
-    place: u16,
-) -> Finding
-    requires { ⌜ Tabled (now targets) (now starts) × (length (now met) ≡ 512) × Sized (now marked) (now walk) ⌝ }
-    ensures { λ r. ⌜ Visits (ReadsAll (now (targets .entry)) (now (starts .entry)) (now (words .entry))) false v 0 place (boardOf (now (met .entry)) (now (marked .entry)) (now (walk .entry)) (now (spent .entry))) (boardOf (now (met .exit)) (now (marked .exit)) (now (walk .exit)) (now (spent .exit))) r ⌝ }
-{
-    insert(met, v);
-    look::put(walk, place, v);
-    let height = look::up(place);
-    let r = moves(targets, starts, words, met, marked, walk, spent, v, height);
-    if is_round(r) {
-        return r;
-    }
-    if marks::accepts_in(words, wide(v)) {
-        return inner_visit(targets, starts, marked, walk, spent, v, height, place);
-    }
-    r
-}
-
-// Its moves are taken oldest first. If the target is not met, it is visited.
-fn moves(
-    targets: &[u16; 2048],
-    starts: &[u16; 513],
-    words: &[u64; 8],
-    met: &mut [bool; 512],
-    marked: &mut [bool; 512],
-    walk: &mut [u16; 512],
-    spent: &mut u16,
-    v: u16,
-    place: u16,
-) -> Finding
-    requires { ⌜ Tabled (now targets) (now starts) × (length (now met) ≡ 512) × Sized (now marked) (now walk) ⌝ }
-    ensures { λ r. ⌜ Moves (ReadsAll (now (targets .entry)) (now (starts .entry)) (now (words .entry))) false v 0 place (boardOf (now (met .entry)) (now (marked .entry)) (now (walk .entry)) (now (spent .entry))) (boardOf (now (met .exit)) (now (marked .exit)) (now (walk .exit)) (now (spent .exit))) r ⌝ }
-{
-    let row = look::row_of(starts, v);
-    let mut at = row.from;
-    let stop = row.stop;
-    while at < stop {
-        let t = look::look(targets, spent, at);
-        if !contains(met, t) {
-            let r = visit(targets, starts, words, met, marked, walk, spent, t, place);
-            if is_round(r) {
-                return r;
-            }
-        }
-        at += 1;
-    }
-    Finding::Clear
-}
-
-// The answer, and the walk in the lent list. Nothing is kept: there was no search before.
-fn tell(r: Finding, spent: u16, walk: &[u16; 512], lent: &mut [u16]) -> Answer
-    requires { ⌜ length (now walk) ≡ 512 ⌝ }
-    ensures { λ a. ⌜ Tells r spent (now (walk .entry)) (now (lent .entry)) a (now (lent .exit)) ⌝ }
-{
-    match r {
-        Finding::Clear => verdict::answer_of(spent, 0, 0, 0),
-        Finding::Round { stem, length } => {
-            verdict::write_walk(walk, stem, length, lent);
-            verdict::answer_of(spent, 0, stem, length)
-        }
-    }
-}
-
 // Searches a game: the count of states, the start state, the paying words, the moves as a list of numbers, and the list lent for the walk. It is answered as a load of it
 // is.
 pub fn search(size: u16, start: u16, words: [u64; 8], numbers: &[u16], lent: &mut [u16]) -> Answer
@@ -221,5 +226,5 @@ pub fn search(size: u16, start: u16, words: [u64; 8], numbers: &[u16], lent: &mu
         start,
         0,
     );
-    tell(r, spent, &walk, lent)
+    verdict::tell(spent, 0, stem_of(r), length_of(r), &walk, lent)
 }

@@ -16,10 +16,17 @@ use Rattle.table.specs.declared.Position.{Position}
 use Rattle.table.specs.declared.Position.the-variants as Position
 use Rattle.verdict.specs.declared.Answer.{Answer}
 use Rattle.verdict.specs.declared.Answer.the-variants.{Refused, Clear, Round}
-use Rattle.verdict.specs.Answers.{answerIs, refusing, shownWalk, positionOf, refusalOf, shown, NoRefusal, Tells, Answered}
+use Rattle.verdict.specs.Answers.{answerIs, refusing, shownWalk, positionOf, refusalOf, shown, NoRefusal, WalkOf, Tells, Answered}
 
 two-parts : (stem cycle rest : List ℕ) → take (length stem + length cycle) (stem ++ (cycle ++ rest)) ≡ stem ++ cycle
 two-parts stem cycle rest = rw (← length-append stem cycle, ← append-assoc stem cycle rest) (take-append-seam (stem ++ cycle) rest)
+
+-- the walk fits
+walk-fits : (stem len : ℕ) (w : Verdict) (walk : List ℕ) (size : ℕ) → WalkOf stem len walk w
+    → ((first round : List ℕ) → w ≡ lasso first round → length first + length round ≤ size) → (stem ≤ len) × (len ≤ size)
+walk-fits stem len none walk size t short = (omega (arith, t .0), omega (arith, t .1))
+walk-fits stem len (lasso first round) walk size t short = (omega (arith, t .0, t .1), omega (arith, t .1, short first round refl))
+walk-fits stem len unfinished walk size t short = absurd t
 
 -- a search has come to the lengths of stem and walk, with so many looks
 module _ (spent kept stem len : ℕ) where
@@ -32,7 +39,7 @@ module _ (spent kept stem len : ℕ) where
   answer-round h = ap (λ (b : Bool). cond b (Clear spent kept) (Round spent kept stem (len - stem))) (ne-eqb len 0 (λ e. omega arith))
 
   -- the answer, with the list as it was written
-  tells-answer : (w : Verdict) (walk lent : List ℕ) → Tells stem len walk w → answerLine (answer w spent kept) ≡ shown (answerIs spent kept stem len) (written (answer w spent kept) lent) ∷ []
+  tells-answer : (w : Verdict) (walk lent : List ℕ) → WalkOf stem len walk w → answerLine (answer w spent kept) ≡ shown (answerIs spent kept stem len) (written (answer w spent kept) lent) ∷ []
   unfolding shown written answerLine
   tells-answer none walk lent t = ap (λ (a : Answer). shown a lent ∷ []) (sym (answer-clear (t .1)))
   tells-answer (lasso first round) walk lent t =
@@ -44,7 +51,7 @@ module _ (spent kept stem len : ℕ) where
   tells-answer unfinished walk lent t = absurd t
 
   -- the list lent for the walk
-  tells-written : (w : Verdict) (walk lent : List ℕ) → Tells stem len walk w → shownWalk len walk lent ≡ written (answer w spent kept) lent
+  tells-written : (w : Verdict) (walk lent : List ℕ) → WalkOf stem len walk w → shownWalk len walk lent ≡ written (answer w spent kept) lent
   unfolding shownWalk written
   tells-written none walk lent t = ap (λ (n : ℕ). take n walk ++ drop n lent) (t .1)
   tells-written (lasso first round) walk lent t =
@@ -53,11 +60,16 @@ module _ (spent kept stem len : ℕ) where
       ap (λ (l : List ℕ). l ++ drop len lent) head ∙ append-assoc first round (drop len lent) ∙ ap (λ (i : ℕ). first ++ (round ++ drop i lent)) (t .1)
   tells-written unfinished walk lent t = absurd t
 
-  -- both are the plain table's
-  pub told : (w : Verdict) (walk lent lent′ : List ℕ) → Tells stem len walk w → lent′ ≡ shownWalk len walk lent → Answered (answer w spent kept) lent (answerIs spent kept stem len) lent′
-  told w walk lent lent′ t e =
-      let list : lent′ ≡ written (answer w spent kept) lent = e ∙ tells-written w walk lent t in
-      record { line = tells-answer w walk lent t ∙ ap (λ (x : List ℕ). shown (answerIs spent kept stem len) x ∷ []) (sym list); list = list }
+  -- what was told of a walk that fits is the plain table's answer
+  pub told : (w : Verdict) (walk lent lent′ : List ℕ) (r : Answer) (size : ℕ) → WalkOf stem len walk w → Tells spent kept stem len walk lent r lent′
+      → ((first round : List ℕ) → w ≡ lasso first round → length first + length round ≤ size) → size ≤ 512 → size ≤ length lent → Answered (answer w spent kept) lent r lent′
+  told w walk lent lent′ r size t s short few room =
+      let fit = walk-fits stem len w walk size t short in
+      let list : lent′ ≡ written (answer w spent kept) lent = s .wrote (fit .0) (omega (arith, fit .1)) (omega (arith, fit .1)) ∙ tells-written w walk lent t in
+      record {
+        line = tells-answer w walk lent t ∙ (λ i. shown (sym (s .answer-is) i) (sym list i) ∷ []);
+        list = list;
+      }
 
   -- an answer that tells what a search has come to is no refusal
   pub never-refused : (n : Refusal) → answerIs spent kept stem len ≡ Refused n → ⊥
@@ -67,13 +79,6 @@ module _ (spent kept stem len : ℕ) where
       by-test : (b : Bool) → cond b (Clear spent kept) (Round spent kept stem (len - stem)) ≡ Refused n → ⊥
       by-test true e = let z : _≡_ {A = ℕ} 0 1 = cc in omega arith
       by-test false e = let z : _≡_ {A = ℕ} 0 1 = cc in omega arith
-
--- the walk fits
-pub tells-fits : (stem len : ℕ) (w : Verdict) (walk : List ℕ) (size : ℕ) → Tells stem len walk w
-    → ((first round : List ℕ) → w ≡ lasso first round → length first + length round ≤ size) → (stem ≤ len) × (len ≤ size)
-tells-fits stem len none walk size t short = (omega (arith, t .0), omega (arith, t .1))
-tells-fits stem len (lasso first round) walk size t short = (omega (arith, t .0, t .1), omega (arith, t .1, short first round refl))
-tells-fits stem len unfinished walk size t short = absurd t
 
 -- an answer that is told as the refusal of a call is that refusal
 told-refusal : Line → PlainRefusal

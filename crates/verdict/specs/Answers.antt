@@ -1,5 +1,5 @@
 -- The answer to a call and the list lent for the walk, and when they are the plain table's. Assumes nothing.
-use Prim.Native.Nat.{ℕ, _+_, _-_, _<_}
+use Prim.Native.Nat.{ℕ, _+_, _-_, _≤_, _<_}
 use mathlib.Core.Path.{_≡_}
 use mathlib.Core.Bool.{Bool, true, false, cond}
 use mathlib.Core.List.{List, [], _∷_, _++_}
@@ -34,6 +34,11 @@ answerIs spent kept stem len = cond (eqb len 0) (Clear spent kept) (Round spent 
 unfoldable pub shownWalk : ℕ → List ℕ → List ℕ → List ℕ
 shownWalk n walk lent = take n walk ++ drop n lent
 
+-- what telling leaves: the answer, and the walk at the head of the list, where it fits
+pub record Tells (spent kept stem len : ℕ) (walk lent : List ℕ) (r : Answer) (lent′ : List ℕ) : Type 0 where
+  pub answer-is : r ≡ answerIs spent kept stem len
+  pub wrote : stem ≤ len → len ≤ 512 → len ≤ length lent → lent′ ≡ shownWalk len walk lent
+
 -- ---- an answer, as the plain table tells it
 
 -- the plain table's word for where a refusal stands, and for the refusal
@@ -57,11 +62,11 @@ NoRefusal (Refused r) = ⊥
 NoRefusal (Clear spent kept) = Unit {0}
 NoRefusal (Round spent kept stem cycle) = Unit {0}
 
--- the walk that is kept, with the length of its stem and its own, is that of the verdict
-abbrev pub Tells : ℕ → ℕ → List ℕ → Verdict → Type 0
-Tells stemLength walkLength walk none = (stemLength ≡ 0) × (walkLength ≡ 0)
-Tells stemLength walkLength walk (lasso stem cycle) = (stemLength ≡ length stem) × (walkLength ≡ length stem + length cycle) × Begins (stem ++ cycle) walk × (0 < length cycle)
-Tells stemLength walkLength walk unfinished = ⊥
+-- the walk, with the lengths of its stem and its own, is that of the verdict
+abbrev pub WalkOf : ℕ → ℕ → List ℕ → Verdict → Type 0
+WalkOf stemLength walkLength walk none = (stemLength ≡ 0) × (walkLength ≡ 0)
+WalkOf stemLength walkLength walk (lasso stem cycle) = (stemLength ≡ length stem) × (walkLength ≡ length stem + length cycle) × Begins (stem ++ cycle) walk × (0 < length cycle)
+WalkOf stemLength walkLength walk unfinished = ⊥
 
 -- AN ANSWER that is the plain table's: it is told by the same line, and the list lent for the walk is left as the plain table leaves it.
 pub record Answered (a : PlainAnswer) (lent : List ℕ) (r : Answer) (lent′ : List ℕ) : Type 0 where

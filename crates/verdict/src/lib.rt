@@ -6,7 +6,7 @@ ghost use mathlib.Core.Path.{_≡_};
 ghost use mathlib.Core.List.{_++_};
 ghost use Prim.Native.Nat.{_+_, _≤_};
 ghost use lib.ListN.{length, take, drop};
-ghost use Rattle.verdict.specs.Answers.{answerIs, refusing, isRefused, shownWalk};
+ghost use Rattle.verdict.specs.Answers.{answerIs, refusing, isRefused, shownWalk, Tells};
 
 // The answer to a call: a refusal, or the probes spent and kept, and with a round the lengths of stem and round.
 pub enum Answer {
@@ -24,7 +24,7 @@ pub enum Answer {
 }
 
 // The answer that tells what a search has come to: no walk has the length 0.
-pub fn answer_of(spent: u16, kept: u16, stem: u16, length: u16) -> Answer
+fn answer_of(spent: u16, kept: u16, stem: u16, length: u16) -> Answer
     ensures { λ r. ⌜ r ≡ answerIs spent kept stem length ⌝ }
 {
     if length == 0 {
@@ -60,7 +60,7 @@ fn write_part(walk: &[u16; 512], from: u16, count: u16, out: &mut [u16])
 }
 
 // Writes the walk: the stem, and the cycle into the part of the list behind the stem.
-pub fn write_walk(walk: &[u16; 512], stem: u16, len: u16, lent: &mut [u16])
+fn write_walk(walk: &[u16; 512], stem: u16, len: u16, lent: &mut [u16])
     requires { ⌜ length (now walk) ≡ 512 ⌝ }
     ensures { λ r. ⌜ (stem ≤ len → len ≤ 512 → len ≤ length (now (lent .entry)) → now (lent .exit) ≡ shownWalk len (now (walk .entry)) (now (lent .entry))) ⌝ }
 {
@@ -71,6 +71,22 @@ pub fn write_walk(walk: &[u16; 512], stem: u16, len: u16, lent: &mut [u16])
             write_part(walk, stem, len - stem, &mut lent[at..]);
         }
     }
+}
+
+// Answers what a search has come to, and writes its walk into the lent list.
+pub fn tell(
+    spent: u16,
+    kept: u16,
+    stem: u16,
+    len: u16,
+    walk: &[u16; 512],
+    lent: &mut [u16],
+) -> Answer
+    requires { ⌜ length (now walk) ≡ 512 ⌝ }
+    ensures { λ r. ⌜ Tells spent kept stem len (now (walk .entry)) (now (lent .entry)) r (now (lent .exit)) ⌝ }
+{
+    write_walk(walk, stem, len, lent);
+    answer_of(spent, kept, stem, len)
 }
 
 // The answer to a refused call.

@@ -47,8 +47,14 @@ visit-requires c κs =
     let e = tried-at c in
     (e .before .before .load-trial .ensures .filed (e .enum-told .given .1) .compressed .tabled, length-replicate 512 false, record { marked-size = length-replicate 512 false; walk-size = length-replicate 512 zero })
 
+stem-of-requires : tie.Need-stem-of-requires
+stem-of-requires c κs = search needs
+
+length-of-requires : tie.Need-length-of-requires
+length-of-requires c κs = search needs
+
 tell-requires : tie.Need-tell-requires
-tell-requires c κs = c .before .before .visit .ensures .kept .walk-size ∙ length-replicate 512 zero
+tell-requires c κs = c .before .before .before .before .visit .ensures .kept .walk-size ∙ length-replicate 512 zero
 
 same-length : tie.Need-same-length
 same-length c = search needs
@@ -56,12 +62,13 @@ same-length c = search needs
 returns-2 : tie.Need-returns-2
 returns-2 c =
     let w = c .before .before in
-    let v = w .before .before .before in
+    let n = w .before .before .before in
+    let v = n .before .before in
     let e = tried-at (v .before) in
-    let n = e .before .before .load-trial in
+    let f = e .before .before .load-trial in
     let s = begun (e .before .before) in
-    searched-right (game s) (now (s .args .lent)) _ _ (tried-accepted (loadTrial (game s) (length (now (s .args .lent)))) (sym (n .ensures .trial-is) ∙ e .enum-told .given .1))
-    (n .ensures .filed (e .enum-told .given .1)) (v .visit .ensures) (w .tell .ensures)
+    searched-right (game s) (now (s .args .lent)) _ _ (tried-accepted (loadTrial (game s) (length (now (s .args .lent)))) (sym (f .ensures .trial-is) ∙ e .enum-told .given .1))
+    (f .ensures .filed (e .enum-told .given .1)) (v .visit .ensures) (n .before .stem-of .ensures) (n .length-of .ensures) (w .tell .ensures)
 
 pub search-spec : {M : Type 1} → statement M
 search-spec =
@@ -73,6 +80,8 @@ search-spec =
     returns
     enum-told
     visit-requires
+    stem-of-requires
+    length-of-requires
     tell-requires
     same-length
     returns-2)
