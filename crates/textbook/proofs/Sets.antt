@@ -31,18 +31,18 @@ missing-less (false ∷ bs) zero e = omega arith
 missing-less (true ∷ bs) (suc v) e = omega (arith, missing-less bs v e)
 missing-less (false ∷ bs) (suc v) e = omega (arith, missing-less bs v e)
 
--- THE MEASURE: going through the moves has twice the states that are missing, and a visit one more than that once its state is in the set.
+-- THE MEASURE: going through the edges has twice the states that are missing, and a visit one more than that once its state is in the set.
 unfoldable pub left : List Bool → ℕ
 left bs = 2 * missing bs
 
--- a state is visited that was not in the set: less is left than at the start of going through the moves
+-- a state is visited that was not in the set: less is left than at the start of going through the edges
 pub left-visit : {t : ℕ} (bs₀ bs : List Bool) (v : ℕ) → left bs₀ ≡ t → missing bs ≤ missing bs₀ → getD bs v true ≡ false → left (set bs v true) + 1 < t
 unfolding left
 left-visit bs₀ bs v e h n = omega (arith, missing-less bs v n)
 
--- its moves are gone through
-pub left-moves : {t : ℕ} (bs bs′ : List Bool) (v : ℕ) → left (set bs v true) + 1 ≡ t → bs′ ≡ set bs v true → left bs′ < t
-left-moves bs bs′ v e f = rw f (omega arith)
+-- its edges are gone through
+pub left-explore : {t : ℕ} (bs bs′ : List Bool) (v : ℕ) → left (set bs v true) + 1 ≡ t → bs′ ≡ set bs v true → left bs′ < t
+left-explore bs bs′ v e f = rw f (omega arith)
 
 -- ---- who is in them
 

@@ -29,14 +29,14 @@ use Rattle.textbook.proofs.Sets.{members-insert}
 
 -- the search's own set, and the states that are in it
 abbrev pub own : Bool → Board → List Bool
-own inner B = cond inner (B .marked) (B .met)
+own nesting B = cond nesting (B .marked) (B .discovered)
 
 abbrev seen : Bool → List ℕ → List ℕ → List ℕ
-seen inner d k = cond inner k d
+seen nesting d k = cond nesting k d
 
 -- the board, with the count of looks one higher
 abbrev pub lookedAt : Board → ℕ → Board
-lookedAt B spent = boardOf (B .met) (B .marked) (B .walk) spent
+lookedAt B spent = boardOf (B .discovered) (B .marked) (B .walk) spent
 
 -- ---- the walk
 
@@ -52,7 +52,7 @@ pop-walk : (P : List ℕ) (q : List Frame) (v : ℕ) (ts walk : List ℕ) → Be
 unfolding statesOf
 pop-walk P q v ts walk (rest, f) = (v ∷ rest, f ∙ simp append-assoc)
 
--- the walk begins with the open path: the inner search's path begins with the state from which it was started
+-- the walk begins with the open path: the nested search's path begins with the state from which it was started
 open-walk : (s : ℕ) (p q : List Frame) (w walk : List ℕ) → statesOf q ≡ s ∷ w → Begins (statesOf p ++ statesOf q) walk → Begins (statesOf (frame s [] ∷ p)) walk
 unfolding statesOf
 open-walk s p q w walk e (rest, f) = (w ++ rest, f ∙ ap (λ (l : List ℕ). (statesOf p ++ l) ++ rest) e ∙ simp append-assoc)
@@ -74,9 +74,9 @@ place-before t (x ∷ xs) = ⊎-elim
     (λ e. place-miss t x xs e ∙ ap suc (place-before t xs) ∙ sym (ap length (before-miss t x xs e))) (either (eqb t x))
 
 -- v was put on the path: at its place on the walk, and into the search's own set
-pub record Entered (inner : Bool) (v place : ℕ) (B B′ : Board) : Type 0 where
-  pub met-is : B′ .met ≡ cond inner (B .met) (set (B .met) v true)
-  pub marked-is : B′ .marked ≡ cond inner (set (B .marked) v true) (B .marked)
+pub record Entered (nesting : Bool) (v place : ℕ) (B B′ : Board) : Type 0 where
+  pub discovered-is : B′ .discovered ≡ cond nesting (B .discovered) (set (B .discovered) v true)
+  pub marked-is : B′ .marked ≡ cond nesting (set (B .marked) v true) (B .marked)
   pub walk-is : B′ .walk ≡ set (B .walk) place v
   pub spent-is : B′ .spent ≡ B .spent
 
@@ -94,7 +94,7 @@ module _ (g : Graph) where
     known : (c : Config) → Reached g c → (x : ℕ) → In x (markedOf c) → x < 512
     known c (n, e) x i = within c (n, e) .below x (subst (λ (y : Config). In x (markedOf y) → In x (discoveredOf y)) e (marked-known g n x) i)
 
-    -- the path of an inner search begins with the state from which it was started
+    -- the path of a nested search begins with the state from which it was started
     bottom : (s : ℕ) (p : List Frame) (x : ℕ) (ts : List ℕ) (q : List Frame) (d k : List ℕ) (l : List Edge) → Reached g (nested s p (frame x ts ∷ q) d k l)
         → (w : List ℕ) × (statesOf (frame x ts ∷ q) ≡ s ∷ w)
     bottom s p x ts q d k l (n, e) =
@@ -110,58 +110,58 @@ module _ (g : Graph) where
 
     module _ (s v place : ℕ) (p q : List Frame) (d k : List ℕ) (l : List Edge) where
       -- there is room for it
-      pub enter-room : (inner : Bool) (ts : List ℕ) → Reached g (conf inner s p (frame v ts ∷ q) d k l) → place ≡ length (under inner p) + length q → place < 512
+      pub enter-room : (nesting : Bool) (ts : List ℕ) → Reached g (conf nesting s p (frame v ts ∷ q) d k l) → place ≡ length (under nesting p) + length q → place < 512
       enter-room true ts r e = omega (arith, within _ r .walk-few)
       enter-room false ts r e = omega (arith, within _ r .walk-few)
 
       module _ {B B′ : Board} (walk-size : length (B .walk) ≡ 512) where
-        pub entered : (inner : Bool) → Entered inner v place B B′ → length (own inner B) ≡ 512
-            → Reached g (conf inner s p (frame v (g .successors v) ∷ q) (cond inner d (v ∷ d)) (cond inner (v ∷ k) k) l) → Shows inner B p q d k l → place ≡ length (under inner p) + length q
-            → Shows inner B′ p (frame v (g .successors v) ∷ q) (cond inner d (v ∷ d)) (cond inner (v ∷ k) k) l
+        pub entered : (nesting : Bool) → Entered nesting v place B B′ → length (own nesting B) ≡ 512
+            → Reached g (conf nesting s p (frame v (g .successors v) ∷ q) (cond nesting d (v ∷ d)) (cond nesting (v ∷ k) k) l) → Shows nesting B p q d k l → place ≡ length (under nesting p) + length q
+            → Shows nesting B′ p (frame v (g .successors v) ∷ q) (cond nesting d (v ∷ d)) (cond nesting (v ∷ k) k) l
         unfolding statesOf
         entered true y z r h e = record {
-          met-right = subst⁻¹ (λ (m : List Bool). Members m d) (y .met-is) (h .met-right);
+          discovered-right = subst⁻¹ (λ (m : List Bool). Members m d) (y .discovered-is) (h .discovered-right);
           marked-right = members-insert (B .marked) (B′ .marked) k v z (known _ r v (in-head v k)) (y .marked-is) (h .marked-right);
           walk-right = push-walk (statesOf p) q v place (g .successors v) (B .walk) (B′ .walk) (omega (arith, states-length p)) walk-size (omega (arith, states-length p, within _ r .walk-few)) (y .walk-is) (h .walk-right);
           spent-right = y .spent-is ∙ h .spent-right;
         }
         entered false y z r h e = record {
-          met-right = members-insert (B .met) (B′ .met) d v z (within _ r .below v (in-head v d)) (y .met-is) (h .met-right);
+          discovered-right = members-insert (B .discovered) (B′ .discovered) d v z (within _ r .below v (in-head v d)) (y .discovered-is) (h .discovered-right);
           marked-right = subst⁻¹ (λ (m : List Bool). Members m k) (y .marked-is) (h .marked-right);
           walk-right = push-walk [] q v place (g .successors v) (B .walk) (B′ .walk) e walk-size (omega (arith, within _ r .walk-few)) (y .walk-is) (h .walk-right);
           spent-right = y .spent-is ∙ h .spent-right;
         }
 
-    -- ---- a look at the move from x to t
+    -- ---- a look at the edge from x to t
 
     module _ (B : Board) (s : ℕ) (p : List Frame) (x t : ℕ) (ts : List ℕ) (q : List Frame) (d k : List ℕ) (l : List Edge) (spent′ : ℕ) (raises : spent′ ≡ up (B .spent)) where
       abbrev E : Board
       E = lookedAt B spent′
 
-      shown : (inner : Bool) → Reached g (conf inner s p (frame x (t ∷ ts) ∷ q) d k l) → Shows inner B p (frame x (t ∷ ts) ∷ q) d k l → Shows inner E p (frame x ts ∷ q) d k ((x, t) ∷ l)
+      shown : (nesting : Bool) → Reached g (conf nesting s p (frame x (t ∷ ts) ∷ q) d k l) → Shows nesting B p (frame x (t ∷ ts) ∷ q) d k l → Shows nesting E p (frame x ts ∷ q) d k ((x, t) ∷ l)
       unfolding statesOf
-      shown inner r h = record {
-        met-right = h .met-right;
+      shown nesting r h = record {
+        discovered-right = h .discovered-right;
         marked-right = h .marked-right;
         walk-right = h .walk-right;
-        spent-right = by-search inner r (h .spent-right);
+        spent-right = by-search nesting r (h .spent-right);
       }
         where
           by-search : (b : Bool) → Reached g (conf b s p (frame x (t ∷ ts) ∷ q) d k l) → B .spent ≡ length l → spent′ ≡ suc (length l)
           by-search true r h = counted _ r (B .spent) spent′ raises h
           by-search false r h = counted _ r (B .spent) spent′ raises h
 
-      -- the target is not on the open path, which the inner search looks for
+      -- the target is not on the open path, which the nested search looks for
       abbrev pub Apart : Bool → Type 0
-      Apart inner = inner ≡ true → Off t (frame s [] ∷ p)
+      Apart nesting = nesting ≡ true → Off t (frame s [] ∷ p)
 
       -- where the step comes to: is the target in the set?
       abbrev after : Bool → Bool → Config
-      after inner true = conf inner s p (frame x ts ∷ q) d k ((x, t) ∷ l)
-      after inner false = conf inner s p (frame t (g .successors t) ∷ frame x ts ∷ q) (cond inner d (t ∷ d)) (cond inner (t ∷ k) k) ((x, t) ∷ l)
+      after nesting true = conf nesting s p (frame x ts ∷ q) d k ((x, t) ∷ l)
+      after nesting false = conf nesting s p (frame t (g .successors t) ∷ frame x ts ∷ q) (cond nesting d (t ∷ d)) (cond nesting (t ∷ k) k) ((x, t) ∷ l)
 
-      -- "If the target has not been met, it is met"; "If the target is unmarked, it is searched in the same way"
-      stepped : (inner b : Bool) → Apart inner → elem t (seen inner d k) ≡ b → Reached g (conf inner s p (frame x (t ∷ ts) ∷ q) d k l) → Reached g (after inner b)
+      -- "If the target has not been discovered, it is discovered"; "If the target is unmarked, it is searched in the same way"
+      stepped : (nesting b : Bool) → Apart nesting → elem t (seen nesting d k) ≡ b → Reached g (conf nesting s p (frame x (t ∷ ts) ∷ q) d k l) → Reached g (after nesting b)
       unfolding step
       stepped false true o e r = subst (λ (y : Bool). Reached g (visit g y x t ts q d k ((x, t) ∷ l))) e (onward (outer (frame x (t ∷ ts) ∷ q) d k l) r)
       stepped false false o e r = subst (λ (y : Bool). Reached g (visit g y x t ts q d k ((x, t) ∷ l))) e (onward (outer (frame x (t ∷ ts) ∷ q) d k l) r)
@@ -170,23 +170,23 @@ module _ (g : Graph) where
       stepped true false o e r =
           subst (λ (y : Bool × Bool). Reached g (probe g (y .0) (y .1) s p x t ts q d k ((x, t) ∷ l))) (λ i. (o refl i, e i)) (onward (nested s p (frame x (t ∷ ts) ∷ q) d k l) r)
 
-      target-below : (inner b : Bool) → Apart inner → elem t (seen inner d k) ≡ b → Reached g (conf inner s p (frame x (t ∷ ts) ∷ q) d k l) → t < 512
+      target-below : (nesting b : Bool) → Apart nesting → elem t (seen nesting d k) ≡ b → Reached g (conf nesting s p (frame x (t ∷ ts) ∷ q) d k l) → t < 512
       target-below false true o e r = within _ r .below t e
       target-below false false o e r = within _ (stepped false false o e r) .below t (in-head t d)
       target-below true true o e r = known _ r t e
       target-below true false o e r = known _ (stepped true false o e r) t (in-head t k)
 
-      own-is : (inner : Bool) → Apart inner → Reached g (conf inner s p (frame x (t ∷ ts) ∷ q) d k l) → Shows inner B p (frame x (t ∷ ts) ∷ q) d k l → getD (own inner B) t true ≡ elem t (seen inner d k)
+      own-is : (nesting : Bool) → Apart nesting → Reached g (conf nesting s p (frame x (t ∷ ts) ∷ q) d k l) → Shows nesting B p (frame x (t ∷ ts) ∷ q) d k l → getD (own nesting B) t true ≡ elem t (seen nesting d k)
       own-is true o r h = h .marked-right t (target-below true (elem t k) o refl r)
-      own-is false o r h = h .met-right t (target-below false (elem t d) o refl r)
+      own-is false o r h = h .discovered-right t (target-below false (elem t d) o refl r)
 
-      module _ (inner : Bool) (o : Apart inner) (r : Reached g (conf inner s p (frame x (t ∷ ts) ∷ q) d k l)) (h : Shows inner B p (frame x (t ∷ ts) ∷ q) d k l) where
-        pub passes : getD (own inner B) t true ≡ true → Going g inner s p (frame x ts ∷ q) E
-        passes e = record { d = d; k = k; l = (x, t) ∷ l; reached = stepped inner true o (sym (own-is inner o r h) ∙ e) r; shows = shown inner r h }
+      module _ (nesting : Bool) (o : Apart nesting) (r : Reached g (conf nesting s p (frame x (t ∷ ts) ∷ q) d k l)) (h : Shows nesting B p (frame x (t ∷ ts) ∷ q) d k l) where
+        pub passes : getD (own nesting B) t true ≡ true → Going g nesting s p (frame x ts ∷ q) E
+        passes e = record { d = d; k = k; l = (x, t) ∷ l; reached = stepped nesting true o (sym (own-is nesting o r h) ∙ e) r; shows = shown nesting r h }
 
-        pub enters : getD (own inner B) t true ≡ false
-            → Reached g (conf inner s p (frame t (g .successors t) ∷ frame x ts ∷ q) (cond inner d (t ∷ d)) (cond inner (t ∷ k) k) ((x, t) ∷ l)) × Shows inner E p (frame x ts ∷ q) d k ((x, t) ∷ l)
-        enters e = (stepped inner false o (sym (own-is inner o r h) ∙ e) r, shown inner r h)
+        pub enters : getD (own nesting B) t true ≡ false
+            → Reached g (conf nesting s p (frame t (g .successors t) ∷ frame x ts ∷ q) (cond nesting d (t ∷ d)) (cond nesting (t ∷ k) k) ((x, t) ∷ l)) × Shows nesting E p (frame x ts ∷ q) d k ((x, t) ∷ l)
+        enters e = (stepped nesting false o (sym (own-is nesting o r h) ∙ e) r, shown nesting r h)
 
       -- "If the target is on the open path, a free round is found and everything stops": its place on it
       module _ (height at : ℕ) (high : height ≡ suc (length p)) (is : at ≡ placeOf t (entries height 0 (B .walk)))
@@ -200,7 +200,7 @@ module _ (g : Graph) where
         pub apart : height ≤ at → Off t path
         apart e = sym (below-on (B .walk) path height t at high opened is) ∙ le-ltb at height e
 
-        -- stem and round are the open path, and what is behind its last state on the inner search's path
+        -- stem and round are the open path, and what is behind its last state on the nested search's path
         whole : stemOf t path ++ cycleOf t path (frame x ts ∷ q) ≡ statesOf p ++ statesOf (frame x ts ∷ q)
         unfolding stemOf cycleOf statesOf
         whole =
@@ -232,19 +232,19 @@ module _ (g : Graph) where
               spent-is = counted _ r (B .spent) spent′ raises (h .spent-right);
             }
 
-    -- ---- the moves of v are all taken
+    -- ---- the edges of v are all taken
 
     module _ (B : Board) (s v : ℕ) (p q : List Frame) where
-      -- v leaves the inner search's path
-      pub leaves-inner : Going g true s p (frame v [] ∷ q) B → Going g true s p q B
+      -- v leaves the nested search's path
+      pub leaves-nested : Going g true s p (frame v [] ∷ q) B → Going g true s p q B
       unfolding step
-      leaves-inner w = record {
+      leaves-nested w = record {
         d = w .d;
         k = w .k;
         l = w .l;
         reached = onward (nested s p (frame v [] ∷ q) (w .d) (w .k) (w .l)) (w .reached);
         shows = record {
-          met-right = w .shows .met-right;
+          discovered-right = w .shows .discovered-right;
           marked-right = w .shows .marked-right;
           walk-right = pop-walk (statesOf p) q v [] (B .walk) (w .shows .walk-right);
           spent-right = w .shows .spent-right;
@@ -264,14 +264,14 @@ module _ (g : Graph) where
         l = w .l;
         reached = finished false e w;
         shows = record {
-          met-right = w .shows .met-right;
+          discovered-right = w .shows .discovered-right;
           marked-right = w .shows .marked-right;
           walk-right = pop-walk [] q v [] (B .walk) (w .shows .walk-right);
           spent-right = w .shows .spent-right;
         };
       }
 
-      -- "After its last move, if the state pays, an inner search starts from it."
+      -- "After its last move, if the state pays, a nested search starts from it."
       pub record Starts : Type 0 where
         pub d : List ℕ
         pub k : List ℕ
@@ -279,22 +279,22 @@ module _ (g : Graph) where
         pub reached : Reached g (nested v q (frame v (g .successors v) ∷ []) d (v ∷ k) l)
         pub shows : Shows true B q [] d k l
 
-      pub starts-inner : g .accepting v ≡ true → Going g false s p (frame v [] ∷ q) B → Starts
+      pub starts-nested : g .accepting v ≡ true → Going g false s p (frame v [] ∷ q) B → Starts
       unfolding statesOf
-      starts-inner e w = record {
+      starts-nested e w = record {
         d = w .d;
         k = w .k;
         l = w .l;
         reached = finished true e w;
         shows = record {
-          met-right = w .shows .met-right;
+          discovered-right = w .shows .discovered-right;
           marked-right = w .shows .marked-right;
           walk-right = pop-walk (statesOf q) [] v [] (B .walk) (w .shows .walk-right);
           spent-right = w .shows .spent-right;
         };
       }
 
-      -- "when the inner search ends without success, the state leaves the open path"
+      -- "when the nested search ends without success, the state leaves the open path"
       pub returns-outer : (r : Finding) → Ends g true v q [] B r → Ends g false s p q B r
       unfolding step statesOf
       returns-outer (Round stem len) w = w
@@ -304,7 +304,7 @@ module _ (g : Graph) where
         l = w .l;
         reached = onward (nested v q [] (w .d) (w .k) (w .l)) (w .reached);
         shows = record {
-          met-right = w .shows .met-right;
+          discovered-right = w .shows .discovered-right;
           marked-right = w .shows .marked-right;
           walk-right = begins-pop (statesOf q) [] (B .walk) (w .shows .walk-right);
           spent-right = w .shows .spent-right;

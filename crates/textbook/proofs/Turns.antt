@@ -1,4 +1,4 @@
--- What holds at each turn of the loop over the moves of a state, and what a visit comes to by it. The outer and the inner search are shown at once. Assumes nothing.
+-- What holds at each turn of the loop over the edges of a state, and what a visit comes to by it. The outer and the nested search are shown at once. Assumes nothing.
 use mathlib.Core.Path.{_≡_, refl, sym, ap, subst, subst⁻¹, _∙_}
 use mathlib.Core.Bool.{Bool, true, false, cond}
 use mathlib.Core.List.{List, [], _∷_}
@@ -17,21 +17,21 @@ use Rattle.look.proofs.Counting.{up-more}
 use Rattle.look.proofs.Scans.{row-places}
 use Rattle.textbook.specs.declared.Finding.{Finding}
 use Rattle.textbook.specs.declared.Finding.the-variants.{Clear, Round}
-use Rattle.textbook.specs.Search.{isRound, missing, Board, boardOf, Kept, Reads, conf, under, Reached, Shows, Going, Stopped, Ends, Visits, Leads, Moves}
+use Rattle.textbook.specs.Search.{isRound, missing, Board, boardOf, Kept, Reads, conf, under, Reached, Shows, Going, Stopped, Ends, Visits, Leads, Explores}
 use Rattle.textbook.proofs.Sets.{missing-insert}
-use Rattle.textbook.proofs.Steps.{own, lookedAt, Entered, enter-room, entered, passes, enters, apart, closes, leaves-inner, leaves-outer, starts-inner, returns-outer}
+use Rattle.textbook.proofs.Steps.{own, lookedAt, Entered, enter-room, entered, passes, enters, apart, closes, leaves-nested, leaves-outer, starts-nested, returns-outer}
 
 -- ---- lengths stay, and no state leaves a set
 
 pub kept-self : (B : Board) → Kept B B
-kept-self B = record { met-size = refl; marked-size = refl; walk-size = refl; met-fewer = omega arith; marked-fewer = omega arith }
+kept-self B = record { discovered-size = refl; marked-size = refl; walk-size = refl; discovered-fewer = omega arith; marked-fewer = omega arith }
 
 kept-join : {B C D : Board} → Kept B C → Kept C D → Kept B D
 kept-join a b = record {
-  met-size = b .met-size ∙ a .met-size;
+  discovered-size = b .discovered-size ∙ a .discovered-size;
   marked-size = b .marked-size ∙ a .marked-size;
   walk-size = b .walk-size ∙ a .walk-size;
-  met-fewer = omega (arith, a .met-fewer, b .met-fewer);
+  discovered-fewer = omega (arith, a .discovered-fewer, b .discovered-fewer);
   marked-fewer = omega (arith, a .marked-fewer, b .marked-fewer);
 }
 
@@ -44,67 +44,67 @@ fewer-either : (b : Bool) (bs bs′ : List Bool) (v : ℕ) → bs′ ≡ cond b 
 fewer-either true bs bs′ v e = subst⁻¹ (λ (x : List Bool). missing x ≤ missing bs) e (missing-insert bs v)
 fewer-either false bs bs′ v e = omega (arith, ap missing e)
 
-pub kept-entered : {B C : Board} {v place : ℕ} (inner : Bool) → Entered inner v place B C → Kept B C
+pub kept-entered : {B C : Board} {v place : ℕ} (nesting : Bool) → Entered nesting v place B C → Kept B C
 kept-entered {B} {C} {v} {place} true y = record {
-  met-size = ap length (y .met-is);
+  discovered-size = ap length (y .discovered-is);
   marked-size = size-either true (B .marked) (C .marked) v (y .marked-is);
   walk-size = ap length (y .walk-is) ∙ length-set (B .walk) place v;
-  met-fewer = fewer-either false (B .met) (C .met) v (y .met-is);
+  discovered-fewer = fewer-either false (B .discovered) (C .discovered) v (y .discovered-is);
   marked-fewer = fewer-either true (B .marked) (C .marked) v (y .marked-is);
 }
 kept-entered {B} {C} {v} {place} false y = record {
-  met-size = size-either true (B .met) (C .met) v (y .met-is);
+  discovered-size = size-either true (B .discovered) (C .discovered) v (y .discovered-is);
   marked-size = ap length (y .marked-is);
   walk-size = ap length (y .walk-is) ∙ length-set (B .walk) place v;
-  met-fewer = fewer-either true (B .met) (C .met) v (y .met-is);
+  discovered-fewer = fewer-either true (B .discovered) (C .discovered) v (y .discovered-is);
   marked-fewer = fewer-either false (B .marked) (C .marked) v (y .marked-is);
 }
 
--- ---- a turn of the loop: the moves up to a place are taken
+-- ---- a turn of the loop: the edges up to a place are taken
 
-pub record Turns (targets : List ℕ) (P : Graph → Type 0) (inner : Bool) (v height place : ℕ) (B C : Board) (stop at : ℕ) : Type 0 where
+pub record Turns (targets : List ℕ) (P : Graph → Type 0) (nesting : Bool) (v height place : ℕ) (B C : Board) (stop at : ℕ) : Type 0 where
   pub kept : Kept B C
-  pub leads : Leads P inner v height place B (λ g s p q. Going g inner s p (frame v (entries (stop - at) at targets) ∷ q) C)
+  pub leads : Leads P nesting v height place B (λ g s p q. Going g nesting s p (frame v (entries (stop - at) at targets) ∷ q) C)
 
--- the same with the moves left under another name
-going : {g : Graph} {inner : Bool} {s : ℕ} {p q : List Frame} {v : ℕ} {B : Board} {ts us : List ℕ} → ts ≡ us → Going g inner s p (frame v ts ∷ q) B → Going g inner s p (frame v us ∷ q) B
-going {g} {inner} {s} {p} {q} {v} {B} e w = subst (λ (ys : List ℕ). Going g inner s p (frame v ys ∷ q) B) e w
+-- the same with the edges left under another name
+going : {g : Graph} {nesting : Bool} {s : ℕ} {p q : List Frame} {v : ℕ} {B : Board} {ts us : List ℕ} → ts ≡ us → Going g nesting s p (frame v ts ∷ q) B → Going g nesting s p (frame v us ∷ q) B
+going {g} {nesting} {s} {p} {q} {v} {B} e w = subst (λ (ys : List ℕ). Going g nesting s p (frame v ys ∷ q) B) e w
 
 -- the same with the board under another name
-pub renamed : {targets : List ℕ} {P : Graph → Type 0} {inner : Bool} {v height place : ℕ} {B : Board} {met marked met′ marked′ : List Bool} {walk walk′ : List ℕ} {spent spent′ stop at : ℕ}
-    → met′ ≡ met → marked′ ≡ marked → walk′ ≡ walk → spent′ ≡ spent → Turns targets P inner v height place B (boardOf met marked walk spent) stop at
-    → Turns targets P inner v height place B (boardOf met′ marked′ walk′ spent′) stop at
-renamed {targets} {P} {inner} {v} {height} {place} {B} {stop = stop} {at = at} e₁ e₂ e₃ e₄ w =
-    subst⁻¹ (λ (C : Board). Turns targets P inner v height place B C stop at) (λ i. boardOf (e₁ i) (e₂ i) (e₃ i) (e₄ i)) w
+pub renamed : {targets : List ℕ} {P : Graph → Type 0} {nesting : Bool} {v height place : ℕ} {B : Board} {discovered marked discovered′ marked′ : List Bool} {walk walk′ : List ℕ} {spent spent′ stop at : ℕ}
+    → discovered′ ≡ discovered → marked′ ≡ marked → walk′ ≡ walk → spent′ ≡ spent → Turns targets P nesting v height place B (boardOf discovered marked walk spent) stop at
+    → Turns targets P nesting v height place B (boardOf discovered′ marked′ walk′ spent′) stop at
+renamed {targets} {P} {nesting} {v} {height} {place} {B} {stop = stop} {at = at} e₁ e₂ e₃ e₄ w =
+    subst⁻¹ (λ (C : Board). Turns targets P nesting v height place B C stop at) (λ i. boardOf (e₁ i) (e₂ i) (e₃ i) (e₄ i)) w
 
 -- where a round was found, everything stops, whatever path is worked on; where none was, the search goes on
-round-stays : (r : Finding) → isRound r ≡ true → (g : Graph) (inner : Bool) (s : ℕ) (p q q′ : List Frame) (B : Board) → Ends g inner s p q B r → Ends g inner s p q′ B r
-round-stays Clear e g inner s p q q′ B w = absurd (contra e refl)
-round-stays (Round stem len) e g inner s p q q′ B w = w
+round-stays : (r : Finding) → isRound r ≡ true → (g : Graph) (nesting : Bool) (s : ℕ) (p q q′ : List Frame) (B : Board) → Ends g nesting s p q B r → Ends g nesting s p q′ B r
+round-stays Clear e g nesting s p q q′ B w = absurd (contra e refl)
+round-stays (Round stem len) e g nesting s p q q′ B w = w
 
-clear-goes : (r : Finding) → isRound r ≡ false → (g : Graph) (inner : Bool) (s : ℕ) (p q : List Frame) (B : Board) → Ends g inner s p q B r → Going g inner s p q B
-clear-goes Clear e g inner s p q B w = w
-clear-goes (Round stem len) e g inner s p q B w = absurd (contra refl e)
+clear-goes : (r : Finding) → isRound r ≡ false → (g : Graph) (nesting : Bool) (s : ℕ) (p q : List Frame) (B : Board) → Ends g nesting s p q B r → Going g nesting s p q B
+clear-goes Clear e g nesting s p q B w = w
+clear-goes (Round stem len) e g nesting s p q B w = absurd (contra refl e)
 
--- the inner search looks whether the target is on the open path: it is not
+-- the nested search looks whether the target is on the open path: it is not
 abbrev pub OffPath : Bool → ℕ → ℕ → Board → Type 0
-OffPath inner height t C = inner ≡ true → height ≤ placeOf t (entries height 0 (C .walk))
+OffPath nesting height t C = nesting ≡ true → height ≤ placeOf t (entries height 0 (C .walk))
 
-module _ {targets starts : List ℕ} {P : Graph → Type 0} (reads : (g : Graph) → P g → Reads targets starts g) {inner : Bool} {v height place : ℕ} where
-  pub begins : {B : Board} (r : Row) → Spans starts v r → Turns targets P inner v height place B B (r .stop) (r .from)
+module _ {targets starts : List ℕ} {P : Graph → Type 0} (reads : (g : Graph) → P g → Reads targets starts g) {nesting : Bool} {v height place : ℕ} where
+  pub begins : {B : Board} (r : Row) → Spans starts v r → Turns targets P nesting v height place B B (r .stop) (r .from)
   begins {B} r z = record {
     kept = kept-self B;
     leads = λ g y s p q d k l i h high topped. going (reads g y .rows v ∙ row-places targets starts v r z) (record { d = d; k = k; l = l; reached = i; shows = h });
   }
 
-  pub ends : {B C : Board} (stop at : ℕ) → stop ≤ at → Turns targets P inner v height place B C stop at → Moves P inner v height place B C Clear
+  pub ends : {B C : Board} (stop at : ℕ) → stop ≤ at → Turns targets P nesting v height place B C stop at → Explores P nesting v height place B C Clear
   ends stop at h w = record {
     kept = w .kept;
     leads = λ g y s p q d k l r i high topped. going (entries-none at stop targets h) (w .leads g y s p q d k l r i high topped);
   }
 
-  -- a look at the move at a place
-  module _ {B C : Board} {stop at : ℕ} (w : Turns targets P inner v height place B C stop at) (more : at < stop) {t : ℕ} (target : t ≡ getD targets at 0)
+  -- a look at the edge at a place
+  module _ {B C : Board} {stop at : ℕ} (w : Turns targets P nesting v height place B C stop at) (more : at < stop) {t : ℕ} (target : t ≡ getD targets at 0)
       {spent′ : ℕ} (raises : spent′ ≡ up (C .spent)) where
     abbrev E : Board
     E = lookedAt C spent′
@@ -112,16 +112,16 @@ module _ {targets starts : List ℕ} {P : Graph → Type 0} (reads : (g : Graph)
     abbrev rest : List ℕ
     rest = entries (stop - (at + 1)) (at + 1) targets
 
-    looks : Leads P inner v height place B (λ g s p q. Going g inner s p (frame v (t ∷ rest) ∷ q) C)
+    looks : Leads P nesting v height place B (λ g s p q. Going g nesting s p (frame v (t ∷ rest) ∷ q) C)
     looks g y s p q d k l r h high topped =
         going (entries-next at stop targets more ∙ ap (λ (x : ℕ). x ∷ rest) (sym target)) (w .leads g y s p q d k l r h high topped)
 
     kept-here : Kept B E
     kept-here = record {
-      met-size = w .kept .met-size;
+      discovered-size = w .kept .discovered-size;
       marked-size = w .kept .marked-size;
       walk-size = w .kept .walk-size;
-      met-fewer = w .kept .met-fewer;
+      discovered-fewer = w .kept .discovered-fewer;
       marked-fewer = w .kept .marked-fewer;
     }
 
@@ -131,103 +131,103 @@ module _ {targets starts : List ℕ} {P : Graph → Type 0} (reads : (g : Graph)
     off-path g f s p q d k l false o high r h e = absurd (contra e refl)
 
     -- a round is found
-    pub closed : inner ≡ true → (stem : ℕ) → stem ≡ placeOf t (entries height 0 (C .walk)) → stem < height → Moves P inner v height place B E (Round stem place)
+    pub closed : nesting ≡ true → (stem : ℕ) → stem ≡ placeOf t (entries height 0 (C .walk)) → stem < height → Explores P nesting v height place B E (Round stem place)
     closed is stem e low = record {
       kept = kept-here;
-      leads = λ g y s p q d k l r h high topped. let z = looks g y s p q d k l r h high topped in by-search g (reads g y) s p q z inner is high topped (z .reached) (z .shows);
+      leads = λ g y s p q d k l r h high topped. let z = looks g y s p q d k l r h high topped in by-search g (reads g y) s p q z nesting is high topped (z .reached) (z .shows);
     }
       where
-        by-search : (g : Graph) → Reads targets starts g → (s : ℕ) (p q : List Frame) (z : Going g inner s p (frame v (t ∷ rest) ∷ q) C) (b : Bool) → b ≡ true → (b ≡ true → height ≡ suc (length p))
+        by-search : (g : Graph) → Reads targets starts g → (s : ℕ) (p q : List Frame) (z : Going g nesting s p (frame v (t ∷ rest) ∷ q) C) (b : Bool) → b ≡ true → (b ≡ true → height ≡ suc (length p))
             → place ≡ length (under b p) + suc (length q) → Reached g (conf b s p (frame v (t ∷ rest) ∷ q) (z .d) (z .k) (z .l))
             → Shows b C p (frame v (t ∷ rest) ∷ q) (z .d) (z .k) (z .l) → Stopped g E stem place
         by-search g f s p q z true i high topped r h = closes g f C s p v t rest q (z .d) (z .k) (z .l) spent′ raises height stem (high refl) e r h place topped low
         by-search g f s p q z false i high topped r h = absurd (contra i refl)
 
-    module _ (o : OffPath inner height t C) where
+    module _ (o : OffPath nesting height t C) where
       -- the target is in the set
-      pub passed : getD (own inner C) t true ≡ true → Turns targets P inner v height place B E stop (at + 1)
+      pub passed : getD (own nesting C) t true ≡ true → Turns targets P nesting v height place B E stop (at + 1)
       passed e = record {
         kept = kept-here;
         leads = λ g y s p q d k l r h high topped.
             let z = looks g y s p q d k l r h high topped in
-            passes g (reads g y) C s p v t rest q (z .d) (z .k) (z .l) spent′ raises inner (off-path g (reads g y) s p q (z .d) (z .k) (z .l) inner o high (z .reached) (z .shows)) (z .reached) (z .shows) e;
+            passes g (reads g y) C s p v t rest q (z .d) (z .k) (z .l) spent′ raises nesting (off-path g (reads g y) s p q (z .d) (z .k) (z .l) nesting o high (z .reached) (z .shows)) (z .reached) (z .shows) e;
       }
 
       -- it was not, and was visited
-      module _ (n : getD (own inner C) t true ≡ false) {F : Board} {r : Finding} (visited : Visits P inner t height place E F r) where
-        leads-on : Leads P inner v height place B (λ g s p q. Ends g inner s p (frame v rest ∷ q) F r)
+      module _ (n : getD (own nesting C) t true ≡ false) {F : Board} {r : Finding} (visited : Visits P nesting t height place E F r) where
+        leads-on : Leads P nesting v height place B (λ g s p q. Ends g nesting s p (frame v rest ∷ q) F r)
         leads-on g y s p q d k l i h high topped =
             let z = looks g y s p q d k l i h high topped in
-            let x = enters g (reads g y) C s p v t rest q (z .d) (z .k) (z .l) spent′ raises inner (off-path g (reads g y) s p q (z .d) (z .k) (z .l) inner o high (z .reached) (z .shows)) (z .reached) (z .shows) n in
+            let x = enters g (reads g y) C s p v t rest q (z .d) (z .k) (z .l) spent′ raises nesting (off-path g (reads g y) s p q (z .d) (z .k) (z .l) nesting o high (z .reached) (z .shows)) (z .reached) (z .shows) n in
             visited .leads g y s p (frame v rest ∷ q) (z .d) (z .k) ((v, t) ∷ z .l) (x .0) (x .1) high topped
 
-        pub went-on : isRound r ≡ false → Turns targets P inner v height place B F stop (at + 1)
+        pub went-on : isRound r ≡ false → Turns targets P nesting v height place B F stop (at + 1)
         went-on e = record {
           kept = kept-join kept-here (visited .kept);
-          leads = λ g y s p q d k l i h high topped. clear-goes r e g inner s p (frame v rest ∷ q) F (leads-on g y s p q d k l i h high topped);
+          leads = λ g y s p q d k l i h high topped. clear-goes r e g nesting s p (frame v rest ∷ q) F (leads-on g y s p q d k l i h high topped);
         }
 
-        pub stopped : isRound r ≡ true → Moves P inner v height place B F r
+        pub stopped : isRound r ≡ true → Explores P nesting v height place B F r
         stopped e = record {
           kept = kept-join kept-here (visited .kept);
-          leads = λ g y s p q d k l i h high topped. round-stays r e g inner s p (frame v rest ∷ q) (frame v [] ∷ q) F (leads-on g y s p q d k l i h high topped);
+          leads = λ g y s p q d k l i h high topped. round-stays r e g nesting s p (frame v rest ∷ q) (frame v [] ∷ q) F (leads-on g y s p q d k l i h high topped);
         }
 
 -- ---- a visit
 
-module _ {targets starts : List ℕ} {P : Graph → Type 0} (reads : (g : Graph) → P g → Reads targets starts g) {inner : Bool} {v height place : ℕ} {B C : Board}
-    (y : Entered inner v place B C) (own-size : length (own inner B) ≡ 512) (walk-size : length (B .walk) ≡ 512) {place′ : ℕ} (higher : place′ ≡ up place)
-    {F : Board} {r : Finding} (moved : Moves P inner v height place′ C F r) where
+module _ {targets starts : List ℕ} {P : Graph → Type 0} (reads : (g : Graph) → P g → Reads targets starts g) {nesting : Bool} {v height place : ℕ} {B C : Board}
+    (y : Entered nesting v place B C) (own-size : length (own nesting B) ≡ 512) (walk-size : length (B .walk) ≡ 512) {place′ : ℕ} (higher : place′ ≡ up place)
+    {F : Board} {r : Finding} (moved : Explores P nesting v height place′ C F r) where
   kept-moved : Kept B F
-  kept-moved = kept-join (kept-entered inner y) (moved .kept)
+  kept-moved = kept-join (kept-entered nesting y) (moved .kept)
 
   module _ (g : Graph) (f : P g) (s : ℕ) (p q : List Frame) (d k : List ℕ) (l : List Edge)
-      (i : Reached g (conf inner s p (frame v (g .successors v) ∷ q) (cond inner d (v ∷ d)) (cond inner (v ∷ k) k) l)) (h : Shows inner B p q d k l)
-      (high : inner ≡ true → height ≡ suc (length p)) (topped : place ≡ length (under inner p) + length q) where
+      (i : Reached g (conf nesting s p (frame v (g .successors v) ∷ q) (cond nesting d (v ∷ d)) (cond nesting (v ∷ k) k) l)) (h : Shows nesting B p q d k l)
+      (high : nesting ≡ true → height ≡ suc (length p)) (topped : place ≡ length (under nesting p) + length q) where
     next-place : place′ ≡ suc place
-    next-place = higher ∙ up-more place (omega (arith, enter-room g (reads g f) s v place p q (cond inner d (v ∷ d)) (cond inner (v ∷ k) k) l inner (g .successors v) i topped))
+    next-place = higher ∙ up-more place (omega (arith, enter-room g (reads g f) s v place p q (cond nesting d (v ∷ d)) (cond nesting (v ∷ k) k) l nesting (g .successors v) i topped))
 
-    moved-on : Ends g inner s p (frame v [] ∷ q) F r
-    moved-on = moved .leads g f s p q (cond inner d (v ∷ d)) (cond inner (v ∷ k) k) l i
-        (entered g (reads g f) s v place p q d k l walk-size inner y own-size i h topped) high (omega (arith, next-place))
+    moved-on : Ends g nesting s p (frame v [] ∷ q) F r
+    moved-on = moved .leads g f s p q (cond nesting d (v ∷ d)) (cond nesting (v ∷ k) k) l i
+        (entered g (reads g f) s v place p q d k l walk-size nesting y own-size i h topped) high (omega (arith, next-place))
 
   -- after which v leaves the path, unless a round was found
-  pub visits : ((g : Graph) → P g → (s : ℕ) (p q : List Frame) → Going g inner s p (frame v [] ∷ q) F → Going g inner s p q F) → Visits P inner v height place B F r
+  pub visits : ((g : Graph) → P g → (s : ℕ) (p q : List Frame) → Going g nesting s p (frame v [] ∷ q) F → Going g nesting s p q F) → Visits P nesting v height place B F r
   visits leaves = record { kept = kept-moved; leads = λ g f s p q d k l i h high topped. by-result r g f s p q (moved-on g f s p q d k l i h high topped) }
     where
-      by-result : (x : Finding) (g : Graph) → P g → (s : ℕ) (p q : List Frame) → Ends g inner s p (frame v [] ∷ q) F x → Ends g inner s p q F x
+      by-result : (x : Finding) (g : Graph) → P g → (s : ℕ) (p q : List Frame) → Ends g nesting s p (frame v [] ∷ q) F x → Ends g nesting s p q F x
       by-result Clear g f s p q w = leaves g f s p q w
       by-result (Round stem len) g f s p q w = w
 
 module _ {targets starts : List ℕ} {P : Graph → Type 0} (reads : (g : Graph) → P g → Reads targets starts g) {v height place : ℕ} {B C : Board} where
-  -- the inner search
+  -- the nested search
   module _ (y : Entered true v place B C) (marked-size : length (B .marked) ≡ 512) (walk-size : length (B .walk) ≡ 512) {place′ : ℕ} (higher : place′ ≡ up place)
-      {F : Board} {r : Finding} (moved : Moves P true v height place′ C F r) where
-    pub visits-inner : Visits P true v height place B F r
-    visits-inner = visits reads y marked-size walk-size higher moved (λ g f s p q w. leaves-inner g (reads g f) F s v p q w)
+      {F : Board} {r : Finding} (moved : Explores P true v height place′ C F r) where
+    pub visits-nested : Visits P true v height place B F r
+    visits-nested = visits reads y marked-size walk-size higher moved (λ g f s p q w. leaves-nested g (reads g f) F s v p q w)
 
   -- the outer search
-  module _ (y : Entered false v place B C) (met-size : length (B .met) ≡ 512) (walk-size : length (B .walk) ≡ 512) {place′ : ℕ} (higher : place′ ≡ up place)
-      {F : Board} {r : Finding} (moved : Moves P false v height place′ C F r) where
+  module _ (y : Entered false v place B C) (discovered-size : length (B .discovered) ≡ 512) (walk-size : length (B .walk) ≡ 512) {place′ : ℕ} (higher : place′ ≡ up place)
+      {F : Board} {r : Finding} (moved : Explores P false v height place′ C F r) where
     -- v does not pay
     pub visits-outer : ((g : Graph) → P g → g .accepting v ≡ false) → Visits P false v height place B F r
-    visits-outer pays = visits reads y met-size walk-size higher moved (λ g f s p q w. leaves-outer g (reads g f) F s v p q (pays g f) w)
+    visits-outer pays = visits reads y discovered-size walk-size higher moved (λ g f s p q w. leaves-outer g (reads g f) F s v p q (pays g f) w)
 
     -- a round was found
     pub visits-round : isRound r ≡ true → Visits P false v height place B F r
     visits-round e = record {
-      kept = kept-moved reads y met-size walk-size higher moved;
-      leads = λ g f s p q d k l i h high topped. round-stays r e g false s p (frame v [] ∷ q) q F (moved-on reads y met-size walk-size higher moved g f s p q d k l i h high topped);
+      kept = kept-moved reads y discovered-size walk-size higher moved;
+      leads = λ g f s p q d k l i h high topped. round-stays r e g false s p (frame v [] ∷ q) q F (moved-on reads y discovered-size walk-size higher moved g f s p q d k l i h high topped);
     }
 
-    -- v pays, and an inner search was made from it
+    -- v pays, and a nested search was made from it
     pub visits-paying : isRound r ≡ false → ((g : Graph) → P g → g .accepting v ≡ true) → {G : Board} {r′ : Finding} → Visits (Reads targets starts) true v place′ place F G r′
         → Visits P false v height place B G r′
     visits-paying e pays {G} {r′} nested = record {
-      kept = kept-join (kept-moved reads y met-size walk-size higher moved) (nested .kept);
+      kept = kept-join (kept-moved reads y discovered-size walk-size higher moved) (nested .kept);
       leads = λ g f s p q d k l i h high topped.
-          let x = starts-inner g (reads g f) F s v p q (pays g f) (clear-goes r e g false s p (frame v [] ∷ q) F (moved-on reads y met-size walk-size higher moved g f s p q d k l i h high topped)) in
+          let x = starts-nested g (reads g f) F s v p q (pays g f) (clear-goes r e g false s p (frame v [] ∷ q) F (moved-on reads y discovered-size walk-size higher moved g f s p q d k l i h high topped)) in
           returns-outer g (reads g f) G s v p q r′
           (nested .leads g (reads g f) v q [] (x .d) (x .k) (x .l) (x .reached) (x .shows)
-          (λ _. omega (arith, next-place reads y met-size walk-size higher moved g f s p q d k l i h high topped)) (omega arith));
+          (λ _. omega (arith, next-place reads y discovered-size walk-size higher moved g f s p q d k l i h high topped)) (omega arith));
     }

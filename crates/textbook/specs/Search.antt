@@ -1,5 +1,5 @@
 -- What the functions of the textbook search promise: when its sets, its walk and its count of looks show where the plain search stands, and what a visit, and going through
--- the moves of a state, then come to. The outer and the inner search are said at once. Assumes nothing.
+-- the edges of a state, then come to. The outer and the nested search are said at once. Assumes nothing.
 use Prim.Native.Nat.{ℕ, suc, _+_, _≤_, _<_}
 use mathlib.Core.Path.{_≡_}
 use mathlib.Core.Bool.{Bool, true, false, cond}
@@ -31,16 +31,16 @@ lengthIn (Round stem len) = len
 -- ---- the board: what the search writes on
 
 pub record Board : Type 0 where
-  -- the sets of the states that are met, and marked
-  pub met : List Bool
+  -- the sets of the states that are discovered, and marked
+  pub discovered : List Bool
   pub marked : List Bool
-  -- the open path, and behind it the path of the inner search
+  -- the open path, and behind it the path of the nested search
   pub walk : List ℕ
   -- the looks
   pub spent : ℕ
 
 abbrev pub boardOf : List Bool → List Bool → List ℕ → ℕ → Board
-boardOf met marked walk spent = record { met = met; marked = marked; walk = walk; spent = spent }
+boardOf discovered marked walk spent = record { discovered = discovered; marked = marked; walk = walk; spent = spent }
 
 -- lengths that the arrays have by their types
 pub record Sized (marked : List Bool) (walk : List ℕ) : Type 0 where
@@ -54,10 +54,10 @@ missing (b ∷ bs) = cond b 0 1 + missing bs
 
 -- for any contents of the arrays: their lengths stay, and no state leaves a set
 pub record Kept (B B′ : Board) : Type 0 where
-  pub met-size : length (B′ .met) ≡ length (B .met)
+  pub discovered-size : length (B′ .discovered) ≡ length (B .discovered)
   pub marked-size : length (B′ .marked) ≡ length (B .marked)
   pub walk-size : length (B′ .walk) ≡ length (B .walk)
-  pub met-fewer : missing (B′ .met) ≤ missing (B .met)
+  pub discovered-fewer : missing (B′ .discovered) ≤ missing (B .discovered)
   pub marked-fewer : missing (B′ .marked) ≤ missing (B .marked)
 
 -- ---- the graph: any one that the arrays show
@@ -72,7 +72,7 @@ pub record ReadsAll (targets starts words : List ℕ) (g : Graph) : Type 0 where
   pub reads : Reads targets starts g
   pub acceptance : (v : ℕ) → g .accepting v ≡ accepts words v
 
--- ---- where the plain search stands, in the outer and in the inner search alike. q: the path that is worked on. In the inner search, s: the state from which it was started;
+-- ---- where the plain search stands, in the outer and in the nested search alike. q: the path that is worked on. In the nested search, s: the state from which it was started;
 -- p: the open path below s.
 
 abbrev pub conf : Bool → ℕ → List Frame → List Frame → List ℕ → List ℕ → List Edge → Config
@@ -93,21 +93,21 @@ abbrev pub Members : List Bool → List ℕ → Type 0
 Members states xs = (x : ℕ) → x < 512 → getD states x true ≡ elem x xs
 
 -- the board shows it
-pub record Shows (inner : Bool) (B : Board) (p q : List Frame) (d k : List ℕ) (l : List Edge) : Type 0 where
-  pub met-right : Members (B .met) d
+pub record Shows (nesting : Bool) (B : Board) (p q : List Frame) (d k : List ℕ) (l : List Edge) : Type 0 where
+  pub discovered-right : Members (B .discovered) d
   pub marked-right : Members (B .marked) k
-  pub walk-right : Begins (statesOf (under inner p) ++ statesOf q) (B .walk)
+  pub walk-right : Begins (statesOf (under nesting p) ++ statesOf q) (B .walk)
   pub spent-right : B .spent ≡ length l
 
 -- ---- how a call ends
 
 -- no round was found: the plain search comes to where q is the path that is worked on, and the board shows it
-pub record Going (g : Graph) (inner : Bool) (s : ℕ) (p q : List Frame) (B : Board) : Type 0 where
+pub record Going (g : Graph) (nesting : Bool) (s : ℕ) (p q : List Frame) (B : Board) : Type 0 where
   pub d : List ℕ
   pub k : List ℕ
   pub l : List Edge
-  pub reached : Reached g (conf inner s p q d k l)
-  pub shows : Shows inner B p q d k l
+  pub reached : Reached g (conf nesting s p q d k l)
+  pub shows : Shows nesting B p q d k l
 
 -- a round was found: the plain search comes to it, its walk stands on the board, and everything stops
 pub record Stopped (g : Graph) (B : Board) (stem len : ℕ) : Type 0 where
@@ -124,26 +124,26 @@ pub record Stopped (g : Graph) (B : Board) (stem len : ℕ) : Type 0 where
   pub spent-is : B .spent ≡ length l
 
 abbrev pub Ends : Graph → Bool → ℕ → List Frame → List Frame → Board → Finding → Type 0
-Ends g inner s p q B Clear = Going g inner s p q B
-Ends g inner s p q B (Round stem len) = Stopped g B stem len
+Ends g nesting s p q B Clear = Going g nesting s p q B
+Ends g nesting s p q B (Round stem len) = Stopped g B stem len
 
 -- A VISIT of v, where the plain search has just put v on its path and the board shows the rest: it comes to where v has left the path again, or to a round. height: in the
--- inner search, how many states the open path has; place: where v is put on the walk.
-pub record Visits (P : Graph → Type 0) (inner : Bool) (v height place : ℕ) (B B′ : Board) (r : Finding) : Type 0 where
+-- nested search, how many states the open path has; place: where v is put on the walk.
+pub record Visits (P : Graph → Type 0) (nesting : Bool) (v height place : ℕ) (B B′ : Board) (r : Finding) : Type 0 where
   pub kept : Kept B B′
   pub leads : (g : Graph) → P g → (s : ℕ) (p q : List Frame) (d k : List ℕ) (l : List Edge)
-      → Reached g (conf inner s p (frame v (g .successors v) ∷ q) (cond inner d (v ∷ d)) (cond inner (v ∷ k) k) l)
-      → Shows inner B p q d k l → (inner ≡ true → height ≡ suc (length p)) → place ≡ length (under inner p) + length q
-      → Ends g inner s p q B′ r
+      → Reached g (conf nesting s p (frame v (g .successors v) ∷ q) (cond nesting d (v ∷ d)) (cond nesting (v ∷ k) k) l)
+      → Shows nesting B p q d k l → (nesting ≡ true → height ≡ suc (length p)) → place ≡ length (under nesting p) + length q
+      → Ends g nesting s p q B′ r
 
--- from where v is the newest state of the path, none of its moves is taken, and the board shows it, to a goal; place: behind v on the walk
+-- from where v is the newest state of the path, none of its edges is taken, and the board shows it, to a goal; place: behind v on the walk
 abbrev pub Leads : (Graph → Type 0) → Bool → ℕ → ℕ → ℕ → Board → (Graph → ℕ → List Frame → List Frame → Type 0) → Type 0
-Leads P inner v height place B Goal = (g : Graph) → P g → (s : ℕ) (p q : List Frame) (d k : List ℕ) (l : List Edge)
-    → Reached g (conf inner s p (frame v (g .successors v) ∷ q) d k l)
-    → Shows inner B p (frame v (g .successors v) ∷ q) d k l → (inner ≡ true → height ≡ suc (length p)) → place ≡ length (under inner p) + suc (length q)
+Leads P nesting v height place B Goal = (g : Graph) → P g → (s : ℕ) (p q : List Frame) (d k : List ℕ) (l : List Edge)
+    → Reached g (conf nesting s p (frame v (g .successors v) ∷ q) d k l)
+    → Shows nesting B p (frame v (g .successors v) ∷ q) d k l → (nesting ≡ true → height ≡ suc (length p)) → place ≡ length (under nesting p) + suc (length q)
     → Goal g s p q
 
 -- THE MOVES of v: it comes to where they are all taken, or to a round.
-pub record Moves (P : Graph → Type 0) (inner : Bool) (v height place : ℕ) (B B′ : Board) (r : Finding) : Type 0 where
+pub record Explores (P : Graph → Type 0) (nesting : Bool) (v height place : ℕ) (B B′ : Board) (r : Finding) : Type 0 where
   pub kept : Kept B B′
-  pub leads : Leads P inner v height place B (λ g s p q. Ends g inner s p (frame v [] ∷ q) B′ r)
+  pub leads : Leads P nesting v height place B (λ g s p q. Ends g nesting s p (frame v [] ∷ q) B′ r)

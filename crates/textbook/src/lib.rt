@@ -1,5 +1,5 @@
-// The nested depth-first search as it is taught, for a table without history. One function visits a state, another goes through its moves, and each calls the other.
-// The inner search is made in the same manner. Every function is safe, and ends, for any contents of the arrays.
+// Nested depth-first search as it is taught, for a table without history. One function visits a state, the other explores its edges (its moves), and each calls the other.
+// The nested (inner) search is made in the same manner. Every function is safe, and ends, for any contents of the arrays.
 use rows::wide;
 use table::Position;
 use table::Trial;
@@ -10,7 +10,7 @@ ghost use mathlib.Core.List.{List};
 ghost use lib.ListN.{length, getD, set};
 ghost use Rattle.rows.specs.Rows.{Tabled};
 ghost use Rattle.verdict.specs.Answers.{LoadAnswered};
-ghost use Rattle.textbook.specs.Search.{isRound, stemIn, lengthIn, boardOf, Sized, Reads, ReadsAll, Visits, Moves};
+ghost use Rattle.textbook.specs.Search.{isRound, stemIn, lengthIn, boardOf, Sized, Reads, ReadsAll, Visits, Explores};
 
 // What a search has come to: no round, or a round. The walk then has so many states, of which so many are the stem.
 enum Finding {
@@ -66,57 +66,77 @@ fn insert(states: &mut [bool; 512], v: u16)
     }
 }
 
-// THE OUTER SEARCH visits a state: it is met, and its moves are gone through; after the last of them, if it pays, an inner search starts from it. On the open path it has
-// that place.
+// THE OUTER SEARCH visits a state: it is discovered (met), and its edges are explored; after the last of them, if it is accepting (pays), a nested search starts from it.
+// On the open path it has that place.
 fn visit(
     targets: &[u16; 2048],
     starts: &[u16; 513],
     words: &[u64; 8],
-    met: &mut [bool; 512],
+    discovered: &mut [bool; 512],
     marked: &mut [bool; 512],
     walk: &mut [u16; 512],
     spent: &mut u16,
     v: u16,
     place: u16,
 ) -> Finding
-    requires { ⌜ Tabled (now targets) (now starts) × (length (now met) ≡ 512) × Sized (now marked) (now walk) ⌝ }
-    ensures { λ r. ⌜ Visits (ReadsAll (now (targets .entry)) (now (starts .entry)) (now (words .entry))) false v 0 place (boardOf (now (met .entry)) (now (marked .entry)) (now (walk .entry)) (now (spent .entry))) (boardOf (now (met .exit)) (now (marked .exit)) (now (walk .exit)) (now (spent .exit))) r ⌝ }
+    requires { ⌜ Tabled (now targets) (now starts) × (length (now discovered) ≡ 512) × Sized (now marked) (now walk) ⌝ }
+    ensures { λ r. ⌜ Visits (ReadsAll (now (targets .entry)) (now (starts .entry)) (now (words .entry))) false v 0 place (boardOf (now (discovered .entry)) (now (marked .entry)) (now (walk .entry)) (now (spent .entry))) (boardOf (now (discovered .exit)) (now (marked .exit)) (now (walk .exit)) (now (spent .exit))) r ⌝ }
 {
-    insert(met, v);
+    insert(discovered, v);
     look::put(walk, place, v);
     let height = look::up(place);
-    let r = moves(targets, starts, words, met, marked, walk, spent, v, height);
+    let r = explore(
+        targets,
+        starts,
+        words,
+        discovered,
+        marked,
+        walk,
+        spent,
+        v,
+        height,
+    );
     if is_round(r) {
         return r;
     }
     if marks::accepts_in(words, wide(v)) {
-        return inner_visit(targets, starts, marked, walk, spent, v, height, place);
+        return nested_visit(targets, starts, marked, walk, spent, v, height, place);
     }
     r
 }
 
-// Its moves are taken oldest first. If the target is not met, it is visited.
-fn moves(
+// Its edges are taken oldest first, each with one look. A target that is not discovered is visited.
+fn explore(
     targets: &[u16; 2048],
     starts: &[u16; 513],
     words: &[u64; 8],
-    met: &mut [bool; 512],
+    discovered: &mut [bool; 512],
     marked: &mut [bool; 512],
     walk: &mut [u16; 512],
     spent: &mut u16,
     v: u16,
     place: u16,
 ) -> Finding
-    requires { ⌜ Tabled (now targets) (now starts) × (length (now met) ≡ 512) × Sized (now marked) (now walk) ⌝ }
-    ensures { λ r. ⌜ Moves (ReadsAll (now (targets .entry)) (now (starts .entry)) (now (words .entry))) false v 0 place (boardOf (now (met .entry)) (now (marked .entry)) (now (walk .entry)) (now (spent .entry))) (boardOf (now (met .exit)) (now (marked .exit)) (now (walk .exit)) (now (spent .exit))) r ⌝ }
+    requires { ⌜ Tabled (now targets) (now starts) × (length (now discovered) ≡ 512) × Sized (now marked) (now walk) ⌝ }
+    ensures { λ r. ⌜ Explores (ReadsAll (now (targets .entry)) (now (starts .entry)) (now (words .entry))) false v 0 place (boardOf (now (discovered .entry)) (now (marked .entry)) (now (walk .entry)) (now (spent .entry))) (boardOf (now (discovered .exit)) (now (marked .exit)) (now (walk .exit)) (now (spent .exit))) r ⌝ }
 {
     let row = look::row_of(starts, v);
     let mut at = row.from;
     let stop = row.stop;
     while at < stop {
         let t = look::look(targets, spent, at);
-        if !contains(met, t) {
-            let r = visit(targets, starts, words, met, marked, walk, spent, t, place);
+        if !contains(discovered, t) {
+            let r = visit(
+                targets,
+                starts,
+                words,
+                discovered,
+                marked,
+                walk,
+                spent,
+                t,
+                place,
+            );
             if is_round(r) {
                 return r;
             }
@@ -126,9 +146,9 @@ fn moves(
     Finding::Clear
 }
 
-// THE INNER SEARCH visits a state: it is marked, and its moves are gone through. The open path is so many states high; behind it the walk goes on with the states of the
-// inner search, of which this one has that place.
-fn inner_visit(
+// THE NESTED SEARCH visits a state: it is marked, and its edges are explored. The open path is so many states high; behind it the walk goes on with the path of the nested
+// search, on which the state has that place.
+fn nested_visit(
     targets: &[u16; 2048],
     starts: &[u16; 513],
     marked: &mut [bool; 512],
@@ -139,11 +159,11 @@ fn inner_visit(
     place: u16,
 ) -> Finding
     requires { ⌜ Tabled (now targets) (now starts) × Sized (now marked) (now walk) ⌝ }
-    ensures { λ r. ⌜ ((met : List Bool) → Visits (Reads (now (targets .entry)) (now (starts .entry))) true v height place (boardOf met (now (marked .entry)) (now (walk .entry)) (now (spent .entry))) (boardOf met (now (marked .exit)) (now (walk .exit)) (now (spent .exit))) r) ⌝ }
+    ensures { λ r. ⌜ ((discovered : List Bool) → Visits (Reads (now (targets .entry)) (now (starts .entry))) true v height place (boardOf discovered (now (marked .entry)) (now (walk .entry)) (now (spent .entry))) (boardOf discovered (now (marked .exit)) (now (walk .exit)) (now (spent .exit))) r) ⌝ }
 {
     insert(marked, v);
     look::put(walk, place, v);
-    inner_moves(
+    nested_explore(
         targets,
         starts,
         marked,
@@ -155,8 +175,8 @@ fn inner_visit(
     )
 }
 
-// Its moves are taken oldest first. If the target is on the open path, a round is found; if it is unmarked, it is visited.
-fn inner_moves(
+// Its edges are taken oldest first, each with one look. A target on the open path closes a round, and everything stops; one that is unmarked is visited.
+fn nested_explore(
     targets: &[u16; 2048],
     starts: &[u16; 513],
     marked: &mut [bool; 512],
@@ -167,7 +187,7 @@ fn inner_moves(
     place: u16,
 ) -> Finding
     requires { ⌜ Tabled (now targets) (now starts) × Sized (now marked) (now walk) ⌝ }
-    ensures { λ r. ⌜ ((met : List Bool) → Moves (Reads (now (targets .entry)) (now (starts .entry))) true v height place (boardOf met (now (marked .entry)) (now (walk .entry)) (now (spent .entry))) (boardOf met (now (marked .exit)) (now (walk .exit)) (now (spent .exit))) r) ⌝ }
+    ensures { λ r. ⌜ ((discovered : List Bool) → Explores (Reads (now (targets .entry)) (now (starts .entry))) true v height place (boardOf discovered (now (marked .entry)) (now (walk .entry)) (now (spent .entry))) (boardOf discovered (now (marked .exit)) (now (walk .exit)) (now (spent .exit))) r) ⌝ }
 {
     let row = look::row_of(starts, v);
     let mut at = row.from;
@@ -182,7 +202,7 @@ fn inner_moves(
             };
         }
         if !contains(marked, t) {
-            let r = inner_visit(targets, starts, marked, walk, spent, t, height, place);
+            let r = nested_visit(targets, starts, marked, walk, spent, t, height, place);
             if is_round(r) {
                 return r;
             }
@@ -211,7 +231,7 @@ pub fn search(size: u16, start: u16, words: [u64; 8], numbers: &[u16], lent: &mu
     if let Trial::Refused(n) = trial {
         return verdict::refused(n, Position::Alone);
     }
-    let mut met: [bool; 512] = [false; 512];
+    let mut discovered: [bool; 512] = [false; 512];
     let mut marked: [bool; 512] = [false; 512];
     let mut walk: [u16; 512] = [0; 512];
     let mut spent: u16 = 0;
@@ -219,7 +239,7 @@ pub fn search(size: u16, start: u16, words: [u64; 8], numbers: &[u16], lent: &mu
         &targets,
         &starts,
         &words,
-        &mut met,
+        &mut discovered,
         &mut marked,
         &mut walk,
         &mut spent,
