@@ -29,14 +29,14 @@ use Rattle.textbook.proofs.Sets.{members-insert}
 
 -- the search's own set, and the states that are in it
 abbrev pub own : Bool → Board → List Bool
-own nesting B = cond nesting (B .marked) (B .discovered)
+own nesting B = cond nesting (B .marked) (B .met)
 
 abbrev seen : Bool → List ℕ → List ℕ → List ℕ
 seen nesting d k = cond nesting k d
 
 -- the board, with the count of looks one higher
 abbrev pub lookedAt : Board → ℕ → Board
-lookedAt B spent = boardOf (B .discovered) (B .marked) (B .walk) spent
+lookedAt B spent = boardOf (B .met) (B .marked) (B .walk) spent
 
 -- ---- the walk
 
@@ -75,7 +75,7 @@ place-before t (x ∷ xs) = ⊎-elim
 
 -- v was put on the path: at its place on the walk, and into the search's own set
 pub record Entered (nesting : Bool) (v place : ℕ) (B B′ : Board) : Type 0 where
-  pub discovered-is : B′ .discovered ≡ cond nesting (B .discovered) (set (B .discovered) v true)
+  pub met-is : B′ .met ≡ cond nesting (B .met) (set (B .met) v true)
   pub marked-is : B′ .marked ≡ cond nesting (set (B .marked) v true) (B .marked)
   pub walk-is : B′ .walk ≡ set (B .walk) place v
   pub spent-is : B′ .spent ≡ B .spent
@@ -120,13 +120,13 @@ module _ (g : Graph) where
             → Shows nesting B′ p (frame v (g .successors v) ∷ q) (cond nesting d (v ∷ d)) (cond nesting (v ∷ k) k) l
         unfolding statesOf
         entered true y z r h e = record {
-          discovered-right = subst⁻¹ (λ (m : List Bool). Members m d) (y .discovered-is) (h .discovered-right);
+          met-right = subst⁻¹ (λ (m : List Bool). Members m d) (y .met-is) (h .met-right);
           marked-right = members-insert (B .marked) (B′ .marked) k v z (known _ r v (in-head v k)) (y .marked-is) (h .marked-right);
           walk-right = push-walk (statesOf p) q v place (g .successors v) (B .walk) (B′ .walk) (omega (arith, states-length p)) walk-size (omega (arith, states-length p, within _ r .walk-few)) (y .walk-is) (h .walk-right);
           spent-right = y .spent-is ∙ h .spent-right;
         }
         entered false y z r h e = record {
-          discovered-right = members-insert (B .discovered) (B′ .discovered) d v z (within _ r .below v (in-head v d)) (y .discovered-is) (h .discovered-right);
+          met-right = members-insert (B .met) (B′ .met) d v z (within _ r .below v (in-head v d)) (y .met-is) (h .met-right);
           marked-right = subst⁻¹ (λ (m : List Bool). Members m k) (y .marked-is) (h .marked-right);
           walk-right = push-walk [] q v place (g .successors v) (B .walk) (B′ .walk) e walk-size (omega (arith, within _ r .walk-few)) (y .walk-is) (h .walk-right);
           spent-right = y .spent-is ∙ h .spent-right;
@@ -141,7 +141,7 @@ module _ (g : Graph) where
       shown : (nesting : Bool) → Reached g (conf nesting s p (frame x (t ∷ ts) ∷ q) d k l) → Shows nesting B p (frame x (t ∷ ts) ∷ q) d k l → Shows nesting E p (frame x ts ∷ q) d k ((x, t) ∷ l)
       unfolding statesOf
       shown nesting r h = record {
-        discovered-right = h .discovered-right;
+        met-right = h .met-right;
         marked-right = h .marked-right;
         walk-right = h .walk-right;
         spent-right = by-search nesting r (h .spent-right);
@@ -178,7 +178,7 @@ module _ (g : Graph) where
 
       own-is : (nesting : Bool) → Apart nesting → Reached g (conf nesting s p (frame x (t ∷ ts) ∷ q) d k l) → Shows nesting B p (frame x (t ∷ ts) ∷ q) d k l → getD (own nesting B) t true ≡ elem t (seen nesting d k)
       own-is true o r h = h .marked-right t (target-below true (elem t k) o refl r)
-      own-is false o r h = h .discovered-right t (target-below false (elem t d) o refl r)
+      own-is false o r h = h .met-right t (target-below false (elem t d) o refl r)
 
       module _ (nesting : Bool) (o : Apart nesting) (r : Reached g (conf nesting s p (frame x (t ∷ ts) ∷ q) d k l)) (h : Shows nesting B p (frame x (t ∷ ts) ∷ q) d k l) where
         pub passes : getD (own nesting B) t true ≡ true → Going g nesting s p (frame x ts ∷ q) E
@@ -244,7 +244,7 @@ module _ (g : Graph) where
         l = w .l;
         reached = onward (nested s p (frame v [] ∷ q) (w .d) (w .k) (w .l)) (w .reached);
         shows = record {
-          discovered-right = w .shows .discovered-right;
+          met-right = w .shows .met-right;
           marked-right = w .shows .marked-right;
           walk-right = pop-walk (statesOf p) q v [] (B .walk) (w .shows .walk-right);
           spent-right = w .shows .spent-right;
@@ -264,7 +264,7 @@ module _ (g : Graph) where
         l = w .l;
         reached = finished false e w;
         shows = record {
-          discovered-right = w .shows .discovered-right;
+          met-right = w .shows .met-right;
           marked-right = w .shows .marked-right;
           walk-right = pop-walk [] q v [] (B .walk) (w .shows .walk-right);
           spent-right = w .shows .spent-right;
@@ -287,7 +287,7 @@ module _ (g : Graph) where
         l = w .l;
         reached = finished true e w;
         shows = record {
-          discovered-right = w .shows .discovered-right;
+          met-right = w .shows .met-right;
           marked-right = w .shows .marked-right;
           walk-right = pop-walk (statesOf q) [] v [] (B .walk) (w .shows .walk-right);
           spent-right = w .shows .spent-right;
@@ -304,7 +304,7 @@ module _ (g : Graph) where
         l = w .l;
         reached = onward (nested v q [] (w .d) (w .k) (w .l)) (w .reached);
         shows = record {
-          discovered-right = w .shows .discovered-right;
+          met-right = w .shows .met-right;
           marked-right = w .shows .marked-right;
           walk-right = begins-pop (statesOf q) [] (B .walk) (w .shows .walk-right);
           spent-right = w .shows .spent-right;

@@ -24,14 +24,14 @@ use Rattle.textbook.proofs.Steps.{own, lookedAt, Entered, enter-room, e
 -- ---- lengths stay, and no state leaves a set
 
 pub kept-self : (B : Board) → Kept B B
-kept-self B = record { discovered-size = refl; marked-size = refl; walk-size = refl; discovered-fewer = omega arith; marked-fewer = omega arith }
+kept-self B = record { met-size = refl; marked-size = refl; walk-size = refl; met-fewer = omega arith; marked-fewer = omega arith }
 
 kept-join : {B C D : Board} → Kept B C → Kept C D → Kept B D
 kept-join a b = record {
-  discovered-size = b .discovered-size ∙ a .discovered-size;
+  met-size = b .met-size ∙ a .met-size;
   marked-size = b .marked-size ∙ a .marked-size;
   walk-size = b .walk-size ∙ a .walk-size;
-  discovered-fewer = omega (arith, a .discovered-fewer, b .discovered-fewer);
+  met-fewer = omega (arith, a .met-fewer, b .met-fewer);
   marked-fewer = omega (arith, a .marked-fewer, b .marked-fewer);
 }
 
@@ -46,17 +46,17 @@ fewer-either false bs bs′ v e = omega (arith, ap missing e)
 
 pub kept-entered : {B C : Board} {v place : ℕ} (nesting : Bool) → Entered nesting v place B C → Kept B C
 kept-entered {B} {C} {v} {place} true y = record {
-  discovered-size = ap length (y .discovered-is);
+  met-size = ap length (y .met-is);
   marked-size = size-either true (B .marked) (C .marked) v (y .marked-is);
   walk-size = ap length (y .walk-is) ∙ length-set (B .walk) place v;
-  discovered-fewer = fewer-either false (B .discovered) (C .discovered) v (y .discovered-is);
+  met-fewer = fewer-either false (B .met) (C .met) v (y .met-is);
   marked-fewer = fewer-either true (B .marked) (C .marked) v (y .marked-is);
 }
 kept-entered {B} {C} {v} {place} false y = record {
-  discovered-size = size-either true (B .discovered) (C .discovered) v (y .discovered-is);
+  met-size = size-either true (B .met) (C .met) v (y .met-is);
   marked-size = ap length (y .marked-is);
   walk-size = ap length (y .walk-is) ∙ length-set (B .walk) place v;
-  discovered-fewer = fewer-either true (B .discovered) (C .discovered) v (y .discovered-is);
+  met-fewer = fewer-either true (B .met) (C .met) v (y .met-is);
   marked-fewer = fewer-either false (B .marked) (C .marked) v (y .marked-is);
 }
 
@@ -71,9 +71,9 @@ going : {g : Graph} {nesting : Bool} {s : ℕ} {p q : List Frame} {v : ℕ} {B :
 going {g} {nesting} {s} {p} {q} {v} {B} e w = subst (λ (ys : List ℕ). Going g nesting s p (frame v ys ∷ q) B) e w
 
 -- the same with the board under another name
-pub renamed : {targets : List ℕ} {P : Graph → Type 0} {nesting : Bool} {v height place : ℕ} {B : Board} {discovered marked discovered′ marked′ : List Bool} {walk walk′ : List ℕ} {spent spent′ stop at : ℕ}
-    → discovered′ ≡ discovered → marked′ ≡ marked → walk′ ≡ walk → spent′ ≡ spent → Turns targets P nesting v height place B (boardOf discovered marked walk spent) stop at
-    → Turns targets P nesting v height place B (boardOf discovered′ marked′ walk′ spent′) stop at
+pub renamed : {targets : List ℕ} {P : Graph → Type 0} {nesting : Bool} {v height place : ℕ} {B : Board} {met marked met′ marked′ : List Bool} {walk walk′ : List ℕ} {spent spent′ stop at : ℕ}
+    → met′ ≡ met → marked′ ≡ marked → walk′ ≡ walk → spent′ ≡ spent → Turns targets P nesting v height place B (boardOf met marked walk spent) stop at
+    → Turns targets P nesting v height place B (boardOf met′ marked′ walk′ spent′) stop at
 renamed {targets} {P} {nesting} {v} {height} {place} {B} {stop = stop} {at = at} e₁ e₂ e₃ e₄ w =
     subst⁻¹ (λ (C : Board). Turns targets P nesting v height place B C stop at) (λ i. boardOf (e₁ i) (e₂ i) (e₃ i) (e₄ i)) w
 
@@ -118,10 +118,10 @@ module _ {targets starts : List ℕ} {P : Graph → Type 0} (reads : (g : Graph)
 
     kept-here : Kept B E
     kept-here = record {
-      discovered-size = w .kept .discovered-size;
+      met-size = w .kept .met-size;
       marked-size = w .kept .marked-size;
       walk-size = w .kept .walk-size;
-      discovered-fewer = w .kept .discovered-fewer;
+      met-fewer = w .kept .met-fewer;
       marked-fewer = w .kept .marked-fewer;
     }
 
@@ -207,27 +207,27 @@ module _ {targets starts : List ℕ} {P : Graph → Type 0} (reads : (g : Graph)
     visits-nested = visits reads y marked-size walk-size higher moved (λ g f s p q w. leaves-nested g (reads g f) F s v p q w)
 
   -- the outer search
-  module _ (y : Entered false v place B C) (discovered-size : length (B .discovered) ≡ 512) (walk-size : length (B .walk) ≡ 512) {place′ : ℕ} (higher : place′ ≡ up place)
+  module _ (y : Entered false v place B C) (met-size : length (B .met) ≡ 512) (walk-size : length (B .walk) ≡ 512) {place′ : ℕ} (higher : place′ ≡ up place)
       {F : Board} {r : Finding} (moved : Explores P false v height place′ C F r) where
     -- v does not pay
     pub visits-outer : ((g : Graph) → P g → g .accepting v ≡ false) → Visits P false v height place B F r
-    visits-outer pays = visits reads y discovered-size walk-size higher moved (λ g f s p q w. leaves-outer g (reads g f) F s v p q (pays g f) w)
+    visits-outer pays = visits reads y met-size walk-size higher moved (λ g f s p q w. leaves-outer g (reads g f) F s v p q (pays g f) w)
 
     -- a round was found
     pub visits-round : isRound r ≡ true → Visits P false v height place B F r
     visits-round e = record {
-      kept = kept-moved reads y discovered-size walk-size higher moved;
-      leads = λ g f s p q d k l i h high topped. round-stays r e g false s p (frame v [] ∷ q) q F (moved-on reads y discovered-size walk-size higher moved g f s p q d k l i h high topped);
+      kept = kept-moved reads y met-size walk-size higher moved;
+      leads = λ g f s p q d k l i h high topped. round-stays r e g false s p (frame v [] ∷ q) q F (moved-on reads y met-size walk-size higher moved g f s p q d k l i h high topped);
     }
 
     -- v pays, and a nested search was made from it
     pub visits-paying : isRound r ≡ false → ((g : Graph) → P g → g .accepting v ≡ true) → {G : Board} {r′ : Finding} → Visits (Reads targets starts) true v place′ place F G r′
         → Visits P false v height place B G r′
     visits-paying e pays {G} {r′} nested = record {
-      kept = kept-join (kept-moved reads y discovered-size walk-size higher moved) (nested .kept);
+      kept = kept-join (kept-moved reads y met-size walk-size higher moved) (nested .kept);
       leads = λ g f s p q d k l i h high topped.
-          let x = starts-nested g (reads g f) F s v p q (pays g f) (clear-goes r e g false s p (frame v [] ∷ q) F (moved-on reads y discovered-size walk-size higher moved g f s p q d k l i h high topped)) in
+          let x = starts-nested g (reads g f) F s v p q (pays g f) (clear-goes r e g false s p (frame v [] ∷ q) F (moved-on reads y met-size walk-size higher moved g f s p q d k l i h high topped)) in
           returns-outer g (reads g f) G s v p q r′
           (nested .leads g (reads g f) v q [] (x .d) (x .k) (x .l) (x .reached) (x .shows)
-          (λ _. omega (arith, next-place reads y discovered-size walk-size higher moved g f s p q d k l i h high topped)) (omega arith));
+          (λ _. omega (arith, next-place reads y met-size walk-size higher moved g f s p q d k l i h high topped)) (omega arith));
     }

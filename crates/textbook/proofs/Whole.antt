@@ -75,7 +75,7 @@ module _ (l : Load) (lent lent′ : List ℕ) (rows : Rows) (yes-it-is : loadTri
   unfolding tableOf statesOf steps
   searched-right {walk} {C} {r} {stem} {len} {a} visited f g w =
       let e = at-end t ok C r (visited .leads (searched t) reads 0 [] [] [] [] [] (0, refl)
-      (record { discovered-right = members-none; marked-right = members-none; walk-right = (walk, refl); spent-right = refl }) (λ y. absurd (contra y refl)) refl) in
+      (record { met-right = members-none; marked-right = members-none; walk-right = (walk, refl); spent-right = refl }) (λ y. absurd (contra y refl)) refl) in
       load-accepted l lent a lent′ yes-it-is
       (subst (λ (n : ℕ). Answered (answer (verdict (final t)) n 0) lent a lent′) (e .1)
       (told (C .spent) 0 stem len (verdict (final t)) (C .walk) lent lent′ a (l .size) (subst⁻¹ (λ (x : ℕ × ℕ). WalkOf (x .0) (x .1) (C .walk) (verdict (final t))) (λ i. (f i, g i)) (e .0)) w (verdict-right t ok .short)

@@ -32,7 +32,7 @@ lengthIn (Round stem len) = len
 
 pub record Board : Type 0 where
   -- the sets of the states that are discovered, and marked
-  pub discovered : List Bool
+  pub met : List Bool
   pub marked : List Bool
   -- the open path, and behind it the path of the nested search
   pub walk : List ℕ
@@ -40,7 +40,7 @@ pub record Board : Type 0 where
   pub spent : ℕ
 
 abbrev pub boardOf : List Bool → List Bool → List ℕ → ℕ → Board
-boardOf discovered marked walk spent = record { discovered = discovered; marked = marked; walk = walk; spent = spent }
+boardOf met marked walk spent = record { met = met; marked = marked; walk = walk; spent = spent }
 
 -- lengths that the arrays have by their types
 pub record Sized (marked : List Bool) (walk : List ℕ) : Type 0 where
@@ -54,10 +54,10 @@ missing (b ∷ bs) = cond b 0 1 + missing bs
 
 -- for any contents of the arrays: their lengths stay, and no state leaves a set
 pub record Kept (B B′ : Board) : Type 0 where
-  pub discovered-size : length (B′ .discovered) ≡ length (B .discovered)
+  pub met-size : length (B′ .met) ≡ length (B .met)
   pub marked-size : length (B′ .marked) ≡ length (B .marked)
   pub walk-size : length (B′ .walk) ≡ length (B .walk)
-  pub discovered-fewer : missing (B′ .discovered) ≤ missing (B .discovered)
+  pub met-fewer : missing (B′ .met) ≤ missing (B .met)
   pub marked-fewer : missing (B′ .marked) ≤ missing (B .marked)
 
 -- ---- the graph: any one that the arrays show
@@ -94,7 +94,7 @@ Members states xs = (x : ℕ) → x < 512 → getD states x true ≡ elem x xs
 
 -- the board shows it
 pub record Shows (nesting : Bool) (B : Board) (p q : List Frame) (d k : List ℕ) (l : List Edge) : Type 0 where
-  pub discovered-right : Members (B .discovered) d
+  pub met-right : Members (B .met) d
   pub marked-right : Members (B .marked) k
   pub walk-right : Begins (statesOf (under nesting p) ++ statesOf q) (B .walk)
   pub spent-right : B .spent ≡ length l

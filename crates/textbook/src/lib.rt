@@ -72,30 +72,20 @@ fn visit(
     targets: &[u16; 2048],
     starts: &[u16; 513],
     words: &[u64; 8],
-    discovered: &mut [bool; 512],
+    met: &mut [bool; 512],
     marked: &mut [bool; 512],
     walk: &mut [u16; 512],
     spent: &mut u16,
     v: u16,
     place: u16,
 ) -> Finding
-    requires { ⌜ Tabled (now targets) (now starts) × (length (now discovered) ≡ 512) × Sized (now marked) (now walk) ⌝ }
-    ensures { λ r. ⌜ Visits (ReadsAll (now (targets .entry)) (now (starts .entry)) (now (words .entry))) false v 0 place (boardOf (now (discovered .entry)) (now (marked .entry)) (now (walk .entry)) (now (spent .entry))) (boardOf (now (discovered .exit)) (now (marked .exit)) (now (walk .exit)) (now (spent .exit))) r ⌝ }
+    requires { ⌜ Tabled (now targets) (now starts) × (length (now met) ≡ 512) × Sized (now marked) (now walk) ⌝ }
+    ensures { λ r. ⌜ Visits (ReadsAll (now (targets .entry)) (now (starts .entry)) (now (words .entry))) false v 0 place (boardOf (now (met .entry)) (now (marked .entry)) (now (walk .entry)) (now (spent .entry))) (boardOf (now (met .exit)) (now (marked .exit)) (now (walk .exit)) (now (spent .exit))) r ⌝ }
 {
-    insert(discovered, v);
+    insert(met, v);
     look::put(walk, place, v);
     let height = look::up(place);
-    let r = explore(
-        targets,
-        starts,
-        words,
-        discovered,
-        marked,
-        walk,
-        spent,
-        v,
-        height,
-    );
+    let r = explore(targets, starts, words, met, marked, walk, spent, v, height);
     if is_round(r) {
         return r;
     }
@@ -110,33 +100,23 @@ fn explore(
     targets: &[u16; 2048],
     starts: &[u16; 513],
     words: &[u64; 8],
-    discovered: &mut [bool; 512],
+    met: &mut [bool; 512],
     marked: &mut [bool; 512],
     walk: &mut [u16; 512],
     spent: &mut u16,
     v: u16,
     place: u16,
 ) -> Finding
-    requires { ⌜ Tabled (now targets) (now starts) × (length (now discovered) ≡ 512) × Sized (now marked) (now walk) ⌝ }
-    ensures { λ r. ⌜ Explores (ReadsAll (now (targets .entry)) (now (starts .entry)) (now (words .entry))) false v 0 place (boardOf (now (discovered .entry)) (now (marked .entry)) (now (walk .entry)) (now (spent .entry))) (boardOf (now (discovered .exit)) (now (marked .exit)) (now (walk .exit)) (now (spent .exit))) r ⌝ }
+    requires { ⌜ Tabled (now targets) (now starts) × (length (now met) ≡ 512) × Sized (now marked) (now walk) ⌝ }
+    ensures { λ r. ⌜ Explores (ReadsAll (now (targets .entry)) (now (starts .entry)) (now (words .entry))) false v 0 place (boardOf (now (met .entry)) (now (marked .entry)) (now (walk .entry)) (now (spent .entry))) (boardOf (now (met .exit)) (now (marked .exit)) (now (walk .exit)) (now (spent .exit))) r ⌝ }
 {
     let row = look::row_of(starts, v);
     let mut at = row.from;
     let stop = row.stop;
     while at < stop {
         let t = look::look(targets, spent, at);
-        if !contains(discovered, t) {
-            let r = visit(
-                targets,
-                starts,
-                words,
-                discovered,
-                marked,
-                walk,
-                spent,
-                t,
-                place,
-            );
+        if !contains(met, t) {
+            let r = visit(targets, starts, words, met, marked, walk, spent, t, place);
             if is_round(r) {
                 return r;
             }
@@ -159,20 +139,12 @@ fn nested_visit(
     place: u16,
 ) -> Finding
     requires { ⌜ Tabled (now targets) (now starts) × Sized (now marked) (now walk) ⌝ }
-    ensures { λ r. ⌜ ((discovered : List Bool) → Visits (Reads (now (targets .entry)) (now (starts .entry))) true v height place (boardOf discovered (now (marked .entry)) (now (walk .entry)) (now (spent .entry))) (boardOf discovered (now (marked .exit)) (now (walk .exit)) (now (spent .exit))) r) ⌝ }
+    ensures { λ r. ⌜ ((met : List Bool) → Visits (Reads (now (targets .entry)) (now (starts .entry))) true v height place (boardOf met (now (marked .entry)) (now (walk .entry)) (now (spent .entry))) (boardOf met (now (marked .exit)) (now (walk .exit)) (now (spent .exit))) r) ⌝ }
 {
     insert(marked, v);
     look::put(walk, place, v);
-    nested_explore(
-        targets,
-        starts,
-        marked,
-        walk,
-        spent,
-        v,
-        height,
-        look::up(place),
-    )
+    let next = look::up(place);
+    nested_explore(targets, starts, marked, walk, spent, v, height, next)
 }
 
 // Its edges are taken oldest first, each with one look. A target on the open path closes a round, and everything stops; one that is unmarked is visited.
@@ -187,7 +159,7 @@ fn nested_explore(
     place: u16,
 ) -> Finding
     requires { ⌜ Tabled (now targets) (now starts) × Sized (now marked) (now walk) ⌝ }
-    ensures { λ r. ⌜ ((discovered : List Bool) → Explores (Reads (now (targets .entry)) (now (starts .entry))) true v height place (boardOf discovered (now (marked .entry)) (now (walk .entry)) (now (spent .entry))) (boardOf discovered (now (marked .exit)) (now (walk .exit)) (now (spent .exit))) r) ⌝ }
+    ensures { λ r. ⌜ ((met : List Bool) → Explores (Reads (now (targets .entry)) (now (starts .entry))) true v height place (boardOf met (now (marked .entry)) (now (walk .entry)) (now (spent .entry))) (boardOf met (now (marked .exit)) (now (walk .exit)) (now (spent .exit))) r) ⌝ }
 {
     let row = look::row_of(starts, v);
     let mut at = row.from;
@@ -231,7 +203,7 @@ pub fn search(size: u16, start: u16, words: [u64; 8], numbers: &[u16], lent: &mu
     if let Trial::Refused(n) = trial {
         return verdict::refused(n, Position::Alone);
     }
-    let mut discovered: [bool; 512] = [false; 512];
+    let mut met: [bool; 512] = [false; 512];
     let mut marked: [bool; 512] = [false; 512];
     let mut walk: [u16; 512] = [0; 512];
     let mut spent: u16 = 0;
@@ -239,7 +211,7 @@ pub fn search(size: u16, start: u16, words: [u64; 8], numbers: &[u16], lent: &mu
         &targets,
         &starts,
         &words,
-        &mut discovered,
+        &mut met,
         &mut marked,
         &mut walk,
         &mut spent,

@@ -91,11 +91,11 @@ visit-claims t = (
 )
 
 abbrev Inv-loop : explore-lts.InvT-loop
-Inv-loop targets starts words discovered₀ marked₀ walk₀ spent₀ v place at₀ stop discovered marked walk spent at =
-    Turns targets (ReadsAll targets starts words) false v 0 place (boardOf discovered₀ marked₀ walk₀ spent₀) (boardOf discovered marked walk spent) stop at
+Inv-loop targets starts words met₀ marked₀ walk₀ spent₀ v place at₀ stop met marked walk spent at =
+    Turns targets (ReadsAll targets starts words) false v 0 place (boardOf met₀ marked₀ walk₀ spent₀) (boardOf met marked walk spent) stop at
 
 abbrev μ-loop : explore-lts.MeasureT-loop
-μ-loop targets starts words discovered₀ marked₀ walk₀ spent₀ v place at₀ stop discovered marked walk spent at = stop - at
+μ-loop targets starts words met₀ marked₀ walk₀ spent₀ v place at₀ stop met marked walk spent at = stop - at
 
 -- ---- the edges
 
@@ -114,7 +114,7 @@ look-requires t c κs =
 contains-requires : (t : ℕ) → explore-lts.Need-contains-requires (explore-claims t) (explore-at t) explore.Post Inv-loop μ-loop
 contains-requires t c κs =
     let l = c .before .before .before .before in
-    l .loop .inv .kept .discovered-size ∙ l .before .before .pre .1 .1
+    l .loop .inv .kept .met-size ∙ l .before .before .pre .1 .1
 
 visit-requires : (t : ℕ) → explore-lts.Need-visit-requires (explore-claims t) (explore-at t) explore.Post Inv-loop μ-loop
 visit-requires t c κs =
@@ -124,7 +124,7 @@ visit-requires t c κs =
     let l = o .before .before .before in
     let a = l .before .before in
     let z = l .loop .inv .kept in
-    (left-visit _ _ (o .look .result) (a .pre .0) (z .discovered-fewer) (sym (k .contains .ensures) ∙ not-true _ (n .if1 .taken)), (a .pre .1 .0, z .discovered-size ∙ a .pre .1 .1, record { marked-size = z .marked-size ∙ a .pre .1 .2 .marked-size; walk-size = z .walk-size ∙ a .pre .1 .2 .walk-size }))
+    (left-visit _ _ (o .look .result) (a .pre .0) (z .met-fewer) (sym (k .contains .ensures) ∙ not-true _ (n .if1 .taken)), (a .pre .1 .0, z .met-size ∙ a .pre .1 .1, record { marked-size = z .marked-size ∙ a .pre .1 .2 .marked-size; walk-size = z .walk-size ∙ a .pre .1 .2 .walk-size }))
 
 is-round-requires : (t : ℕ) → explore-lts.Need-is-round-requires (explore-claims t) (explore-at t) explore.Post Inv-loop μ-loop
 is-round-requires t c κs = search needs
@@ -178,8 +178,8 @@ up-requires t c κs = search needs
 entered-by : (t : ℕ) (c : visit-lts.After-put (visit-claims t) (visit-at t) visit.Post)
     → let n = c .before .before in
     let a = n .before .before .args in
-    Entered false (a .v) (a .place) (boardOf (now (a .discovered)) (now (a .marked)) (now (a .walk)) (now (a .spent))) (boardOf (n .insert .last .0) (now (a .marked)) (c .put .last .0) (now (a .spent)))
-entered-by t c = record { discovered-is = c .before .before .insert .ensures; marked-is = refl; walk-is = c .put .ensures; spent-is = refl }
+    Entered false (a .v) (a .place) (boardOf (now (a .met)) (now (a .marked)) (now (a .walk)) (now (a .spent))) (boardOf (n .insert .last .0) (now (a .marked)) (c .put .last .0) (now (a .spent)))
+entered-by t c = record { met-is = c .before .before .insert .ensures; marked-is = refl; walk-is = c .put .ensures; spent-is = refl }
 
 explore-requires : (t : ℕ) → visit-lts.Need-explore-requires (visit-claims t) (visit-at t) visit.Post
 explore-requires t c κs =
@@ -187,7 +187,7 @@ explore-requires t c κs =
     let n = p .before .before in
     let a = n .before .before in
     let z = kept-entered false (entered-by t p) in
-    (left-explore (now (a .args .discovered)) _ (a .args .v) (a .pre .0) (n .insert .ensures), (a .pre .1 .0, z .discovered-size ∙ a .pre .1 .1, record { marked-size = z .marked-size ∙ a .pre .1 .2 .marked-size; walk-size = z .walk-size ∙ a .pre .1 .2 .walk-size }))
+    (left-explore (now (a .args .met)) _ (a .args .v) (a .pre .0) (n .insert .ensures), (a .pre .1 .0, z .met-size ∙ a .pre .1 .1, record { marked-size = z .marked-size ∙ a .pre .1 .2 .marked-size; walk-size = z .walk-size ∙ a .pre .1 .2 .walk-size }))
 
 visit-is-round-requires : (t : ℕ) → visit-lts.Need-is-round-requires (visit-claims t) (visit-at t) visit.Post
 visit-is-round-requires t c κs = search needs

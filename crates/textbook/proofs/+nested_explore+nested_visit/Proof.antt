@@ -83,7 +83,7 @@ visit-claims t = (
 
 abbrev Inv-loop : nested-explore-lts.InvT-loop
 Inv-loop targets starts marked₀ walk₀ spent₀ v height place at₀ stop marked walk spent at =
-    (discovered : List Bool) → Turns targets (Reads targets starts) true v height place (boardOf discovered marked₀ walk₀ spent₀) (boardOf discovered marked walk spent) stop at
+    (met : List Bool) → Turns targets (Reads targets starts) true v height place (boardOf met marked₀ walk₀ spent₀) (boardOf met marked walk spent) stop at
 
 abbrev μ-loop : nested-explore-lts.MeasureT-loop
 μ-loop targets starts marked₀ walk₀ spent₀ v height place at₀ stop marked walk spent at = stop - at
@@ -94,7 +94,7 @@ row-of-requires : (t : ℕ) → nested-explore-lts.Need-row-of-requires (explore
 row-of-requires t c κs = search needs
 
 loop-holds : (t : ℕ) → nested-explore-lts.Need-loop-holds (explore-claims t) (nested-explore-at t) nested-explore.Post Inv-loop μ-loop
-loop-holds t c = λ discovered. begins (λ g f. f) (c .row-of .result) (c .row-of .ensures)
+loop-holds t c = λ met. begins (λ g f. f) (c .row-of .result) (c .row-of .ensures)
 
 look-requires : (t : ℕ) → nested-explore-lts.Need-look-requires (explore-claims t) (nested-explore-at t) nested-explore.Post Inv-loop μ-loop
 look-requires t c κs =
@@ -112,7 +112,7 @@ returns t c =
     let f = c .before in
     let l = f .before .before in
     let i = l .before .before in
-    λ discovered. closed (λ g y. y) (i .before .loop .inv discovered) (i .loop-test .taken) (l .look .ensures .0) (l .look .ensures .1 ∙ sym (up-is _)) refl (f .find .result) (f .find .ensures) (c .if1 .taken)
+    λ met. closed (λ g y. y) (i .before .loop .inv met) (i .loop-test .taken) (l .look .ensures .0) (l .look .ensures .1 ∙ sym (up-is _)) refl (f .find .result) (f .find .ensures) (c .if1 .taken)
 
 contains-requires : (t : ℕ) → nested-explore-lts.Need-contains-requires (explore-claims t) (nested-explore-at t) nested-explore.Post Inv-loop μ-loop
 contains-requires t c κs =
@@ -142,8 +142,8 @@ returns-2 t c =
     let f = e .before in
     let l = f .before .before in
     let i = l .before .before in
-    λ discovered. stopped (λ g y. y) (i .before .loop .inv discovered) (i .loop-test .taken) (l .look .ensures .0) (l .look .ensures .1 ∙ sym (up-is _)) (λ _. omega (arith, e .if1 .left, f .find .ensures))
-    (sym (k .contains .ensures) ∙ not-true _ (n .if2 .taken)) (v .nested-visit .ensures discovered) (sym (r .is-round .ensures) ∙ c .if3 .taken)
+    λ met. stopped (λ g y. y) (i .before .loop .inv met) (i .loop-test .taken) (l .look .ensures .0) (l .look .ensures .1 ∙ sym (up-is _)) (λ _. omega (arith, e .if1 .left, f .find .ensures))
+    (sym (k .contains .ensures) ∙ not-true _ (n .if2 .taken)) (v .nested-visit .ensures met) (sym (r .is-round .ensures) ∙ c .if3 .taken)
 
 add-at : (t : ℕ) → nested-explore-lts.Need-add-at (explore-claims t) (nested-explore-at t) nested-explore.Post Inv-loop μ-loop
 add-at t c = search needs
@@ -159,16 +159,16 @@ loop-again t c =
     let l = f .before .before in
     let i = l .before .before in
     ⊎-elim
-    (λ w discovered. renamed refl (w .7) (w .8) (w .9)
-    (went-on (λ g y. y) (i .before .loop .inv discovered) (i .loop-test .taken) (l .look .ensures .0) (l .look .ensures .1 ∙ sym (up-is _)) (λ _. omega (arith, e .if1 .left, f .find .ensures))
-    (sym (k .contains .ensures) ∙ not-true _ (w .0 .taken)) (w .4 .ensures discovered) (sym (w .5 .ensures) ∙ w .6 .left)))
-    (λ w discovered. renamed refl (w .1) (w .2) (w .3)
-    (passed (λ g y. y) (i .before .loop .inv discovered) (i .loop-test .taken) (l .look .ensures .0) (l .look .ensures .1 ∙ sym (up-is _)) (λ _. omega (arith, e .if1 .left, f .find .ensures))
+    (λ w met. renamed refl (w .7) (w .8) (w .9)
+    (went-on (λ g y. y) (i .before .loop .inv met) (i .loop-test .taken) (l .look .ensures .0) (l .look .ensures .1 ∙ sym (up-is _)) (λ _. omega (arith, e .if1 .left, f .find .ensures))
+    (sym (k .contains .ensures) ∙ not-true _ (w .0 .taken)) (w .4 .ensures met) (sym (w .5 .ensures) ∙ w .6 .left)))
+    (λ w met. renamed refl (w .1) (w .2) (w .3)
+    (passed (λ g y. y) (i .before .loop .inv met) (i .loop-test .taken) (l .look .ensures .0) (l .look .ensures .1 ∙ sym (up-is _)) (λ _. omega (arith, e .if1 .left, f .find .ensures))
     (sym (k .contains .ensures) ∙ not-false _ (w .0 .left))))
     (c .if2 .came)
 
 returns-3 : (t : ℕ) → nested-explore-lts.Need-returns-3 (explore-claims t) (nested-explore-at t) nested-explore.Post Inv-loop μ-loop
-returns-3 t c = λ discovered. ends (λ g y. y) _ _ (c .loop-test .left) (c .before .loop .inv discovered)
+returns-3 t c = λ met. ends (λ g y. y) _ _ (c .loop-test .left) (c .before .loop .inv met)
 
 -- ---- a visit
 
@@ -182,11 +182,11 @@ up-requires : (t : ℕ) → nested-visit-lts.Need-up-requires (visit-claims t) (
 up-requires t c κs = search needs
 
 -- the state is marked, and has its place on the walk
-entered-by : (t : ℕ) (c : nested-visit-lts.After-put (visit-claims t) (nested-visit-at t) nested-visit.Post) (discovered : List Bool)
+entered-by : (t : ℕ) (c : nested-visit-lts.After-put (visit-claims t) (nested-visit-at t) nested-visit.Post) (met : List Bool)
     → let n = c .before .before in
     let a = n .before .before .args in
-    Entered true (a .v) (a .place) (boardOf discovered (now (a .marked)) (now (a .walk)) (now (a .spent))) (boardOf discovered (n .insert .last .0) (c .put .last .0) (now (a .spent)))
-entered-by t c discovered = record { discovered-is = refl; marked-is = c .before .before .insert .ensures; walk-is = c .put .ensures; spent-is = refl }
+    Entered true (a .v) (a .place) (boardOf met (now (a .marked)) (now (a .walk)) (now (a .spent))) (boardOf met (n .insert .last .0) (c .put .last .0) (now (a .spent)))
+entered-by t c met = record { met-is = refl; marked-is = c .before .before .insert .ensures; walk-is = c .put .ensures; spent-is = refl }
 
 nested-explore-requires : (t : ℕ) → nested-visit-lts.Need-nested-explore-requires (visit-claims t) (nested-visit-at t) nested-visit.Post
 nested-explore-requires t c κs =
@@ -198,10 +198,10 @@ nested-explore-requires t c κs =
 
 visit-returns : (t : ℕ) → nested-visit-lts.Need-returns (visit-claims t) (nested-visit-at t) nested-visit.Post
 visit-returns t c =
-    let u = c .before in
-    let p = u .before .before .before .before in
+    let u = c .before .before .before .before in
+    let p = u .before in
     let a = p .before .before .before .before in
-    λ discovered. visits-nested (λ g y. y) (entered-by t p discovered) (a .pre .1 .1 .marked-size) (a .pre .1 .1 .walk-size) (u .up .ensures) (c .nested-explore .ensures discovered)
+    λ met. visits-nested (λ g y. y) (entered-by t p met) (a .pre .1 .1 .marked-size) (a .pre .1 .1 .walk-size) (u .up .ensures) (c .nested-explore .ensures met)
 
 pub +nested-explore+nested-visit-spec : {M : Type 1} → statement M
 +nested-explore+nested-visit-spec = close μ-nested-explore μ-nested-visit (λ t. nested-explore-lts.spec (explore-claims t)
