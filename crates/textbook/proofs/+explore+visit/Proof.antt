@@ -263,24 +263,7 @@ pub +explore+visit-spec : {M : Type 1} → statement M
     (loop-less t)
     (loop-again t)
     (returns-2 t))
-    λ t. visit-lts.spec (
-      insert-reads.Asked,
-      insert-reads.Learnt,
-      put-reads.Asked,
-      put-reads.Learnt,
-      up-reads.Asked,
-      up-reads.Learnt,
-      explore-below t,
-      explore.Post,
-      is-round-reads.Asked,
-      is-round-reads.Learnt,
-      wide-reads.Asked,
-      wide-reads.Learnt,
-      accepts-in-reads.Asked,
-      accepts-in-reads.Learnt,
-      nested-visit-reads.Asked,
-      nested-visit-reads.Learnt,
-    )
+    λ t. visit-lts.spec (visit-claims t)
     (visit-at t)
     visit.Post
     (insert-requires t)

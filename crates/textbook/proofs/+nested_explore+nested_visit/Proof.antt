@@ -222,16 +222,7 @@ pub +nested-explore+nested-visit-spec : {M : Type 1} → statement M
     (loop-less t)
     (loop-again t)
     (returns-3 t))
-    λ t. nested-visit-lts.spec (
-      insert-reads.Asked,
-      insert-reads.Learnt,
-      put-reads.Asked,
-      put-reads.Learnt,
-      up-reads.Asked,
-      up-reads.Learnt,
-      nested-explore-below t,
-      nested-explore.Post,
-    )
+    λ t. nested-visit-lts.spec (visit-claims t)
     (nested-visit-at t)
     nested-visit.Post
     (insert-requires t)
