@@ -143,7 +143,7 @@ Leads P nesting v height place B Goal = (g : Graph) → P g → (s : ℕ) (p q :
     → Shows nesting B p (frame v (g .successors v) ∷ q) d k l → (nesting ≡ true → height ≡ suc (length p)) → place ≡ length (under nesting p) + suc (length q)
     → Goal g s p q
 
--- THE MOVES of v: it comes to where they are all taken, or to a round.
+-- THE EDGES of v are explored: it comes to where they are all taken, or to a round.
 pub record Explores (P : Graph → Type 0) (nesting : Bool) (v height place : ℕ) (B B′ : Board) (r : Finding) : Type 0 where
   pub kept : Kept B B′
   pub leads : Leads P nesting v height place B (λ g s p q. Ends g nesting s p (frame v [] ∷ q) B′ r)
