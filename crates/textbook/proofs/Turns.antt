@@ -23,7 +23,7 @@ use Rattle.textbook.proofs.Steps.{own, lookedAt, Entered, enter-room, e
 
 -- ---- lengths stay, and no state leaves a set
 
-pub kept-self : (B : Board) → Kept B B
+kept-self : (B : Board) → Kept B B
 kept-self B = record { met-size = refl; marked-size = refl; walk-size = refl; met-fewer = omega arith; marked-fewer = omega arith }
 
 kept-join : {B C D : Board} → Kept B C → Kept C D → Kept B D
@@ -35,29 +35,27 @@ kept-join a b = record {
   marked-fewer = omega (arith, a .marked-fewer, b .marked-fewer);
 }
 
--- a set, into which a state may have been put
-size-either : (b : Bool) (bs bs′ : List Bool) (v : ℕ) → bs′ ≡ cond b (set bs v true) bs → length bs′ ≡ length bs
-size-either true bs bs′ v e = ap length e ∙ length-set bs v true
-size-either false bs bs′ v e = ap length e
+-- a set into which a state was put
+size-insert : (bs bs′ : List Bool) (v : ℕ) → bs′ ≡ set bs v true → length bs′ ≡ length bs
+size-insert bs bs′ v e = ap length e ∙ length-set bs v true
 
-fewer-either : (b : Bool) (bs bs′ : List Bool) (v : ℕ) → bs′ ≡ cond b (set bs v true) bs → missing bs′ ≤ missing bs
-fewer-either true bs bs′ v e = subst⁻¹ (λ (x : List Bool). missing x ≤ missing bs) e (missing-insert bs v)
-fewer-either false bs bs′ v e = omega (arith, ap missing e)
+fewer-insert : (bs bs′ : List Bool) (v : ℕ) → bs′ ≡ set bs v true → missing bs′ ≤ missing bs
+fewer-insert bs bs′ v e = subst⁻¹ (λ (x : List Bool). missing x ≤ missing bs) e (missing-insert bs v)
 
 pub kept-entered : {B C : Board} {v place : ℕ} (nesting : Bool) → Entered nesting v place B C → Kept B C
 kept-entered {B} {C} {v} {place} true y = record {
   met-size = ap length (y .met-is);
-  marked-size = size-either true (B .marked) (C .marked) v (y .marked-is);
+  marked-size = size-insert (B .marked) (C .marked) v (y .marked-is);
   walk-size = ap length (y .walk-is) ∙ length-set (B .walk) place v;
-  met-fewer = fewer-either false (B .met) (C .met) v (y .met-is);
-  marked-fewer = fewer-either true (B .marked) (C .marked) v (y .marked-is);
+  met-fewer = omega (arith, ap missing (y .met-is));
+  marked-fewer = fewer-insert (B .marked) (C .marked) v (y .marked-is);
 }
 kept-entered {B} {C} {v} {place} false y = record {
-  met-size = size-either true (B .met) (C .met) v (y .met-is);
+  met-size = size-insert (B .met) (C .met) v (y .met-is);
   marked-size = ap length (y .marked-is);
   walk-size = ap length (y .walk-is) ∙ length-set (B .walk) place v;
-  met-fewer = fewer-either true (B .met) (C .met) v (y .met-is);
-  marked-fewer = fewer-either false (B .marked) (C .marked) v (y .marked-is);
+  met-fewer = fewer-insert (B .met) (C .met) v (y .met-is);
+  marked-fewer = omega (arith, ap missing (y .marked-is));
 }
 
 -- ---- a turn of the loop: the edges up to a place are taken
