@@ -1,6 +1,7 @@
 -- The lines of a step, as the buffer holds them, and what is held behind one record more. Assumes nothing.
-use Prim.Native.Nat.{ℕ}
-use mathlib.Core.Path.{_≡_, refl, sym, ap, subst, _∙_}
+use Prim.Native.Nat.{ℕ, _<_}
+use native.Mathlib.Omega.{arith}
+use mathlib.Core.Path.{_≡_, refl, sym, ap, subst, subst⁻¹, _∙_}
 use mathlib.Core.Bool.{true, true≢false}
 use mathlib.Core.List.{List, [], _∷_, _++_, map, map-append, append-nil, append-assoc}
 use lib.ListN.{length, take}
@@ -17,19 +18,15 @@ use Rattle.watch.proofs.Output.{laid-bytes}
 use Rattle.console.specs.declared.Status.{Status}
 use Rattle.console.specs.declared.Status.the-variants.{More, Line, Last, Over}
 use Rattle.console.specs.declared.Reader.{Reader}
-use Rattle.console.specs.Lines.{handed, heldIn, bytesIn, hasLine, isLine, heldBehind, bytesTold, Printed, Found, Next}
-use Rattle.console.proofs.Reading.{line-status, begun, onward}
+use Rattle.console.specs.Lines.{chunk, handed, firstReader, readerBehind, Within, heldIn, bytesIn, hasLine, isLine, heldBehind, bytesTold, Printed, Found, Next}
+use Rattle.console.proofs.Reading.{line-status, within-behind}
 
 -- What was read so far: its lines up to here, and those that the bytes left of the last read begin, whatever bytes follow.
 pub record Read (r : Reader) (held buf seen : List ℕ) (ls : List (List ℕ)) : Type 0 where
   pub goes : (more : List ℕ) → handed [] limit (seen ++ more) ≡ ls ++ handed (heldIn r held) (r .left) (bytesIn r buf ++ more)
 
-pub read-start : (q : Reader) (held buf : List ℕ) → q .len ≡ 0 → q .left ≡ limit → q .at ≡ 0 → q .end ≡ 0 → Read q held buf [] []
-read-start q held buf z l a n = record { goes = λ more. rw (z, l, a, n) refl }
-
-pub read-begun : (q : Reader) (held buf : List ℕ) → q ≡ begun → Read q held buf [] []
-read-begun q held buf e =
-    read-start q held buf (ap (λ (r : Reader). r .len) e) (ap (λ (r : Reader). r .left) e) (ap (λ (r : Reader). r .at) e) (ap (λ (r : Reader). r .end) e)
+pub read-first : (q : Reader) (held buf : List ℕ) → q ≡ firstReader → Read q held buf [] []
+read-first q held buf e = subst⁻¹ (λ (r : Reader). Read r held buf [] []) e (record { goes = λ more. refl })
 
 -- one line more
 pub record Come (r′ : Reader) (held′ buf′ seen : List ℕ) (ls : List (List ℕ)) : Type 0 where
@@ -59,26 +56,27 @@ module _ (r : Reader) (held buf : List ℕ) (r′ : Reader) (held′ buf′ seen
   pub come : (n : Next r held buf r′ held′ buf′) → hasLine (r′ .status) ≡ true → Read r held buf seen ls → Come r′ held′ buf′ (seen ++ n .brought) ls
   come n e h = come-by (r′ .status) (n .brought) (n .goes) e h
 
-  on-by : (st : Status) (brought : List ℕ) (q : Reader) → st ≡ Line → q .len ≡ 0 → q .left ≡ r′ .left → q .at ≡ r′ .at → q .end ≡ r′ .end
-      → Found st (heldIn r held) (r .left) (bytesIn r buf) brought (heldIn r′ held′) (r′ .left) (bytesIn r′ buf′)
-      → Read r held buf seen ls → Read q held′ buf′ (seen ++ brought) (ls ++ (heldIn r′ held′ ∷ []))
-  on-by st brought q e z l a n f h = record {
-    goes = λ more.
-        let g : Found Line (heldIn r held) (r .left) (bytesIn r buf) brought (heldIn r′ held′) (r′ .left) (bytesIn r′ buf′) =
-        subst (λ (x : Status). Found x (heldIn r held) (r .left) (bytesIn r buf) brought (heldIn r′ held′) (r′ .left) (bytesIn r′ buf′)) e f in
-        further brought more h ∙ ap (λ (xs : List (List ℕ)). ls ++ xs) (g more)
-        ∙ sym (append-assoc ls (heldIn r′ held′ ∷ []) (handed [] (r′ .left) (bytesIn r′ buf′ ++ more)))
-        ∙ rw (z, l, a, n) refl;
+  -- behind that line: what was read so far, and fewer bytes that may still come
+  pub record Onward (q : Reader) (brought : List ℕ) : Type 0 where
+    pub read : Read q held′ buf′ (seen ++ brought) (ls ++ (heldIn r′ held′ ∷ []))
+    pub within : Within q chunk
+    pub fewer : q .left < r .left
+
+  read-behind : (brought : List ℕ) → Found Line (heldIn r held) (r .left) (bytesIn r buf) brought (heldIn r′ held′) (r′ .left) (bytesIn r′ buf′) → Read r held buf seen ls
+      → Read (readerBehind r′) held′ buf′ (seen ++ brought) (ls ++ (heldIn r′ held′ ∷ []))
+  read-behind brought f h = record {
+    goes = λ more. further brought more h ∙ ap (λ (xs : List (List ℕ)). ls ++ xs) (f more) ∙ sym (append-assoc ls (heldIn r′ held′ ∷ []) (handed [] (r′ .left) (bytesIn r′ buf′ ++ more)));
   }
 
-  pub onwards : (n : Next r held buf r′ held′ buf′) (q : Reader) → r′ .status ≡ Line → q .len ≡ 0 → q .left ≡ r′ .left → q .at ≡ r′ .at → q .end ≡ r′ .end
-      → Read r held buf seen ls → Read q held′ buf′ (seen ++ n .brought) (ls ++ (heldIn r′ held′ ∷ []))
-  onwards n q e z l a m h = on-by (r′ .status) (n .brought) q e z l a m (n .goes) h
-
-  pub read-onward : (n : Next r held buf r′ held′ buf′) (q : Reader) → q ≡ onward r′ → isLine (r′ .status) ≡ true
-      → Read r held buf seen ls → Read q held′ buf′ (seen ++ n .brought) (ls ++ (heldIn r′ held′ ∷ []))
-  read-onward n q b e h =
-      onwards n q (line-status (r′ .status) e) (ap (λ (x : Reader). x .len) b) (ap (λ (x : Reader). x .left) b) (ap (λ (x : Reader). x .at) b) (ap (λ (x : Reader). x .end) b) h
+  pub goes-onward : (n : Next r held buf r′ held′ buf′) (q : Reader) → q ≡ readerBehind r′ → isLine (r′ .status) ≡ true → Read r held buf seen ls → Onward q (n .brought)
+  goes-onward n q b e h =
+      let is : r′ .status ≡ Line = line-status (r′ .status) e in
+      record {
+        read = subst⁻¹ (λ (x : Reader). Read x held′ buf′ (seen ++ n .brought) (ls ++ (heldIn r′ held′ ∷ []))) b
+            (read-behind (n .brought) (subst (λ (x : Status). Found x (heldIn r held) (r .left) (bytesIn r buf) (n .brought) (heldIn r′ held′) (r′ .left) (bytesIn r′ buf′)) is (n .goes)) h);
+        within = within-behind q r′ b (n .within);
+        fewer = omega (arith, ap (λ (x : Reader). x .left) b, n .falls is);
+      }
 
 -- the bytes at the head of the buffer, as the plain definition prints them and as the plan tells them
 pub printed : (r′ : Reader) (held′ buf′ seen : List ℕ) (ls : List (List ℕ)) (d d′ : List ℕ) (first len : ℕ) → Come r′ held′ buf′ seen ls

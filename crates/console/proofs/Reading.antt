@@ -10,11 +10,10 @@ use lib.Dec.{eqb}
 use lib.ListN.{length, getD, set, take, drop, length-take, length-drop, drop-of-length-le}
 use lib.Seq.{drop-cons, getD-take, take-suc-set, length-take-le}
 use Rattle.line.specs.Fields.{newline}
-use Rattle.watch.specs.Text.{limit}
 use Rattle.console.specs.declared.Status.{Status}
 use Rattle.console.specs.declared.Status.the-variants.{More, Line, Last, Over}
 use Rattle.console.specs.declared.Reader.{Reader}
-use Rattle.console.specs.Lines.{pushed, last, handed, heldIn, bytesIn, Goes, Within, Took, isMore, isLine, endOf, Found, Next}
+use Rattle.console.specs.Lines.{firstReader, readerBehind, pushed, last, handed, heldIn, bytesIn, Goes, Within, Took, isMore, isLine, endOf, Found, Next}
 
 -- ---- the lines handed on, by the first byte
 
@@ -315,21 +314,8 @@ line-status Line e = refl
 line-status Last e = absurd (true≢false (sym e))
 line-status Over e = absurd (true≢false (sym e))
 
--- how the first line is begun
-abbrev pub begun : Reader
-begun = record { at = 0; end = 0; len = 0; left = limit; status = More }
+pub within-first : (q : Reader) → q ≡ firstReader → Within q 512
+within-first q e = within-same q firstReader 512 e (record { at = omega arith; end = omega arith; len = omega arith })
 
--- how the next line is begun
-abbrev pub onward : Reader → Reader
-onward r = record { at = r .at; end = r .end; len = 0; left = r .left; status = More }
-
-pub within-begun : (q : Reader) → q ≡ begun → Within q 512
-within-begun q e = within-same q begun 512 e (record { at = omega arith; end = omega arith; len = omega arith })
-
-pub within-onward : (q r : Reader) → q ≡ onward r → Within r 512 → Within q 512
-within-onward q r e w = within-same q (onward r) 512 e (record { at = w .at; end = w .end; len = omega arith })
-
--- each line takes off what may still come
-pub onward-fewer : (r : Reader) (held buf : List ℕ) (r′ : Reader) (held′ buf′ : List ℕ) → Next r held buf r′ held′ buf′
-    → (q : Reader) → q ≡ onward r′ → isLine (r′ .status) ≡ true → q .left < r .left
-onward-fewer r held buf r′ held′ buf′ n q b e = omega (arith, ap (λ (x : Reader). x .left) b, n .falls (line-status (r′ .status) e))
+pub within-behind : (q r : Reader) → q ≡ readerBehind r → Within r 512 → Within q 512
+within-behind q r e w = within-same q (readerBehind r) 512 e (record { at = w .at; end = w .end; len = omega arith })

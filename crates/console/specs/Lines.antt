@@ -87,6 +87,14 @@ isLine Line = true
 isLine Last = false
 isLine Over = false
 
+-- before the first byte
+abbrev pub firstReader : Reader
+firstReader = record { at = 0; end = 0; len = 0; left = limit; status = More }
+
+-- behind a line: no byte of the next is held
+abbrev pub readerBehind : Reader → Reader
+readerBehind r = record { at = r .at; end = r .end; len = 0; left = r .left; status = More }
+
 -- where the input ends
 unfoldable pub endOf : Reader → Reader
 endOf r = cond (eqb (r .len) 0)

@@ -5,8 +5,7 @@ use libc::STDOUT_FILENO;
 use verdict::Answer;
 ghost use mathlib.Core.Path.{_≡_};
 ghost use lib.ListN.{length};
-ghost use Rattle.watch.specs.Text.{limit};
-ghost use Rattle.console.specs.Lines.{chunk, heldMost, Within, Took, Next, isMore, hasLine, isLine, endOf, bytesTold, Printed};
+ghost use Rattle.console.specs.Lines.{chunk, heldMost, Within, Took, Next, isMore, hasLine, isLine, firstReader, readerBehind, endOf, bytesTold, Printed};
 
 // A read brings at most so many bytes.
 pub const CHUNK: usize = 512;
@@ -46,14 +45,14 @@ fn standing(at: usize, end: usize, len: usize, left: usize, status: Status) -> R
 
 // The reader before the first byte.
 pub fn begin() -> Reader
-    ensures { λ r. ⌜ r ≡ record { at = 0; end = 0; len = 0; left = limit; status = Status.More } ⌝ }
+    ensures { λ r. ⌜ r ≡ firstReader ⌝ }
 {
     standing(0, 0, 0, watch::LIMIT, Status::More)
 }
 
 // The reader behind a line.
 pub fn onward(r: Reader) -> Reader
-    ensures { λ s. ⌜ s ≡ record { at = r .at; end = r .end; len = 0; left = r .left; status = Status.More } ⌝ }
+    ensures { λ s. ⌜ s ≡ readerBehind r ⌝ }
 {
     standing(r.at, r.end, 0, r.left, Status::More)
 }
