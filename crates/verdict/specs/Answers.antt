@@ -34,7 +34,7 @@ answerIs spent kept stem len = cond (eqb len 0) (Clear spent kept) (Round spent 
 unfoldable pub shownWalk : ℕ → List ℕ → List ℕ → List ℕ
 shownWalk n walk lent = take n walk ++ drop n lent
 
--- what telling leaves: the answer, and the walk at the head of the list, where it fits
+-- What telling leaves: the answer, and the walk at the head of the list, where it fits. Only a forged session has a walk that does not: of what the list then holds nothing is said.
 pub record Tells (spent kept stem len : ℕ) (walk lent : List ℕ) (r : Answer) (lent′ : List ℕ) : Type 0 where
   pub answer-is : r ≡ answerIs spent kept stem len
   pub wrote : stem ≤ len → len ≤ 512 → len ≤ length lent → lent′ ≡ shownWalk len walk lent
