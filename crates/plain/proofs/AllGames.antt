@@ -7,7 +7,7 @@ use Rattle.plain.specs.Search.{onPath, finishes, step, steps, finished, 
 use Rattle.plain.specs.Table.{bit, accepts, withBit, withMark, withoutBit, withoutMark, countBelow, acceptingCount, row, budget, final, firstMeeting}
 use Rattle.plain.specs.Refusals.{firstHeld, pairs, sameEdge, present, badSize, badStart, badMarks, badCount, outside, repeated, beyond, full, shortRoom, loadTrial}
 use Rattle.plain.specs.Machine.{named, tableOf, without, apply, conditions, changeTrial, lineConditions, changesIn, applyAll, namedAll, linesTrial, batchTrial, applied, namedBy, updateTrial, positionIn, unexplored, passedOver, keepsAll, keptPart, kept, loadAnswer, trialOf, updateAnswer, answerTo, tableAfter, answers, answerLine, answerLines, Line, gameLine, noneLine, transcript}
-use Rattle.plain.specs.Games.{Known, wordOf, knownBy, known, lent, returning, switching, games}
+use Rattle.plain.specs.Games.{Known, wordOf, knownBy, known, lent, gameH, returning, switching, games}
 
 -- the lines printed for a game
 abbrev printed : Known → List Line
@@ -24,7 +24,7 @@ two-payers = known 4 (0 ∷ 1 ∷ []) (0 ∷ 1 ∷ 1 ∷ 2 ∷ []) [] (gameLine 
 
 -- that one, and the known ones
 as-known : AsKnown (two-payers ∷ games)
-unfolding any all filter anyBelow elem before from onPath finishes step steps finished until statesOf stemOf cycleOf verdict bit accepts withBit withMark withoutBit withoutMark countBelow acceptingCount row budget final firstMeeting firstHeld pairs sameEdge present badSize badStart badMarks badCount outside repeated beyond full shortRoom loadTrial named tableOf without apply conditions changeTrial lineConditions changesIn applyAll namedAll linesTrial batchTrial applied namedBy updateTrial positionIn unexplored passedOver keepsAll keptPart kept loadAnswer trialOf updateAnswer answerTo tableAfter answers answerLine answerLines transcript wordOf knownBy known lent returning switching games two-payers
+unfolding any all filter anyBelow elem before from onPath finishes step steps finished until statesOf stemOf cycleOf verdict bit accepts withBit withMark withoutBit withoutMark countBelow acceptingCount row budget final firstMeeting firstHeld pairs sameEdge present badSize badStart badMarks badCount outside repeated beyond full shortRoom loadTrial named tableOf without apply conditions changeTrial lineConditions changesIn applyAll namedAll linesTrial batchTrial applied namedBy updateTrial positionIn unexplored passedOver keepsAll keptPart kept loadAnswer trialOf updateAnswer answerTo tableAfter answers answerLine answerLines transcript wordOf knownBy known lent gameH returning switching games two-payers
 as-known = (refl, (refl, (refl, (refl, (refl, (refl, (refl, (refl, (refl, (refl, (refl, (refl, (refl, (refl, (refl, (refl, (refl, (refl, (refl, (refl, (refl, (refl, (refl, tt)))))))))))))))))))))))
 
 all-of : (ks : List Known) → AsKnown ks → map printed ks ≡ map (λ (k : Known). k .lines) ks

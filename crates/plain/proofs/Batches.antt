@@ -13,7 +13,7 @@ use Rattle.plain.specs.Search.{Config, discoveredOf, meets, run}
 use Rattle.plain.specs.Unexplored.{Shared}
 use Rattle.plain.specs.Table.{Table, searched, budget, final}
 use Rattle.plain.specs.Refusals.{Trial, accepted, refused, firstHeld, shortRoom, roomCondition}
-use Rattle.plain.specs.Machine.{Change, add, cut, mark, unmark, named, apply, conditions, changeTrial, BatchLine, makes, other, lineConditions, BatchTrial, changesIn, applyAll, namedAll, linesTrial, batchTrial, Update, single, batch, applied, namedBy, updateTrial, unexplored, passedOver, keepsAll}
+use Rattle.plain.specs.Machine.{Change, add, cut, mark, unmark, named, apply, conditions, changeTrial, BatchLine, makes, other, lineConditions, BatchTrial, changesIn, applyAll, namedAll, linesTrial, batchTrial, Update, single, batch, changesOf, applied, namedBy, updateTrial, unexplored, passedOver, keepsAll}
 use Rattle.plain.specs.Claims.{Arises, changed, AllAccepted}
 use Rattle.plain.proofs.Tests.{contra, either, or-true, or-false, and-true, not-in, in-left, in-right, any-in, any-some}
 use Rattle.plain.proofs.Trials.{passed, last-free, unheld, never-handed, change-never-7}
@@ -206,11 +206,6 @@ reached-met t (c ∷ cs) e = ⊎-elim
     (λ k. meets-left (named c) (namedAll cs) (final t) (reached-one c t k .1)) (either (passedOver c t))
 
 -- ---- of every call
-
--- the changes that it makes
-unfoldable pub changesOf : Update → List Change
-changesOf (single c) = c ∷ []
-changesOf (batch xs) = changesIn xs
 
 -- an accepted call, as its changes
 pub record Made (u : Update) (t : Table) (room : ℕ) : Type 0 where

@@ -23,6 +23,8 @@ pub mod Batches
 pub mod Demands
 pub mod Limits
 pub mod OneByOne
+pub mod Views
+pub mod Orders
 pub mod Answers
 pub mod Loops
 pub mod Fresh

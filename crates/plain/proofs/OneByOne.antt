@@ -2,7 +2,7 @@
 use mathlib.Core.Path.{_≡_, refl, sym, ap, _∙_}
 use mathlib.Core.Logic.{inr, ⊎-elim}
 use mathlib.Core.Bool.{Bool, true, false, _&&_, _||_, not}
-use mathlib.Core.List.{List, [], _∷_, append-nil, map}
+use mathlib.Core.List.{List, [], _∷_, _++_, append-nil, map}
 use Prim.Native.Nat.{ℕ, zero, suc, _+_, _-_, _≤_}
 use native.Mathlib.Omega.{arith}
 use lib.ListN.{length, take, length-map}
@@ -12,14 +12,15 @@ use Rattle.plain.specs.Lists.{any, all}
 use Rattle.plain.specs.Search.{meets, verdict, count}
 use Rattle.plain.specs.Table.{Table, searched, budget, final, firstMeeting}
 use Rattle.plain.specs.Refusals.{Trial, accepted, refused, firstHeld, shortRoom, roomCondition}
-use Rattle.plain.specs.Machine.{Change, named, apply, conditions, changeTrial, BatchLine, makes, lineConditions, BatchTrial, changesIn, applyAll, namedAll, linesTrial, batchTrial, single, batch, applied, namedBy, updateTrial, positionIn, atLine, unexplored, passedOver, keepsAll, keptPart, kept, Answer, refusal, answer, after, Call, callFor, batchCall, trialOf, updateAnswer, answerTo, tableAfter, answers}
+use Rattle.plain.specs.Machine.{Change, named, apply, conditions, changeTrial, BatchLine, makes, lineConditions, BatchTrial, changesIn, applyAll, namedAll, linesTrial, batchTrial, Update, single, batch, changesOf, applied, namedBy, updateTrial, positionIn, atLine, unexplored, passedOver, keepsAll, keptPart, kept, Answer, refusal, answer, loadAnswer, after, Call, callFor, batchCall, trialOf, updateAnswer, answerTo, tableAfter, answers}
 use Rattle.plain.specs.Notes.{notes}
-use Rattle.plain.specs.Claims.{Arises, changed, AllAccepted, Reports, tableBehind, lastOf, OneByOne, AsOne}
+use Rattle.plain.specs.Claims.{Arises, changed, AllAccepted, totalled, Reports, tableBehind, lastOf, OneByOne, AsOne}
+use Rattle.plain.specs.Orders.{changesAsked, EachAccepted}
 use Rattle.plain.proofs.Tests.{either}
 use Rattle.plain.proofs.Trials.{held-later, accepted-when, last-free}
 use Rattle.plain.proofs.Tables.{Valid, valid, valid-change, room-enough}
 use Rattle.plain.proofs.Resume.{holds-notes}
-use Rattle.plain.proofs.Batches.{accepted-not, line-accepted, line-refused, line-few, batch-tried, batch-short, batch-few, batch-made}
+use Rattle.plain.proofs.Batches.{accepted-not, line-accepted, line-refused, line-few, batch-tried, batch-short, batch-few, batch-made, update-arises}
 use Rattle.plain.proofs.Demands.{ended-within, kept-all, kept-meeting, update-same, demand-3-kept}
 
 -- ---- one by one
@@ -45,29 +46,65 @@ table-refused c t n e = ap (λ (x : Trial). after x (applied (c .update) t) t) e
 
 -- an accepted call's answer tells the table that it leaves
 call-reports : (c : Call) (t : Table) → Arises t → trialOf c t ≡ accepted → Reports (answerTo c t) (applied (c .update) t)
-call-reports c t a e = record { spent = _; kept = _; answer-is = answer-accepted c t e; total = demand-3-kept c t a e .adds-up }
+unfolding totalled loadAnswer
+call-reports c t a e = ap totalled (answer-accepted c t e) ∙ ap (λ (n : ℕ). answer (verdict (final (applied (c .update) t))) n 0) (demand-3-kept c t a e .adds-up)
 
 -- a call that makes one change is accepted where the change is
-single-trial : (room : ℕ) (c : Change) (t : Table) → trialOf (callFor room c) t ≡ changeTrial c t room
+pub single-trial : (room : ℕ) (c : Change) (t : Table) → trialOf (callFor room c) t ≡ changeTrial c t room
 unfolding trialOf updateTrial
 single-trial room c t = refl
 
-single-table : (room : ℕ) (c : Change) (t : Table) → changeTrial c t room ≡ accepted → tableAfter (callFor room c) t ≡ apply c t
+pub single-table : (room : ℕ) (c : Change) (t : Table) → changeTrial c t room ≡ accepted → tableAfter (callFor room c) t ≡ apply c t
 unfolding applied
 single-table room c t e = table-accepted (callFor room c) t (single-trial room c t ∙ e)
 
--- changes made one by one, and the last answer
-behind-all : (room : ℕ) (cs : List Change) (t : Table) → AllAccepted room cs t → tableBehind (map (callFor room) cs) t ≡ applyAll cs t
-unfolding tableBehind applyAll
-behind-all room [] t h = refl
-behind-all room (c ∷ cs) t h = ap (tableBehind (map (callFor room) cs)) (single-table room c t (h .0)) ∙ behind-all room cs (apply c t) (h .1)
+-- a list of accepted calls, as their changes
+applied-all : (u : Update) (t : Table) → applied u t ≡ applyAll (changesOf u) t
+unfolding applied changesOf applyAll
+applied-all (single c) t = refl
+applied-all (batch xs) t = refl
 
-last-reports : (room : ℕ) (cs : List Change) (t : Table) → Arises t → AllAccepted room cs t → (before : Answer) → Reports before t
-    → Reports (lastOf before (answers (map (callFor room) cs) t)) (applyAll cs t)
-unfolding lastOf answers applyAll applied
-last-reports room [] t a h before w = w
-last-reports room (c ∷ cs) t a h before w = rw (single-table room c t (h .0))
-    (last-reports room cs (apply c t) (changed t c room a (h .0)) (h .1) (answerTo (callFor room c) t) (call-reports (callFor room c) t a (single-trial room c t ∙ h .0)))
+apply-append : (cs ds : List Change) (t : Table) → applyAll (cs ++ ds) t ≡ applyAll ds (applyAll cs t)
+unfolding applyAll
+apply-append [] ds t = refl
+apply-append (c ∷ cs) ds t = apply-append cs ds (apply c t)
+
+pub behind-calls : (cs : List Call) (t : Table) → EachAccepted cs t → tableBehind cs t ≡ applyAll (changesAsked cs) t
+unfolding tableBehind changesAsked applyAll
+behind-calls [] t h = refl
+behind-calls (c ∷ cs) t h =
+    behind-calls cs (tableAfter c t) (h .1)
+    ∙ ap (applyAll (changesAsked cs)) (table-accepted c t (h .0) ∙ applied-all (c .update) t)
+    ∙ sym (apply-append (changesOf (c .update)) (changesAsked cs) t)
+
+-- an accepted call leaves a table that a session can hold, and its answer tells it
+after-arises : (c : Call) (t : Table) → Arises t → trialOf c t ≡ accepted → Arises (tableAfter c t)
+unfolding trialOf
+after-arises c t a e = rw (table-accepted c t e) (update-arises (c .update) t (c .room) a e)
+
+after-reports : (c : Call) (t : Table) → Arises t → trialOf c t ≡ accepted → Reports (answerTo c t) (tableAfter c t)
+after-reports c t a e = rw (table-accepted c t e) (call-reports c t a e)
+
+-- the last answer of accepted calls tells the table behind them
+pub last-told : (cs : List Call) (t : Table) → Arises t → EachAccepted cs t → (before : Answer) → Reports before t → Reports (lastOf before (answers cs t)) (tableBehind cs t)
+unfolding lastOf answers tableBehind
+last-told [] t a h before w = w
+last-told (c ∷ cs) t a h before w = last-told cs (tableAfter c t) (after-arises c t a (h .0)) (h .1) (answerTo c t) (after-reports c t a (h .0))
+
+-- a load's answer tells its table
+pub fresh-reports : (t : Table) → Reports (loadAnswer accepted t) t
+unfolding totalled loadAnswer
+fresh-reports t = ap (λ (n : ℕ). answer (verdict (final t)) n 0) (omega arith)
+
+-- changes made one by one
+pub each-call : (room : ℕ) (cs : List Change) (t : Table) → AllAccepted room cs t → EachAccepted (map (callFor room) cs) t
+each-call room [] t h = tt
+each-call room (c ∷ cs) t h = (single-trial room c t ∙ h .0, rw (single-table room c t (h .0)) (each-call room cs (apply c t) (h .1)))
+
+asked-each : (room : ℕ) (cs : List Change) → changesAsked (map (callFor room) cs) ≡ cs
+unfolding changesAsked changesOf
+asked-each room [] = refl
+asked-each room (c ∷ cs) = ap (λ (ds : List Change). c ∷ ds) (asked-each room cs)
 
 batch-accepted : (room : ℕ) (xs : List BatchLine) (t : Table) → trialOf (batchCall room xs) t ≡ accepted → batchTrial xs t room .trial ≡ accepted
 unfolding trialOf updateTrial
@@ -79,15 +116,15 @@ batch-table room xs t e = table-accepted (batchCall room xs) t e
 
 -- THE THEOREM of an accepted batch
 pub one-by-one : (xs : List BatchLine) (t : Table) (room : ℕ) → Arises t → trialOf (batchCall room xs) t ≡ accepted → OneByOne xs t room
-unfolding applied
 one-by-one xs t room a e =
     let h = batch-made xs t room (batch-accepted room xs t e) .1 in
-    let u = batch-table room xs t e in
+    let each = each-call room (changesIn xs) t h in
+    let same = behind-calls (map (callFor room) (changesIn xs)) t each ∙ ap (λ (cs : List Change). applyAll cs t) (asked-each room (changesIn xs)) ∙ sym (batch-table room xs t e) in
     record {
       each-accepted = h;
-      same-table = behind-all room (changesIn xs) t h ∙ sym u;
-      batch-tells = rw u (call-reports (batchCall room xs) t a e);
-      last-tells = λ before w. rw u (last-reports room (changesIn xs) t a h before w);
+      same-table = same;
+      batch-tells = after-reports (batchCall room xs) t a e;
+      last-tells = λ before w. rw (← same) (last-told (map (callFor room) (changesIn xs)) t a each before w);
     }
 
 -- ---- a batch of one change
@@ -150,7 +187,7 @@ module _ (c : Change) (t : Table) (room : ℕ) where
           kept-meeting (batch only) t (one-keeps ∙ ap (λ (b : Bool). (b || not (meets (named c) (final t))) && true) f ∙ ap (λ (b : Bool). b && true) k)
           ∙ (λ i. firstMeeting (one-named i) (one-applied i)) ∙ sym (kept-meeting (single c) t (alone-keeps ∙ f))
 
-  roomy : t .size ≤ room → firstHeld (roomCondition (t .size) room) ≡ accepted
+  pub roomy : t .size ≤ room → firstHeld (roomCondition (t .size) room) ≡ accepted
   unfolding shortRoom any
   roomy h = held-later _ _ (le-ltb room (t .size) h) ∙ accepted-when [] refl
 

@@ -107,6 +107,14 @@ without-none (f ∷ es) e n =
     let w = none-cons (sameEdge e) f es n in
     cut-no e f es (w .0) ∙ ap (λ (l : List Edge). f ∷ l) (without-none es e (w .1))
 
+-- an edge that is added and cut straight away: the list is the one before
+pub without-newest : (es : List Edge) (e : Edge) → present es e ≡ false → without e (es ++ (e ∷ [])) ≡ es
+unfolding present without filter
+without-newest [] e n = cut-yes e e [] (same-self e)
+without-newest (f ∷ es) e n =
+    let w = none-cons (sameEdge e) f es n in
+    cut-no e f (es ++ (e ∷ [])) (w .0) ∙ ap (λ (l : List Edge). f ∷ l) (without-newest es e (w .1))
+
 -- the targets of a row but for y
 abbrev pub but : ℕ → List ℕ → List ℕ
 but y ys = filter (λ x. not (eqb y x)) ys
@@ -176,6 +184,23 @@ without-length (f ∷ es) e r h =
     (λ z. let y : e ≡ f = same-edge e f z in omega (arith, ap length (cut-yes e f es z), ap length (without-none es e (rw y (w .0)))))
     (λ z. omega (arith, ap length (cut-no e f es z), without-length es e (w .1) (⊎-elim (λ y. absurd (contra (rw y (same-self f)) z)) (λ i. i) (has-cases e f es h))))
     (either (sameEdge e f))
+
+-- a cut takes as many edges as it takes targets out of the row
+pub cut-count : (es : List Edge) (e : Edge) → length es + length (row (without e es) (e .0)) ≡ length (without e es) + length (row es (e .0))
+unfolding without filter
+cut-count [] e = refl
+cut-count (f ∷ es) e = ⊎-elim
+    (λ h. let z : e ≡ f = same-edge e f h in
+    let here : eqb (f .0) (e .0) ≡ true = rw z (self (f .0)) in
+    omega (arith, cut-count es e, ap length (cut-yes e f es h), ap (λ (l : List Edge). length (row l (e .0))) (cut-yes e f es h), ap length (row-yes f es (e .0) here)))
+    (λ h. omega (
+      arith,
+      cut-count es e,
+      ap length (cut-no e f es h),
+      ap (λ (l : List Edge). length (row l (e .0))) (cut-no e f es h),
+      row-length f (without e es) (e .0),
+      row-length f es (e .0),
+    )) (either (sameEdge e f))
 
 -- an edge that is cut and added again is the newest of its row
 pub row-again : (es : List Edge) (e : Edge) → row (without e es ++ (e ∷ [])) (e .0) ≡ but (e .1) (row es (e .0)) ++ (e .1 ∷ [])

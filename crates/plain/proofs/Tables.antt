@@ -14,7 +14,7 @@ use Rattle.plain.specs.Table.{Table, accepts, withMark, withoutMark}
 use Rattle.plain.specs.Refusals.{accepted, pairs, sameEdge, present, badSize, badStart, badMarks, badCount, outside, repeated, beyond, full, shortRoom, Load, loadTrial}
 use Rattle.plain.specs.Machine.{Change, add, cut, mark, unmark, tableOf, without, withWords, conditions, apply, changeTrial}
 use Rattle.plain.specs.Claims.{Arises, loaded, changed}
-use Rattle.plain.proofs.Tests.{contra, either, not-true, same, or-false, or-neither, any-cases, none-cons, filter-yes, filter-no}
+use Rattle.plain.proofs.Tests.{contra, either, not-true, same, or-false, or-neither, any-cases, none-cons, filter-yes, filter-no, filter-short}
 use Rattle.plain.proofs.Trials.{unheld, passed-behind}
 use Rattle.plain.proofs.Edges.{same-edge, same-self}
 use Rattle.plain.proofs.Words.{accepts-marked-other, accepts-unmarked-other}
@@ -45,13 +45,6 @@ any-filter p q (x ∷ es) f =
     ⊎-elim
     (λ h. rw (filter-yes q x es h) (not-true (any p (x ∷ filter q es)) (λ a. ⊎-elim (λ z. contra z (w .0)) (λ z. contra z (any-filter p q es (w .1))) (any-cases p x (filter q es) a))))
     (λ h. rw (filter-no q x es h) (any-filter p q es (w .1))) (either (q x))
-
-length-filter : (q : Edge → Bool) (es : List Edge) → length (filter q es) ≤ length es
-unfolding filter
-length-filter q [] = omega arith
-length-filter q (x ∷ es) = ⊎-elim
-    (λ h. omega (arith, ap length (filter-yes q x es h), length-filter q es))
-    (λ h. omega (arith, ap length (filter-no q x es h), length-filter q es)) (either (q x))
 
 same-sym : (e f : Edge) → sameEdge e f ≡ false → sameEdge f e ≡ false
 same-sym e f n = not-true (sameEdge f e) (λ h. let z : f ≡ e = same-edge f e h in contra (rw z (same-self e)) n)
@@ -122,7 +115,7 @@ valid-cut t e v = record {
   size-ok = v .size-ok;
   start-ok = v .start-ok;
   marks-ok = v .marks-ok;
-  count-ok = omega (arith, length-filter (λ f. not (sameEdge e f)) (t .edges), v .count-ok);
+  count-ok = omega (arith, filter-short (λ f. not (sameEdge e f)) (t .edges), v .count-ok);
   inside = any-filter (outside (t .size)) (λ f. not (sameEdge e f)) (t .edges) (v .inside);
   once = repeated-filter (λ f. not (sameEdge e f)) (t .edges) (v .once);
 }

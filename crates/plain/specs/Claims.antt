@@ -84,12 +84,14 @@ abbrev pub AsFresh : Call → Table → Type 0
 AsFresh c t = (v : Verdict) (spent kept : ℕ) → answerTo c t ≡ answer v spent kept
     → loadAnswer (loadTrial (loadFrom (tableAfter c t)) (c .room)) (tableOf (loadFrom (tableAfter c t))) ≡ answer v (kept + spent) 0
 
--- the answer tells the verdict and the walk of a table, and its looks are those of its search, kept and spent together
-pub record Reports (a : Answer) (t : Table) : Type 0 where
-  pub spent : ℕ
-  pub kept : ℕ
-  pub answer-is : a ≡ answer (verdict (final t)) spent kept
-  pub total : kept + spent ≡ count (final t)
+-- an answer with its looks taken together: the verdict, the walk, and the total of kept and spent
+unfoldable pub totalled : Answer → Answer
+totalled (refusal r) = refusal r
+totalled (answer v spent kept) = answer v (kept + spent) 0
+
+-- the answer tells the verdict and the walk of a table, and its looks, kept and spent together, are those of its search: what a load of that table tells
+abbrev pub Reports : Answer → Table → Type 0
+Reports a t = totalled a ≡ loadAnswer accepted t
 
 -- the table behind some calls, and the last of some answers
 unfoldable pub tableBehind : List Call → Table → Table

@@ -33,6 +33,11 @@ known n paying numbers cs ls = knownBy n paying numbers (map single cs) ls
 unfoldable pub lent : Update → Call
 lent u = record { update = u; room = 512 }
 
+-- H, its last line as ticket 4 has it
+unfoldable pub gameH : Known
+gameH = known 3 (1 ∷ 2 ∷ []) (0 ∷ 1 ∷ 0 ∷ 2 ∷ 1 ∷ 0 ∷ 2 ∷ 0 ∷ []) (cut (0, 1) ∷ add (0, 1) ∷ [])
+    (gameLine 3 4 2 ∷ roundLine 3 0 0 2 (0 ∷ 1 ∷ []) ∷ roundLine 3 0 0 2 (0 ∷ 2 ∷ []) ∷ roundLine 0 3 0 2 (0 ∷ 2 ∷ []) ∷ [])
+
 -- Ticket 1, "though the search may answer another": state 1 pays and returns to itself, and the older way back to 0 is found first
 unfoldable pub returning : Known
 returning = known 2 (1 ∷ []) (0 ∷ 1 ∷ 1 ∷ 0 ∷ 1 ∷ 1 ∷ []) [] (gameLine 2 3 1 ∷ roundLine 4 0 0 2 (0 ∷ 1 ∷ []) ∷ [])
@@ -66,9 +71,7 @@ games =
     ∷ known 3 (0 ∷ []) (0 ∷ 1 ∷ 1 ∷ 2 ∷ 2 ∷ 1 ∷ []) [] (gameLine 3 3 1 ∷ noneLine 6 0 ∷ [])
     -- G
     ∷ known 3 (1 ∷ []) (1 ∷ 2 ∷ 2 ∷ 1 ∷ []) [] (gameLine 3 2 1 ∷ noneLine 0 0 ∷ [])
-    -- H, its last line as ticket 4 has it
-    ∷ known 3 (1 ∷ 2 ∷ []) (0 ∷ 1 ∷ 0 ∷ 2 ∷ 1 ∷ 0 ∷ 2 ∷ 0 ∷ []) (cut (0, 1) ∷ add (0, 1) ∷ [])
-    (gameLine 3 4 2 ∷ roundLine 3 0 0 2 (0 ∷ 1 ∷ []) ∷ roundLine 3 0 0 2 (0 ∷ 2 ∷ []) ∷ roundLine 0 3 0 2 (0 ∷ 2 ∷ []) ∷ [])
+    ∷ gameH
     -- I
     ∷ known 3 (0 ∷ 1 ∷ []) (0 ∷ 1 ∷ 1 ∷ 2 ∷ 2 ∷ 1 ∷ []) [] (gameLine 3 3 2 ∷ roundLine 5 0 1 2 (0 ∷ 1 ∷ 2 ∷ []) ∷ [])
     -- Ticket 1: a paying state that returns to itself

@@ -113,6 +113,11 @@ pub data Update : Type 0 where
   single : Change → Update
   batch : List BatchLine → Update
 
+-- the changes that it makes
+unfoldable pub changesOf : Update → List Change
+changesOf (single c) = c ∷ []
+changesOf (batch xs) = changesIn xs
+
 -- the table that it leaves where it is accepted; of a batch "all are done or none"
 unfoldable pub applied : Update → Table → Table
 applied (single c) t = apply c t

@@ -13,14 +13,14 @@ use Rattle.plain.specs.Search.{Graph, Frame, frame, Config, outer, nested, exha
 use Rattle.plain.specs.Unexplored.{bareFrames, bare}
 use Rattle.plain.specs.Table.{Table, searched, final}
 use Rattle.plain.specs.Refusals.{Trial, accepted, refused}
-use Rattle.plain.specs.Machine.{BatchLine as PlainLine, makes, Update as PlainUpdate, applied, namedBy, updateTrial, Position as PlainPosition, positionIn, passedOver, keepsAll, keptPart, kept, Answer as PlainAnswer, refusal, answer, trialOf, answerTo, written, answerLine}
+use Rattle.plain.specs.Machine.{BatchLine as PlainLine, makes, Update as PlainUpdate, changesOf, applied, namedBy, updateTrial, Position as PlainPosition, positionIn, passedOver, keepsAll, keptPart, kept, Answer as PlainAnswer, refusal, answer, trialOf, answerTo, written, answerLine}
 use Rattle.plain.specs.Notes.{Notes, Faithful}
 use Rattle.plain.proofs.Tests.{either, in-one, any-some}
 use Rattle.plain.proofs.Prefix.{FirstMeeting}
 use Rattle.plain.proofs.Resume.{earliest}
 use Rattle.plain.proofs.Tables.{Valid, valid}
 use Rattle.plain.proofs.SameRun.{alike, alike-discovered, alike-marked, alike-probes, alike-verdict}
-use Rattle.plain.proofs.Batches.{taken-here, changesOf, Made, update-made, update-valid, update-arises, update-size, update-start, update-agree, update-room}
+use Rattle.plain.proofs.Batches.{taken-here, Made, update-made, update-valid, update-arises, update-size, update-start, update-agree, update-room}
 use Rattle.plain.proofs.Demands.{run-final, verdict-right, kept-meeting, Untouched, update-same, update-met}
 use Rattle.plain.proofs.OneByOne.{answer-accepted, table-accepted, answer-refused, table-refused}
 use Rattle.look.specs.Numbers.{plus}

@@ -8,10 +8,10 @@ use lib.Dec.{eqb}
 use borrow.Author.Tests.{le-leb}
 use Rattle.plain.specs.Table.{Table}
 use Rattle.plain.specs.Refusals.{accepted, refused, beyond, roomCondition}
-use Rattle.plain.specs.Machine.{Change, add, cut, mark, unmark, BatchLine as PlainLine, makes, Update as PlainUpdate, single, batch, applied, updateTrial, positionIn}
+use Rattle.plain.specs.Machine.{Change, add, cut, mark, unmark, BatchLine as PlainLine, makes, Update as PlainUpdate, single, batch, changesOf, applied, updateTrial, positionIn}
 use Rattle.plain.proofs.Trials.{held-first, held-later}
 use Rattle.plain.proofs.Tables.{Valid}
-use Rattle.plain.proofs.Batches.{changesOf, batch-made}
+use Rattle.plain.proofs.Batches.{batch-made}
 use Rattle.table.specs.declared.Update.{Update}
 use Rattle.table.specs.declared.Update.the-variants as Update
 use Rattle.table.specs.declared.Position.the-variants as Position

@@ -1,0 +1,142 @@
+-- TICKET 7: changes that name different states, in any order; a move that is added and cut; one that is cut and added. Assumes nothing.
+use mathlib.Core.Path.{_≡_, refl, sym, ap, _∙_}
+use mathlib.Core.Logic.{_≢_, ⊎-elim}
+use mathlib.Core.Bool.{true, false, not}
+use mathlib.Core.List.{List, [], _∷_, _++_, append-assoc}
+use Prim.Native.Nat.{ℕ}
+use native.Mathlib.Omega.{arith}
+use lib.Dec.{eqb}
+use Rattle.plain.specs.Lists.{any, all, filter, anyBelow, elem, before, from}
+use Rattle.plain.specs.Search.{Edge, Config, onPath, finishes, step, steps, finished, until, statesOf, stemOf, cycleOf, verdict, count}
+use Rattle.plain.specs.Table.{Table, bit, accepts, row, budget, final, firstMeeting}
+use Rattle.plain.specs.Refusals.{accepted, firstHeld, pairs, sameEdge, present, badSize, badStart, badMarks, badCount, outside, repeated, full, shortRoom, loadTrial}
+use Rattle.plain.specs.Machine.{Change, add, cut, named, tableOf, withEdges, without, apply, conditions, changeTrial, changesIn, applyAll, namedAll, changesOf, applied, namedBy, updateTrial, unexplored, keepsAll, keptPart, kept, answer, loadAnswer, callFor, trialOf, updateAnswer, answerTo, tableAfter, answers}
+use Rattle.plain.specs.Claims.{loaded, totalled, tableBehind, lastOf}
+use Rattle.plain.specs.Orders.{SameView, Apart, TwoOrders, Reordered, nothing, first, changesAsked, EachAccepted, AnyOrders, addAndCut, BringsBack, CutFollows, cutAndAdd, NotBroughtBack}
+use Rattle.plain.specs.Games.{wordOf, knownBy, known, gameH}
+use Rattle.plain.proofs.Tests.{in-head, in-right, or-false, or-neither}
+use Rattle.plain.proofs.Trials.{held-later, unheld}
+use Rattle.plain.proofs.Rows.{row-has, row-add, without-newest}
+use Rattle.plain.proofs.Tables.{room-enough}
+use Rattle.plain.proofs.OneByOne.{single-trial, single-table, behind-calls, last-told, fresh-reports, each-call, roomy}
+use Rattle.plain.proofs.Views.{stateOf, named-is, view-refl, view-trans, same-apply-all, swapped, only-rows}
+
+-- ---- the states that changes name
+
+named-first : (c : Change) (cs : List Change) → namedAll (c ∷ cs) ≡ stateOf c ∷ namedAll cs
+unfolding namedAll
+named-first c cs = ap (λ (l : List ℕ). l ++ namedAll cs) (named-is c)
+
+-- a state that is not named by some is not the first's, nor named by the rest
+unnamed-cons : (x : ℕ) (c : Change) (cs : List Change) → elem x (namedAll (c ∷ cs)) ≡ false → (eqb x (stateOf c) ≡ false) × (elem x (namedAll cs) ≡ false)
+unfolding elem
+unnamed-cons x c cs f = or-false (eqb x (stateOf c)) (elem x (namedAll cs)) (rw (named-first c cs) at f)
+
+cons-unnamed : (x : ℕ) (c : Change) (cs : List Change) → eqb x (stateOf c) ≡ false → elem x (namedAll cs) ≡ false → elem x (namedAll (c ∷ cs)) ≡ false
+unfolding elem
+cons-unnamed x c cs f g = rw (named-first c cs) (or-neither (eqb x (stateOf c)) (elem x (namedAll cs)) f g)
+
+-- with one change more among them
+insert-unnamed : (x : ℕ) (c : Change) (before behind : List Change) → eqb x (stateOf c) ≡ false → elem x (namedAll (before ++ behind)) ≡ false → elem x (namedAll (before ++ (c ∷ behind))) ≡ false
+insert-unnamed x c [] behind f g = cons-unnamed x c behind f g
+insert-unnamed x c (d ∷ before) behind f g =
+    let w = unnamed-cons x d (before ++ behind) g in
+    cons-unnamed x d (before ++ (c ∷ behind)) (w .0) (insert-unnamed x c before behind f (w .1))
+
+-- a part of them
+part-unnamed : (x : ℕ) (before behind : List Change) → elem x (namedAll (before ++ behind)) ≡ false → elem x (namedAll before) ≡ false
+unfolding namedAll elem
+part-unnamed x [] behind f = refl
+part-unnamed x (d ∷ before) behind f =
+    let w = unnamed-cons x d (before ++ behind) f in
+    cons-unnamed x d before (w .0) (part-unnamed x before behind (w .1))
+
+-- in another order
+reordered-unnamed : (x : ℕ) (cs ds : List Change) → Reordered cs ds → elem x (namedAll cs) ≡ false → elem x (namedAll ds) ≡ false
+reordered-unnamed x cs ds nothing f = f
+reordered-unnamed x cs ds (first c rest before behind r) f =
+    let w = unnamed-cons x c rest f in
+    insert-unnamed x c before behind (w .0) (reordered-unnamed x rest (before ++ behind) r (w .1))
+
+apart-cons : (c : Change) (cs : List Change) → Apart (c ∷ cs) → (elem (stateOf c) (namedAll cs) ≡ false) × Apart cs
+apart-cons c cs a = rw (named-first c cs) at a
+
+-- ---- the tables that they leave
+
+-- a change can be made ahead of changes that name other states, or behind them
+moved : (c : Change) (before behind : List Change) (t : Table) → elem (stateOf c) (namedAll before) ≡ false
+    → SameView (applyAll (before ++ behind) (apply c t)) (applyAll (before ++ (c ∷ behind)) t)
+unfolding applyAll
+moved c [] behind t f = view-refl (applyAll behind (apply c t))
+moved c (d ∷ before) behind t f =
+    let w = unnamed-cons (stateOf c) d before f in
+    view-trans (same-apply-all (before ++ behind) (swapped c d t (w .0))) (moved c before behind (apply d t) (w .1))
+
+-- changes that name pairwise different states lead to the same view in any order
+any-order : (cs ds : List Change) (t : Table) → Reordered cs ds → Apart cs → SameView (applyAll cs t) (applyAll ds t)
+unfolding applyAll
+any-order cs ds t nothing a = view-refl t
+any-order cs ds t (first c rest before behind r) a =
+    let w = apart-cons c rest a in
+    let other = part-unnamed (stateOf c) before behind (reordered-unnamed (stateOf c) rest (before ++ behind) r (w .0)) in
+    view-trans (any-order rest (before ++ behind) (apply c t) r (w .1)) (moved c before behind t other)
+
+-- ---- what they tell
+
+-- tables with the same view are told alike
+told-alike : (t u : Table) → SameView t u → loadAnswer accepted t ≡ loadAnswer accepted u
+unfolding loadAnswer
+told-alike t u w = ap (λ (c : Config). answer (verdict c) (count c) 0) (only-rows t u w .same-search)
+
+-- ANY ORDERS
+pub any-orders : AnyOrders
+any-orders t cs ds a apart order h k =
+    let w : SameView (tableBehind cs t) (tableBehind ds t) = rw (behind-calls cs t h, behind-calls ds t k) (any-order (changesAsked cs) (changesAsked ds) t order apart) in
+    record {
+      same-report = λ before r. last-told cs t a h before r ∙ told-alike (tableBehind cs t) (tableBehind ds t) w ∙ sym (last-told ds t a k before r);
+      same-after = only-rows (tableBehind cs t) (tableBehind ds t) w .same-answers;
+    }
+
+-- TWO ORDERS
+pub two-orders : TwoOrders
+unfolding changesAsked changesOf lastOf answers
+two-orders t c d room a apart h k =
+    let w = any-orders t (callFor room c ∷ callFor room d ∷ []) (callFor room d ∷ callFor room c ∷ []) a apart
+    (first c (d ∷ []) (d ∷ []) [] (first d [] [] [] nothing)) (each-call room (c ∷ d ∷ []) t h) (each-call room (d ∷ c ∷ []) t k) in
+    rw (single-table room c t (h .0), single-table room d t (k .0)) at (w .same-report (loadAnswer accepted t) (fresh-reports t))
+
+-- ---- there and back
+
+-- what an add's acceptance says
+add-new : (t : Table) (e : Edge) (room : ℕ) → trialOf (callFor room (add e)) t ≡ accepted → present (t .edges) e ≡ false
+unfolding changeTrial conditions
+add-new t e room h = unheld 8 _ (sym (single-trial room (add e) t) ∙ h)
+
+-- ADDED AND CUT
+pub brings-back : BringsBack
+unfolding changesAsked changesOf applyAll apply
+brings-back t e room room₂ a h =
+    let same : tableBehind (addAndCut room room₂ e) t ≡ t =
+    behind-calls (addAndCut room room₂ e) t h ∙ ap (withEdges t) (without-newest (t .edges) e (add-new t e room (h .0))) in
+    record {
+      same-table = same;
+      same-report = λ before r. last-told (addAndCut room room₂ e) t a h before r ∙ ap (loadAnswer accepted) same ∙ sym r;
+    }
+
+-- the cut is accepted where the add is
+pub cut-follows : CutFollows
+unfolding changeTrial conditions apply
+cut-follows t e room a h =
+    let k : changeTrial (add e) t room ≡ accepted = sym (single-trial room (add e) t) ∙ h in
+    let there = row-has (t .edges ++ (e ∷ [])) (e .0) (e .1) (rw (row-add (t .edges) e) (in-right (e .1) (row (t .edges) (e .0)) (e .1 ∷ []) (in-head (e .1) []))) in
+    each-call room (add e ∷ cut e ∷ []) t
+    (k, (held-later _ _ (unheld 6 _ k) ∙ held-later _ _ (ap not there) ∙ roomy (add e) t room (room-enough (add e) t room k), tt))
+
+-- CUT AND ADDED: game H
+pub game-h : NotBroughtBack (cutAndAdd 512 (0, 1)) (tableOf (gameH .load))
+unfolding any all filter anyBelow elem before from onPath finishes step steps finished until statesOf stemOf cycleOf verdict bit accepts row budget final firstMeeting firstHeld pairs sameEdge present badSize badStart badMarks badCount outside repeated full shortRoom loadTrial named tableOf without apply conditions changeTrial changesIn applied namedBy updateTrial unexplored keepsAll keptPart kept loadAnswer trialOf updateAnswer answerTo tableAfter answers totalled lastOf wordOf knownBy known gameH
+game-h = record {
+  arises = loaded (gameH .load) 512 refl;
+  each-accepted = (refl, (refl, tt));
+  other-report = λ e. let z : _≡_ {A = ℕ} 2 1 = cc in omega arith;
+}

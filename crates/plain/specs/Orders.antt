@@ -1,0 +1,96 @@
+-- Document 02, ticket 7: orders of switching. proofs/Orders.antt proves it. Assumes nothing.
+use Prim.Native.Nat.{ℕ}
+use mathlib.Core.Path.{_≡_}
+use mathlib.Core.Logic.{_≢_}
+use mathlib.Core.List.{List, [], _∷_, _++_}
+use lib.ListN.{length}
+use Rattle.plain.specs.Lists.{Once}
+use Rattle.plain.specs.Search.{Edge}
+use Rattle.plain.specs.Table.{Table, accepts, row, final}
+use Rattle.plain.specs.Refusals.{accepted}
+use Rattle.plain.specs.Machine.{Change, add, cut, apply, changesOf, namedAll, Answer, loadAnswer, Call, callFor, trialOf, answerTo, tableAfter, answers}
+use Rattle.plain.specs.Claims.{Arises, AllAccepted, totalled, Reports, tableBehind, lastOf}
+
+-- ---- what a call sees of a table
+
+-- The same rows and the same marks; as many states, moves and words, and the same start state. The order of the whole list of moves is no part of it: only that of each row.
+pub record SameView (t u : Table) : Type 0 where
+  pub same-size : t .size ≡ u .size
+  pub same-start : t .start ≡ u .start
+  pub same-count : length (t .edges) ≡ length (u .edges)
+  pub same-row : (s : ℕ) → row (t .edges) s ≡ row (u .edges) s
+  pub same-words : length (t .words) ≡ length (u .words)
+  pub same-marks : (s : ℕ) → accepts (t .words) s ≡ accepts (u .words) s
+
+-- The search sees no more of a table, and neither do calls, whatever their list.
+pub record SeenAlike (t u : Table) : Type 0 where
+  pub same-search : final t ≡ final u
+  pub same-answers : (cs : List Call) → answers cs t ≡ answers cs u
+
+abbrev pub OnlyRows : Type 0
+OnlyRows = (t u : Table) → SameView t u → SeenAlike t u
+
+-- ---- orders
+
+-- "that leave different states": no two of them name one state
+abbrev pub Apart : List Change → Type 0
+Apart cs = Once (namedAll cs)
+
+-- "two changes of moves that leave different states, one straight after the other from the same session, if accepted in both orders, end in the same verdict, walk and total of
+-- kept and spent in the second answer." It is so of every two changes that name different states, of moves or of marks.
+abbrev pub TwoOrders : Type 0
+TwoOrders = (t : Table) (c d : Change) (room : ℕ) → Arises t → Apart (c ∷ d ∷ [])
+    → AllAccepted room (c ∷ d ∷ []) t → AllAccepted room (d ∷ c ∷ []) t
+    → totalled (answerTo (callFor room d) (apply c t)) ≡ totalled (answerTo (callFor room c) (apply d t))
+
+-- the same changes in another order: the first of one list stands somewhere in the other, and so on with the rest
+pub data Reordered : List Change → List Change → Type 0 where
+  nothing : Reordered [] []
+  first : (c : Change) (cs before behind : List Change) → Reordered cs (before ++ behind) → Reordered (c ∷ cs) (before ++ (c ∷ behind))
+
+-- the changes that calls ask for, one behind the other, those of batches too
+unfoldable pub changesAsked : List Call → List Change
+changesAsked [] = []
+changesAsked (c ∷ cs) = changesOf (c .update) ++ changesAsked cs
+
+-- the calls are accepted, each on the table that those before it leave
+abbrev pub EachAccepted : List Call → Table → Type 0
+EachAccepted [] t = Unit {0}
+EachAccepted (c ∷ cs) t = (trialOf c t ≡ accepted) × EachAccepted cs (tableAfter c t)
+
+-- Two lists of calls end alike: in the same verdict, walk and total in the last answer (of an empty list that is the one before it), and no call behind them tells the two apart.
+pub record SameEnding (cs ds : List Call) (t : Table) : Type 0 where
+  pub same-report : (before : Answer) → Reports before t → totalled (lastOf before (answers cs t)) ≡ totalled (lastOf before (answers ds t))
+  pub same-after : (es : List Call) → answers es (tableBehind cs t) ≡ answers es (tableBehind ds t)
+
+-- Beyond the ticket's two: any number of changes that name pairwise different states, in any two orders that are accepted, each a call of its own or in a batch.
+abbrev pub AnyOrders : Type 0
+AnyOrders = (t : Table) (cs ds : List Call) → Arises t → Apart (changesAsked cs) → Reordered (changesAsked cs) (changesAsked ds)
+    → EachAccepted cs t → EachAccepted ds t → SameEnding cs ds t
+
+-- ---- there and back
+
+-- "adding a move and cutting it straight away"
+abbrev pub addAndCut : ℕ → ℕ → Edge → List Call
+addAndCut room room₂ e = callFor room (add e) ∷ callFor room₂ (cut e) ∷ []
+
+-- ".. brings these back": the last answer tells the verdict, walk and total of the one before the two calls, and the table is the one before, its moves in their order
+pub record BroughtBack (cs : List Call) (t : Table) : Type 0 where
+  pub same-table : tableBehind cs t ≡ t
+  pub same-report : (before : Answer) → Reports before t → totalled (lastOf before (answers cs t)) ≡ totalled before
+
+abbrev pub BringsBack : Type 0
+BringsBack = (t : Table) (e : Edge) (room room₂ : ℕ) → Arises t → EachAccepted (addAndCut room room₂ e) t → BroughtBack (addAndCut room room₂ e) t
+
+-- where the add is accepted, the cut is
+abbrev pub CutFollows : Type 0
+CutFollows = (t : Table) (e : Edge) (room : ℕ) → Arises t → trialOf (callFor room (add e)) t ≡ accepted → EachAccepted (addAndCut room room e) t
+
+-- "Cutting and adding need not, because the move becomes newest": the last answer tells another verdict, walk or total than a load of the table before
+abbrev pub cutAndAdd : ℕ → Edge → List Call
+cutAndAdd room e = callFor room (cut e) ∷ callFor room (add e) ∷ []
+
+pub record NotBroughtBack (cs : List Call) (t : Table) : Type 0 where
+  pub arises : Arises t
+  pub each-accepted : EachAccepted cs t
+  pub other-report : totalled (lastOf (loadAnswer accepted t) (answers cs t)) ≢ loadAnswer accepted t
