@@ -12,13 +12,13 @@ use Rattle.lead.specs.declared.Lead.{Lead}
 use Rattle.lead.specs.declared.Plan.{Plan}
 use Rattle.lead.specs.Asked.{asked}
 use Rattle.watch.specs.declared.Written.{Written}
-use Rattle.watch.specs.Text.{Held, waiting, step, limit}
+use Rattle.watch.specs.Text.{Held, waiting, step, limit, heldBehind}
 use Rattle.watch.specs.Model.{linesMost, Laid, Writes}
 use Rattle.watch.proofs.Output.{laid-bytes}
 use Rattle.console.specs.declared.Status.{Status}
 use Rattle.console.specs.declared.Status.the-variants.{More, Line, Last, Over}
 use Rattle.console.specs.declared.Reader.{Reader}
-use Rattle.console.specs.Lines.{chunk, handed, firstReader, readerBehind, Within, heldIn, bytesIn, hasLine, isLine, heldBehind, bytesTold, Printed, Found, Next}
+use Rattle.console.specs.Lines.{chunk, handed, firstReader, readerBehind, Within, heldIn, bytesIn, hasLine, isLine, bytesTold, Printed, Found, Next}
 use Rattle.console.proofs.Reading.{line-status, within-behind}
 
 -- What was read so far: its lines up to here, and those that the bytes left of the last read begin, whatever bytes follow.

@@ -7,13 +7,12 @@ use lib.Dec.{eqb, ltb}
 use lib.ListN.{length, take, drop}
 use Rattle.line.specs.Fields.{newline}
 use Rattle.line.specs.Records.{recordOf}
-use Rattle.line.specs.declared.Record.{Record}
 use Rattle.answer.specs.Rendering.{rendered}
 use Rattle.verdict.specs.declared.Answer.{Answer}
 use Rattle.lead.specs.declared.Lead.{Lead}
 use Rattle.lead.specs.Asked.{asked}
 use Rattle.watch.specs.Model.{linesMost, linesTold}
-use Rattle.watch.specs.Text.{Held, waiting, step, limit}
+use Rattle.watch.specs.Text.{waiting, step, heldBehind, limit}
 use Rattle.console.specs.declared.Status.{Status}
 use Rattle.console.specs.declared.Status.the-variants.{More, Line, Last, Over}
 use Rattle.console.specs.declared.Reader.{Reader}
@@ -106,11 +105,6 @@ endOf r = cond (eqb (r .len) 0)
 -- the bytes of the lines told for what a line asks of a lead, with an answer and the list of the walk, in the box's buffer
 unfoldable pub bytesTold : List ℕ → Lead → Answer → List ℕ → List ℕ
 bytesTold line lead answer walk = rendered (linesTold (asked lead (recordOf line)) answer walk linesMost)
-
--- what is held behind some records, one after the other
-unfoldable pub heldBehind : Held → List Record → Held
-heldBehind held [] = held
-heldBehind held (r ∷ rs) = heldBehind (step held r .next) rs
 
 -- The bytes are what the plain definition prints for this line of what was read, behind some earlier lines: only the history of the reads holds these.
 pub record Printed (line bytes : List ℕ) : Type 0 where

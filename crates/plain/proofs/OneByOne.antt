@@ -14,7 +14,7 @@ use Rattle.plain.specs.Table.{Table, searched, budget, final, firstMeeti
 use Rattle.plain.specs.Refusals.{Trial, accepted, refused, firstHeld, shortRoom, roomCondition}
 use Rattle.plain.specs.Machine.{Change, named, apply, conditions, changeTrial, BatchLine, makes, lineConditions, BatchTrial, changesIn, applyAll, namedAll, linesTrial, batchTrial, Update, single, batch, changesOf, applied, namedBy, updateTrial, positionIn, atLine, unexplored, passedOver, keepsAll, keptPart, kept, Answer, refusal, answer, loadAnswer, after, Call, callFor, batchCall, trialOf, updateAnswer, answerTo, tableAfter, answers}
 use Rattle.plain.specs.Notes.{notes}
-use Rattle.plain.specs.Claims.{Arises, changed, AllAccepted, totalled, Reports, tableBehind, lastOf, OneByOne, AsOne}
+use Rattle.plain.specs.Claims.{Arises, AllAccepted, totalled, Reports, tableBehind, lastOf, OneByOne, AsOne}
 use Rattle.plain.specs.Orders.{changesAsked, EachAccepted}
 use Rattle.plain.proofs.Tests.{either}
 use Rattle.plain.proofs.Trials.{held-later, accepted-when, last-free}
@@ -78,11 +78,11 @@ behind-calls (c ∷ cs) t h =
     ∙ sym (apply-append (changesOf (c .update)) (changesAsked cs) t)
 
 -- an accepted call leaves a table that a session can hold, and its answer tells it
-after-arises : (c : Call) (t : Table) → Arises t → trialOf c t ≡ accepted → Arises (tableAfter c t)
+pub after-arises : (c : Call) (t : Table) → Arises t → trialOf c t ≡ accepted → Arises (tableAfter c t)
 unfolding trialOf
 after-arises c t a e = rw (table-accepted c t e) (update-arises (c .update) t (c .room) a e)
 
-after-reports : (c : Call) (t : Table) → Arises t → trialOf c t ≡ accepted → Reports (answerTo c t) (tableAfter c t)
+pub after-reports : (c : Call) (t : Table) → Arises t → trialOf c t ≡ accepted → Reports (answerTo c t) (tableAfter c t)
 after-reports c t a e = rw (table-accepted c t e) (call-reports c t a e)
 
 -- the last answer of accepted calls tells the table behind them
@@ -101,7 +101,7 @@ pub each-call : (room : ℕ) (cs : List Change) (t : Table) → AllAccepted room
 each-call room [] t h = tt
 each-call room (c ∷ cs) t h = (single-trial room c t ∙ h .0, rw (single-table room c t (h .0)) (each-call room cs (apply c t) (h .1)))
 
-asked-each : (room : ℕ) (cs : List Change) → changesAsked (map (callFor room) cs) ≡ cs
+pub asked-each : (room : ℕ) (cs : List Change) → changesAsked (map (callFor room) cs) ≡ cs
 unfolding changesAsked changesOf
 asked-each room [] = refl
 asked-each room (c ∷ cs) = ap (λ (ds : List Change). c ∷ ds) (asked-each room cs)

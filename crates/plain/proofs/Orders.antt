@@ -1,18 +1,18 @@
 -- TICKET 7: changes that name different states, in any order; a move that is added and cut; one that is cut and added. Assumes nothing.
 use mathlib.Core.Path.{_≡_, refl, sym, ap, _∙_}
-use mathlib.Core.Logic.{_≢_, ⊎-elim}
-use mathlib.Core.Bool.{true, false, not}
-use mathlib.Core.List.{List, [], _∷_, _++_, append-assoc}
+use mathlib.Core.Logic.{_≢_}
+use mathlib.Core.Bool.{false, not}
+use mathlib.Core.List.{List, [], _∷_, _++_, map}
 use Prim.Native.Nat.{ℕ}
 use native.Mathlib.Omega.{arith}
 use lib.Dec.{eqb}
-use Rattle.plain.specs.Lists.{any, all, filter, anyBelow, elem, before, from}
-use Rattle.plain.specs.Search.{Edge, Config, onPath, finishes, step, steps, finished, until, statesOf, stemOf, cycleOf, verdict, count}
-use Rattle.plain.specs.Table.{Table, bit, accepts, row, budget, final, firstMeeting}
+use Rattle.plain.specs.Lists.{any, filter, anyBelow, elem, before, from}
+use Rattle.plain.specs.Search.{Edge, Config, onPath, step, steps, statesOf, stemOf, cycleOf, none, lasso, unfinished, verdict, count}
+use Rattle.plain.specs.Table.{Table, bit, accepts, row, budget, final}
 use Rattle.plain.specs.Refusals.{accepted, firstHeld, pairs, sameEdge, present, badSize, badStart, badMarks, badCount, outside, repeated, full, shortRoom, loadTrial}
-use Rattle.plain.specs.Machine.{Change, add, cut, named, tableOf, withEdges, without, apply, conditions, changeTrial, changesIn, applyAll, namedAll, changesOf, applied, namedBy, updateTrial, unexplored, keepsAll, keptPart, kept, answer, loadAnswer, callFor, trialOf, updateAnswer, answerTo, tableAfter, answers}
-use Rattle.plain.specs.Claims.{loaded, totalled, tableBehind, lastOf}
-use Rattle.plain.specs.Orders.{SameView, Apart, TwoOrders, Reordered, nothing, first, changesAsked, EachAccepted, AnyOrders, addAndCut, BringsBack, CutFollows, cutAndAdd, NotBroughtBack}
+use Rattle.plain.specs.Machine.{Change, add, cut, tableOf, withEdges, without, apply, conditions, changeTrial, applyAll, namedAll, changesOf, applied, updateTrial, kept, Answer, refusal, answer, loadAnswer, Call, callFor, trialOf, tableAfter, answers, written, answerLine}
+use Rattle.plain.specs.Claims.{Arises, loaded, totalled, tableBehind, lastOf}
+use Rattle.plain.specs.Orders.{SameView, Apart, TwoOrders, Reordered, nothing, first, changesAsked, EachAccepted, AnyOrders, addAndCut, BringsBack, CutFollows, cutAndAdd, NeedNot, totalLine}
 use Rattle.plain.specs.Games.{wordOf, knownBy, known, gameH}
 use Rattle.plain.proofs.Tests.{in-head, in-right, or-false, or-neither}
 use Rattle.plain.proofs.Trials.{held-later, unheld}
@@ -84,14 +84,35 @@ any-order cs ds t (first c rest before behind r) a =
 -- ---- what they tell
 
 -- tables with the same view are told alike
-told-alike : (t u : Table) → SameView t u → loadAnswer accepted t ≡ loadAnswer accepted u
+pub told-alike : (t u : Table) → SameView t u → loadAnswer accepted t ≡ loadAnswer accepted u
 unfolding loadAnswer
 told-alike t u w = ap (λ (c : Config). answer (verdict c) (count c) 0) (only-rows t u w .same-search)
+
+-- and by the same lines, their looks taken together
+pub line-totalled : (a : Answer) → answerLine (totalled a) ≡ map totalLine (answerLine a)
+unfolding answerLine totalled totalLine
+line-totalled (refusal r) = refl
+line-totalled (answer none spent kept) = refl
+line-totalled (answer (lasso stem cycle) spent kept) = refl
+line-totalled (answer unfinished spent kept) = refl
+
+-- the walk is written alike
+pub written-totalled : (a : Answer) (lent : List ℕ) → written (totalled a) lent ≡ written a lent
+unfolding written totalled
+written-totalled (refusal r) lent = refl
+written-totalled (answer none spent kept) lent = refl
+written-totalled (answer (lasso stem cycle) spent kept) lent = refl
+written-totalled (answer unfinished spent kept) lent = refl
+
+-- accepted calls whose changes are the same in another order leave the same view
+pub same-views : (t : Table) (cs ds : List Call) → Apart (changesAsked cs) → Reordered (changesAsked cs) (changesAsked ds) → EachAccepted cs t → EachAccepted ds t
+    → SameView (tableBehind cs t) (tableBehind ds t)
+same-views t cs ds apart order h k = rw (behind-calls cs t h, behind-calls ds t k) (any-order (changesAsked cs) (changesAsked ds) t order apart)
 
 -- ANY ORDERS
 pub any-orders : AnyOrders
 any-orders t cs ds a apart order h k =
-    let w : SameView (tableBehind cs t) (tableBehind ds t) = rw (behind-calls cs t h, behind-calls ds t k) (any-order (changesAsked cs) (changesAsked ds) t order apart) in
+    let w = same-views t cs ds apart order h k in
     record {
       same-report = λ before r. last-told cs t a h before r ∙ told-alike (tableBehind cs t) (tableBehind ds t) w ∙ sym (last-told ds t a k before r);
       same-after = only-rows (tableBehind cs t) (tableBehind ds t) w .same-answers;
@@ -126,17 +147,30 @@ brings-back t e room room₂ a h =
 -- the cut is accepted where the add is
 pub cut-follows : CutFollows
 unfolding changeTrial conditions apply
-cut-follows t e room a h =
+cut-follows t e room room₂ longer h =
     let k : changeTrial (add e) t room ≡ accepted = sym (single-trial room (add e) t) ∙ h in
     let there = row-has (t .edges ++ (e ∷ [])) (e .0) (e .1) (rw (row-add (t .edges) e) (in-right (e .1) (row (t .edges) (e .0)) (e .1 ∷ []) (in-head (e .1) []))) in
-    each-call room (add e ∷ cut e ∷ []) t
-    (k, (held-later _ _ (unheld 6 _ k) ∙ held-later _ _ (ap not there) ∙ roomy (add e) t room (room-enough (add e) t room k), tt))
+    let after : trialOf (callFor room₂ (cut e)) (apply (add e) t) ≡ accepted =
+    single-trial room₂ (cut e) (apply (add e) t) ∙ held-later _ _ (unheld 6 _ k) ∙ held-later _ _ (ap not there) ∙ roomy (add e) t room₂ (omega (arith, room-enough (add e) t room k, longer)) in
+    (h, (rw (single-table room (add e) t k) after, tt))
 
 -- CUT AND ADDED: game H
-pub game-h : NotBroughtBack (cutAndAdd 512 (0, 1)) (tableOf (gameH .load))
-unfolding any all filter anyBelow elem before from onPath finishes step steps finished until statesOf stemOf cycleOf verdict bit accepts row budget final firstMeeting firstHeld pairs sameEdge present badSize badStart badMarks badCount outside repeated full shortRoom loadTrial named tableOf without apply conditions changeTrial changesIn applied namedBy updateTrial unexplored keepsAll keptPart kept loadAnswer trialOf updateAnswer answerTo tableAfter answers totalled lastOf wordOf knownBy known gameH
-game-h = record {
-  arises = loaded (gameH .load) 512 refl;
-  each-accepted = (refl, (refl, tt));
-  other-report = λ e. let z : _≡_ {A = ℕ} 2 1 = cc in omega arith;
+need-not-line : answerLine (loadAnswer accepted (applyAll (cut (0, 1) ∷ add (0, 1) ∷ []) (tableOf (gameH .load)))) ≢ answerLine (loadAnswer accepted (tableOf (gameH .load)))
+unfolding before from elem onPath step steps statesOf stemOf cycleOf verdict bit accepts row filter budget final pairs sameEdge tableOf without apply applyAll loadAnswer answerLine wordOf knownBy known gameH
+need-not-line e = let z : _≡_ {A = ℕ} 2 1 = cc in omega arith
+
+need-not-accepted : EachAccepted (cutAndAdd 512 512 (0, 1)) (tableOf (gameH .load))
+unfolding any filter pairs sameEdge present outside full shortRoom firstHeld tableOf without apply conditions changeTrial applied updateTrial trialOf tableAfter wordOf knownBy known gameH
+need-not-accepted = (refl, (refl, tt))
+
+pub need-not : NeedNot
+unfolding any filter anyBelow bit accepts pairs sameEdge present badSize badStart badMarks badCount outside repeated shortRoom firstHeld loadTrial tableOf wordOf knownBy known gameH changesAsked changesOf
+need-not = record {
+  arises = here;
+  each-accepted = need-not-accepted;
+  other-line = λ room room₂ h e.
+      need-not-line (ap answerLine (sym (last-told (cutAndAdd room room₂ (0, 1)) _ here h (loadAnswer accepted _) (fresh-reports _) ∙ ap (loadAnswer accepted) (behind-calls (cutAndAdd room room₂ (0, 1)) _ h))) ∙ e);
 }
+  where
+    here : Arises (tableOf (gameH .load))
+    here = loaded (gameH .load) 512 refl

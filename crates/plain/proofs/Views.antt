@@ -1,24 +1,23 @@
 -- Ticket 7: the search and the calls see of a table its rows and its marks, not the order of its list of moves. Assumes nothing.
 use mathlib.Core.Path.{_≡_, refl, sym, ap, _∙_}
 use mathlib.Core.Logic.{⊎-elim}
-use mathlib.Core.Bool.{Bool, true, false, _&&_, _||_, not, cond}
+use mathlib.Core.Bool.{Bool, true, false, _||_, not}
 use mathlib.Core.List.{List, [], _∷_, _++_}
 use Prim.Native.Nat.{ℕ, suc, _+_, _*_, _-_, _/_, _≤_, _<_}
 use native.Mathlib.Decide.{decLt}
 use native.Mathlib.Omega.{arith}
 use lib.Dec.{eqb, ltb, leb}
-use lib.ListN.{length, set, length-append, length-set}
+use lib.ListN.{length, length-append, length-set}
 use lib.Seq.{set-out}
-use Rattle.plain.specs.Lists.{all, In}
-use Rattle.plain.specs.Search.{Graph, Edge, Config, begin, probesOf, meets, finished, run, until, verdict, count}
+use Rattle.plain.specs.Lists.{all}
+use Rattle.plain.specs.Search.{Edge, begin, probesOf, meets, finished, run, until, verdict, count}
 use Rattle.plain.specs.Table.{Table, accepts, withMark, withoutMark, row, searched, budget, final, firstMeeting}
 use Rattle.plain.specs.Refusals.{Trial, accepted, refused, firstHeld, present, outside, beyond, full, roomCondition}
-use Rattle.plain.specs.Machine.{Change, add, cut, mark, unmark, named, without, apply, conditions, changeTrial, BatchLine, makes, other, lineConditions, BatchTrial, changesIn, applyAll, linesTrial, batchTrial, Update, single, batch, applied, namedBy, updateTrial, atLine, positionIn, unexplored, passedOver, keepsAll, keptPart, kept, Answer, refusal, answer, Call, trialOf, answerTo, tableAfter, answers}
-use Rattle.plain.specs.Orders.{SameView, SeenAlike, OnlyRows}
+use Rattle.plain.specs.Machine.{Change, add, cut, mark, unmark, named, apply, conditions, changeTrial, BatchLine, makes, other, lineConditions, BatchTrial, changesIn, applyAll, linesTrial, batchTrial, Update, single, batch, applied, namedBy, updateTrial, atLine, positionIn, unexplored, passedOver, keepsAll, kept, refusal, answer, Call, trialOf, answerTo, tableAfter, answers}
+use Rattle.plain.specs.Orders.{SameView, OnlyRows}
 use Rattle.plain.proofs.Tests.{contra, either, not-true, same, self, filter-short}
-use Rattle.plain.proofs.Edges.{Has}
 use Rattle.plain.proofs.Words.{accepts-marked, accepts-marked-other, accepts-unmarked, accepts-unmarked-other}
-use Rattle.plain.proofs.Rows.{but, row-has, has-row, row-length, row-short, row-add, row-add-other, row-cut, row-cut-other, cut-count}
+use Rattle.plain.proofs.Rows.{but, row-has, has-row, row-short, row-add, row-add-other, row-cut, row-cut-other, cut-count}
 use Rattle.plain.proofs.Tables.{changed-size, changed-start}
 use Rattle.plain.proofs.Batches.{line-accepted, line-refused, batch-tried, batch-short}
 use Rattle.plain.proofs.Demands.{kept-all, kept-meeting}
@@ -322,14 +321,14 @@ same-kept x {t} {u} w = ap count (⊎-elim
     (either (keepsAll x t)))
 
 -- one call
-record SameCall (c : Call) (t u : Table) : Type 0 where
+pub record OneCall (c : Call) (t u : Table) : Type 0 where
   pub same-answer : answerTo c t ≡ answerTo c u
   pub same-view : SameView (tableAfter c t) (tableAfter c u)
 
-same-call : (c : Call) {t u : Table} → SameView t u → SameCall c t u
+pub same-call : (c : Call) {t u : Table} → SameView t u → OneCall c t u
 same-call c {t} {u} w = by-trial (trialOf c t) refl
   where
-    by-trial : (y : Trial) → trialOf c t ≡ y → SameCall c t u
+    by-trial : (y : Trial) → trialOf c t ≡ y → OneCall c t u
     by-trial accepted e =
         let f : trialOf c u ≡ accepted = sym (same-trial c w) ∙ e in
         let end = same-final (applied (c .update) t) (applied (c .update) u) (same-applied (c .update) w) in

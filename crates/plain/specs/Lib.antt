@@ -7,6 +7,6 @@ pub mod Table
 pub mod Refusals
 pub mod Machine
 pub mod Claims
-pub mod Orders
 pub mod Games
+pub mod Orders
 pub mod Notes

@@ -1,5 +1,5 @@
 -- Document 02, ticket 7: orders of switching. proofs/Orders.antt proves it. Assumes nothing.
-use Prim.Native.Nat.{ℕ}
+use Prim.Native.Nat.{ℕ, _+_, _≤_}
 use mathlib.Core.Path.{_≡_}
 use mathlib.Core.Logic.{_≢_}
 use mathlib.Core.List.{List, [], _∷_, _++_}
@@ -8,8 +8,9 @@ use Rattle.plain.specs.Lists.{Once}
 use Rattle.plain.specs.Search.{Edge}
 use Rattle.plain.specs.Table.{Table, accepts, row, final}
 use Rattle.plain.specs.Refusals.{accepted}
-use Rattle.plain.specs.Machine.{Change, add, cut, apply, changesOf, namedAll, Answer, loadAnswer, Call, callFor, trialOf, answerTo, tableAfter, answers}
+use Rattle.plain.specs.Machine.{Change, add, cut, tableOf, apply, changesOf, namedAll, Answer, loadAnswer, Call, callFor, trialOf, answerTo, tableAfter, answers, Line, gameLine, roundLine, noneLine, noLine, answerLine}
 use Rattle.plain.specs.Claims.{Arises, AllAccepted, totalled, Reports, tableBehind, lastOf}
+use Rattle.plain.specs.Games.{gameH}
 
 -- ---- what a call sees of a table
 
@@ -68,6 +69,15 @@ abbrev pub AnyOrders : Type 0
 AnyOrders = (t : Table) (cs ds : List Call) → Arises t → Apart (changesAsked cs) → Reordered (changesAsked cs) (changesAsked ds)
     → EachAccepted cs t → EachAccepted ds t → SameEnding cs ds t
 
+-- ---- lines
+
+-- an answer's line with its looks taken together
+unfoldable pub totalLine : Line → Line
+totalLine (gameLine size moves paying) = gameLine size moves paying
+totalLine (roundLine spent kept stem cycle walk) = roundLine (kept + spent) 0 stem cycle walk
+totalLine (noneLine spent kept) = noneLine (kept + spent) 0
+totalLine (noLine r) = noLine r
+
 -- ---- there and back
 
 -- "adding a move and cutting it straight away"
@@ -82,15 +92,21 @@ pub record BroughtBack (cs : List Call) (t : Table) : Type 0 where
 abbrev pub BringsBack : Type 0
 BringsBack = (t : Table) (e : Edge) (room room₂ : ℕ) → Arises t → EachAccepted (addAndCut room room₂ e) t → BroughtBack (addAndCut room room₂ e) t
 
--- where the add is accepted, the cut is
+-- where the add is accepted, the cut is, with a list that is no shorter
 abbrev pub CutFollows : Type 0
-CutFollows = (t : Table) (e : Edge) (room : ℕ) → Arises t → trialOf (callFor room (add e)) t ≡ accepted → EachAccepted (addAndCut room room e) t
+CutFollows = (t : Table) (e : Edge) (room room₂ : ℕ) → room ≤ room₂ → trialOf (callFor room (add e)) t ≡ accepted → EachAccepted (addAndCut room room₂ e) t
 
--- "Cutting and adding need not, because the move becomes newest": the last answer tells another verdict, walk or total than a load of the table before
-abbrev pub cutAndAdd : ℕ → Edge → List Call
-cutAndAdd room e = callFor room (cut e) ∷ callFor room (add e) ∷ []
+-- "Cutting and adding need not, because the move becomes newest": both are accepted, and the last answer's line tells another verdict, walk or total than the line of a load of the
+-- table before
+abbrev pub cutAndAdd : ℕ → ℕ → Edge → List Call
+cutAndAdd room room₂ e = callFor room (cut e) ∷ callFor room₂ (add e) ∷ []
 
-pub record NotBroughtBack (cs : List Call) (t : Table) : Type 0 where
+pub record NotBroughtBack (e : Edge) (t : Table) : Type 0 where
   pub arises : Arises t
-  pub each-accepted : EachAccepted cs t
-  pub other-report : totalled (lastOf (loadAnswer accepted t) (answers cs t)) ≢ loadAnswer accepted t
+  pub each-accepted : EachAccepted (cutAndAdd 512 512 e) t
+  pub other-line : (room room₂ : ℕ) → EachAccepted (cutAndAdd room room₂ e) t
+      → answerLine (totalled (lastOf (loadAnswer accepted t) (answers (cutAndAdd room room₂ e) t))) ≢ answerLine (loadAnswer accepted t)
+
+-- the example: game H, and its move from 0 to 1
+abbrev pub NeedNot : Type 0
+NeedNot = NotBroughtBack (0, 1) (tableOf (gameH .load))

@@ -13,7 +13,7 @@ use Rattle.plain.proofs.Loops.{loop-told}
 use Rattle.verdict.specs.declared.Answer.{Answer}
 use Rattle.session.specs.declared.Session.{Session}
 use Rattle.session.specs.declared.Outcome.{Outcome}
-use Rattle.session.specs.Promises.{callOf, callIn, Holds, Loads, Updates, Exchange, Served, done, call, CallRight, EachCall, AllRight, Demand3, LoopsTold, SameCall, SameEnd}
+use Rattle.session.specs.Promises.{callOf, callIn, lineIn, Holds, Loads, Updates, Exchange, Served, done, call, CallRight, EachCall, AllRight, Demand3, LoopsTold, SameCall, SameEnd}
 use Rattle.verdict.proofs.Told.{shown-refused, told-refused, answered-once}
 use Rattle.verdict.specs.Answers.{shown, NoRefusal, Answered}
 
@@ -21,26 +21,26 @@ use Rattle.verdict.specs.Answers.{shown, NoRefusal, Answered}
 call-right : (x : Exchange) (s : Session) (t : Table) (r : Outcome) → Holds s t → Updates (x .asked) s (x .lent) r (x .after) → x .answered ≡ r .answer → CallRight x t
 call-right x s t r h c e =
     let a : Answered (answerTo (callIn x) t) (x .lent) (x .answered) (x .after) = subst⁻¹ (λ (y : Answer). Answered (answerTo (callIn x) t) (x .lent) y (x .after)) e (c .answers t h) in
-    let w = call-told (callIn x) t (shown (x .answered) (x .after)) (h .arises) (a .line) in
+    let w = call-told (callIn x) t (lineIn x) (h .arises) (a .line) in
     record { answers = a; counts = w .counts; truth = w .truth }
 
 -- every call of a list, from a session that holds a table
-all-right : (s : Session) (t : Table) (xs : List Exchange) → Holds s t → Served s xs → AllRight xs t
+pub all-right : (s : Session) (t : Table) (xs : List Exchange) → Holds s t → Served s xs → AllRight xs t
 all-right s t xs h done = tt
 all-right s t xs h (call u lent r lent′ ys c rest) =
     let x : Exchange = record { asked = u; lent = lent; answered = r .answer; after = lent′ } in
     (call-right x s t r h c refl, all-right (r .session) (tableAfter (callIn x) t) ys (c .holds t h) rest)
 
 -- so the answers, one behind the other, are the plain table's
-same-lines : (xs : List Exchange) (t : Table) → AllRight xs t → map (λ (x : Exchange). shown (x .answered) (x .after)) xs ≡ answerLines (answers (map callIn xs) t)
+same-lines : (xs : List Exchange) (t : Table) → AllRight xs t → map lineIn xs ≡ answerLines (answers (map callIn xs) t)
 unfolding answers answerLines
 same-lines [] t a = refl
 same-lines (x ∷ xs) t a =
-    ap (λ (ls : List Line). shown (x .answered) (x .after) ∷ ls) (same-lines xs (tableAfter (callIn x) t) (a .1))
+    ap (λ (ls : List Line). lineIn x ∷ ls) (same-lines xs (tableAfter (callIn x) t) (a .1))
     ∙ ap (λ (ls : List Line). ls ++ answerLines (answers (map callIn xs) (tableAfter (callIn x) t))) (sym (a .0 .answers .line))
 
 -- an answer that is no refusal is that of an accepted load
-load-accepted : (l : Load) (lent : List ℕ) (r : Outcome) (lent′ : List ℕ) → Loads l lent r lent′ → NoRefusal (r .answer) → loadTrial l (length lent) ≡ accepted
+pub load-accepted : (l : Load) (lent : List ℕ) (r : Outcome) (lent′ : List ℕ) → Loads l lent r lent′ → NoRefusal (r .answer) → loadTrial l (length lent) ≡ accepted
 unfolding loadAnswer answerLine
 load-accepted l lent r lent′ a y = by-trial (loadTrial l (length lent)) (r .answer) (a .answers .line) y
   where
@@ -74,20 +74,23 @@ loops-told l lent r lent′ a y xs w =
     let d = demand-3 l lent r lent′ a y xs w in
     record {
       load = loop-told (shown (r .answer) lent′) (tableOf l) (d .load-truth);
-      calls = each-call CallRight _ (λ x t c. loop-told (shown (x .answered) (x .after)) (tableAfter (callIn x) t) (c .truth)) xs (tableOf l) (d .calls);
+      calls = each-call CallRight _ (λ x t c. loop-told (lineIn x) (tableAfter (callIn x) t) (c .truth)) xs (tableOf l) (d .calls);
     }
 
 -- ---- ticket 5
 
 -- an answer that is no refusal is that of an accepted call
+pub answered-accepted : (c : Call) (t : Table) (lent : List ℕ) (r : Answer) (lent′ : List ℕ) → Answered (answerTo c t) lent r lent′ → NoRefusal r → trialOf c t ≡ accepted
+unfolding answerLine
+answered-accepted c t lent r lent′ w y = by-trial (trialOf c t) refl
+  where
+    by-trial : (x : Trial) → trialOf c t ≡ x → trialOf c t ≡ accepted
+    by-trial accepted e = e
+    by-trial (refused n) e = absurd (told-refused r lent′ _ (sym (ap answerLine (answer-refused c t n e)) ∙ w .line) y)
+
 call-accepted : (u : Update) (s : Session) (t : Table) (lent : List ℕ) (r : Outcome) (lent′ : List ℕ) → Holds s t → Updates u s lent r lent′ → NoRefusal (r .answer)
     → trialOf (callOf u lent) t ≡ accepted
-unfolding answerLine
-call-accepted u s t lent r lent′ h w y = by-trial (trialOf (callOf u lent) t) refl
-  where
-    by-trial : (x : Trial) → trialOf (callOf u lent) t ≡ x → trialOf (callOf u lent) t ≡ accepted
-    by-trial accepted e = e
-    by-trial (refused n) e = absurd (told-refused (r .answer) lent′ _ (sym (ap answerLine (answer-refused (callOf u lent) t n e)) ∙ w .answers t h .line) y)
+call-accepted u s t lent r lent′ h w y = answered-accepted (callOf u lent) t lent (r .answer) lent′ (w .answers t h) y
 
 -- a batch of one change is that change
 pub batch-of-one : (c : Change) (s : Session) (t : Table) → Holds s t → (lent : List ℕ) (r r₂ : Outcome) (lent′ lent₂ : List ℕ)

@@ -87,6 +87,10 @@ pub record Exchange : Type 0 where
 abbrev pub callIn : Exchange → Call
 callIn x = callOf (x .asked) (x .lent)
 
+-- the line by which its answer is told
+abbrev pub lineIn : Exchange → Line
+lineIn x = shown (x .answered) (x .after)
+
 -- calls on a session, single changes and batches in any order, each given the session that the call before it returned; each is known by its contract alone
 pub data Served : Session → List Exchange → Type 0 where
   done : {s : Session} → Served s []
@@ -100,8 +104,8 @@ pub data Served : Session → List Exchange → Type 0 where
 -- number, or same verdict and same walk, entry for entry"; the looks told are right; and what is told is true of the table as the call leaves it (demand 2).
 pub record CallRight (x : Exchange) (t : Table) : Type 0 where
   pub answers : Answered (answerTo (callIn x) t) (x .lent) (x .answered) (x .after)
-  pub counts : LineCounted (shown (x .answered) (x .after)) (x .asked) t
-  pub truth : LineTrue (shown (x .answered) (x .after)) (tableAfter (callIn x) t)
+  pub counts : LineCounted (lineIn x) (x .asked) t
+  pub truth : LineTrue (lineIn x) (tableAfter (callIn x) t)
 
 -- something of each call, on the table that those before it leave
 abbrev pub EachCall : (Exchange → Table → Type 0) → List Exchange → Table → Type 0
@@ -116,14 +120,14 @@ pub record Demand3 (l : Load) (lent : List ℕ) (r : Outcome) (lent′ : List �
   pub load-answers : Answered (loadAnswer accepted (tableOf l)) lent (r .answer) lent′
   pub load-truth : LineTrue (shown (r .answer) lent′) (tableOf l)
   -- the answers, one behind the other, are those of the plain table run on the same calls
-  pub same-answers : map (λ (x : Exchange). shown (x .answered) (x .after)) xs ≡ answerLines (answers (map callIn xs) (tableOf l))
+  pub same-answers : map lineIn xs ≡ answerLines (answers (map callIn xs) (tableOf l))
   pub calls : AllRight xs (tableOf l)
 
 -- Document 02, ticket 1, of the same load and calls: where the table that is then present has a paying state with a move to itself, and it can be reached, no
 -- answer is "none".
 pub record LoopsTold (l : Load) (r : Outcome) (lent′ : List ℕ) (xs : List Exchange) : Type 0 where
   pub load : LoopTold (shown (r .answer) lent′) (tableOf l)
-  pub calls : EachCall (λ x t. LoopTold (shown (x .answered) (x .after)) (tableAfter (callIn x) t)) xs (tableOf l)
+  pub calls : EachCall (λ x t. LoopTold (lineIn x) (tableAfter (callIn x) t)) xs (tableOf l)
 
 -- ---- document 02, ticket 5, on the contracts
 
@@ -142,4 +146,4 @@ pub record SameEnd (xs : List BatchLine) (lent : List ℕ) (t : Table) (r : Outc
   pub plain : OneByOne xs t (length lent)
   pub batch-tells : answerLine (answerTo (batchCall (length lent) xs) t) ≡ shown (r .answer) lent′ ∷ []
   pub batch-holds : Holds (r .session) (tableAfter (batchCall (length lent) xs) t)
-  pub changes-tell : map (λ (x : Exchange). shown (x .answered) (x .after)) ys ≡ answerLines (answers (map (callFor (length lent)) (changesIn xs)) t)
+  pub changes-tell : map lineIn ys ≡ answerLines (answers (map (callFor (length lent)) (changesIn xs)) t)

@@ -23,7 +23,7 @@ use Rattle.watch.specs.Text.{Draft, Play, playOf, Held, waiting, gatheri
 use Rattle.watch.specs.Truth.{Verdictless, Says, SaysLoop, All, EachLine, True}
 
 -- the table that is held is one that a session can hold
-abbrev Sound : Held → Type 0
+abbrev pub Sound : Held → Type 0
 Sound waiting = Unit {0}
 Sound (gathering d) = Unit {0}
 Sound (playing p) = Arises (p .table)
@@ -31,7 +31,7 @@ Sound (batching p xs) = Arises (p .table)
 Sound ended = Unit {0}
 
 -- a step that says what is true, and holds such a table
-abbrev Right : Step → Type 0
+abbrev pub Right : Step → Type 0
 Right u = All (λ l. Says l (u .next)) (u .lines) × Sound (u .next)
 
 cond-right : (b : Bool) (u v : Step) → Right u → Right v → Right (cond b u v)
@@ -84,7 +84,7 @@ batch-right unknown p xs a = (tt, a)
 
 -- ---- one line
 
-right : (p : Held) (r : Record) → Sound p → Right (step p r)
+pub right : (p : Held) (r : Record) → Sound p → Right (step p r)
 unfolding step atFirst beforeGo afterGo inBatch
 right waiting r s = cond-right (isWord (r .word) Game) _ _ (tt, tt) (stop-right 1 (early 1 (omega arith)))
 right (gathering d) r s =

@@ -162,6 +162,11 @@ unfoldable pub printed : Held → List Record → List Line
 printed held [] = []
 printed held (r ∷ rs) = step held r .lines ++ printed (step held r .next) rs
 
+-- what is held behind some records, one after the other
+unfoldable pub heldBehind : Held → List Record → Held
+heldBehind held [] = held
+heldBehind held (r ∷ rs) = heldBehind (step held r .next) rs
+
 -- "An input of more than 4,294,967,295 bytes counts as ending behind the last newline among these."
 abbrev pub limit : ℕ
 limit = 4294967295

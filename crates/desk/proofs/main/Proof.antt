@@ -14,11 +14,11 @@ use Rattle.line.specs.Records.{recordOf}
 use Rattle.lead.specs.declared.Lead.{Lead}
 use Rattle.lead.specs.Asked.{numbersMost}
 use Rattle.session.specs.Model.{noGame}
-use Rattle.watch.specs.Text.{waiting, room}
+use Rattle.watch.specs.Text.{waiting, room, heldBehind}
 use Rattle.watch.specs.Model.{linesMost}
 use Rattle.watch.proofs.Steps.{Tracks}
 use Rattle.watch.proofs.Output.{laid-within, laid-first}
-use Rattle.console.specs.Lines.{chunk, heldMost, Within, heldIn, isLine, hasLine, heldBehind}
+use Rattle.console.specs.Lines.{chunk, heldMost, Within, heldIn, isLine, hasLine}
 use Rattle.console.proofs.Reading.{within-first}
 use Rattle.console.proofs.Printing.{Read, read-first, Come, come, Onward, goes-onward, printed, told-bytes, one-behind}
 use Rattle.desk.specs.Desk.{isRead}

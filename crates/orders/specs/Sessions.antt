@@ -1,0 +1,95 @@
+-- Document 02, ticket 7, on the contracts of the session's operations. proofs/Sessions.antt proves it. Assumes nothing.
+use Prim.Native.Nat.{ℕ, _≤_}
+use mathlib.Core.Path.{_≡_}
+use mathlib.Core.Logic.{_≢_}
+use mathlib.Core.List.{List, [], _∷_, _++_, map}
+use lib.ListN.{length}
+use Rattle.plain.specs.Search.{Edge}
+use Rattle.plain.specs.Table.{Table}
+use Rattle.plain.specs.Refusals.{Load}
+use Rattle.plain.specs.Machine.{Change, add, cut, Update, single, tableOf, tableAfter, Line}
+use Rattle.plain.specs.Games.{gameH}
+use Rattle.plain.specs.Orders.{Apart, Reordered, changesAsked, totalLine}
+use Rattle.verdict.specs.declared.Answer.the-variants.{Refused}
+use Rattle.verdict.specs.Answers.{shown, NoRefusal}
+use Rattle.table.specs.declared.Refusal.{Refusal}
+use Rattle.session.specs.declared.Session.{Session}
+use Rattle.session.specs.declared.Outcome.{Outcome}
+use Rattle.session.specs.Promises.{callOf, Holds, Loads, Updates, Exchange, callIn, lineIn, Served}
+
+-- none of the calls was refused
+abbrev pub NoneRefused : List Exchange → Type 0
+NoneRefused [] = Unit {0}
+NoneRefused (x ∷ xs) = NoRefusal (x .answered) × NoneRefused xs
+
+-- what a call was given: what was asked, and the lent list
+abbrev pub Given : Type 0
+Given = Update × List ℕ
+
+abbrev pub givenTo : Exchange → Given
+givenTo x = (x .asked, x .lent)
+
+-- the changes that calls ask for, one behind the other
+abbrev pub changesIn : List Exchange → List Change
+changesIn xs = changesAsked (map callIn xs)
+
+-- ---- orders
+
+-- Two calls tell "the same verdict, walk and total of kept and spent". The walk stands at the head of the lent lists; lists that were lent with the same entries are left with the same.
+pub record SameTold (x y : Exchange) : Type 0 where
+  pub same-line : totalLine (lineIn x) ≡ totalLine (lineIn y)
+  pub same-list : x .lent ≡ y .lent → x .after ≡ y .after
+
+-- "two changes of moves that leave different states, one straight after the other from the same session, if accepted in both orders, end in the same verdict, walk and total of
+-- kept and spent in the second answer": c then d, and d then c. It is so of every two changes that name different states, of moves or of marks.
+abbrev pub TwoOrders : Type 0
+TwoOrders = (s : Session) (t : Table) → Holds s t → (c d : Change) → Apart (c ∷ d ∷ [])
+    → (x y : Exchange) → x .asked ≡ single c → y .asked ≡ single d → Served s (x ∷ y ∷ []) → NoneRefused (x ∷ y ∷ [])
+    → (x₂ y₂ : Exchange) → x₂ .asked ≡ single d → y₂ .asked ≡ single c → Served s (x₂ ∷ y₂ ∷ []) → NoneRefused (x₂ ∷ y₂ ∷ [])
+    → SameTold y y₂
+
+-- Two lists of calls from one session on, up to x and up to y, and calls behind each. The last answers tell the same; and calls behind them that are given the same are answered
+-- alike, refused ones too: the same answers, with their counts, and the same lists.
+pub record SameEnding (x : Exchange) (later : List Exchange) (y : Exchange) (later₂ : List Exchange) : Type 0 where
+  pub same-told : SameTold x y
+  pub same-after : map givenTo later ≡ map givenTo later₂ → later ≡ later₂
+
+-- Beyond the ticket's two: any number of changes that name pairwise different states, in any two orders that are accepted, each a call of its own or in a batch.
+abbrev pub AnyOrders : Type 0
+AnyOrders = (s : Session) (t : Table) → Holds s t
+    → (xs : List Exchange) (x : Exchange) (later : List Exchange) → Served s (xs ++ (x ∷ later)) → NoneRefused (xs ++ (x ∷ []))
+    → (ys : List Exchange) (y : Exchange) (later₂ : List Exchange) → Served s (ys ++ (y ∷ later₂)) → NoneRefused (ys ++ (y ∷ []))
+    → Apart (changesIn (xs ++ (x ∷ []))) → Reordered (changesIn (xs ++ (x ∷ []))) (changesIn (ys ++ (y ∷ [])))
+    → SameEnding x later y later₂
+
+-- ---- there and back
+
+-- The last verdict that was told of a session, and the table that it holds: it was told by its load, or by an accepted call; a refused call leaves it.
+pub data LastTold : Session → Table → Line → Type 0 where
+  by-load : (l : Load) (lent : List ℕ) (r : Outcome) (lent′ : List ℕ) → Loads l lent r lent′ → NoRefusal (r .answer) → LastTold (r .session) (tableOf l) (shown (r .answer) lent′)
+  by-call : (s : Session) (t : Table) (u : Update) (lent : List ℕ) (r : Outcome) (lent′ : List ℕ) → Holds s t → Updates u s lent r lent′ → NoRefusal (r .answer)
+      → LastTold (r .session) (tableAfter (callOf u lent) t) (shown (r .answer) lent′)
+  left : (s : Session) (t : Table) (l : Line) (u : Update) (lent : List ℕ) (r : Outcome) (lent′ : List ℕ) → LastTold s t l → Updates u s lent r lent′ → (n : Refusal) → r .answer ≡ Refused n
+      → LastTold (r .session) t l
+
+-- "adding a move and cutting it straight away brings these back": what the cut tells is what was told before. Calls behind it are answered as if the two had not been made.
+pub record BroughtBack (s : Session) (l : Line) (y : Exchange) (later : List Exchange) : Type 0 where
+  pub same-line : totalLine (lineIn y) ≡ totalLine l
+  pub same-after : (later₂ : List Exchange) → Served s later₂ → map givenTo later ≡ map givenTo later₂ → later ≡ later₂
+
+abbrev pub BringsBack : Type 0
+BringsBack = (s : Session) (t : Table) (l : Line) → LastTold s t l
+    → (e : Edge) (x y : Exchange) (later : List Exchange) → x .asked ≡ single (add e) → y .asked ≡ single (cut e) → Served s (x ∷ y ∷ later) → NoneRefused (x ∷ y ∷ [])
+    → BroughtBack s l y later
+
+-- where the add is not refused, the cut is not, with a list that is no shorter
+abbrev pub CutFollows : Type 0
+CutFollows = (s : Session) (t : Table) → Holds s t → (e : Edge) (x y : Exchange) → x .asked ≡ single (add e) → y .asked ≡ single (cut e) → Served s (x ∷ y ∷ [])
+    → length (x .lent) ≤ length (y .lent) → NoRefusal (x .answered) → NoRefusal (y .answered)
+
+-- "Cutting and adding need not, because the move becomes newest": game H is loaded, and its move from 0 to 1 is cut and added straight away, and nothing is refused. What is told
+-- last is not what the load told.
+abbrev pub NeedNot : Type 0
+NeedNot = (lent : List ℕ) (r : Outcome) (lent′ : List ℕ) → Loads (gameH .load) lent r lent′ → NoRefusal (r .answer)
+    → (x y : Exchange) → x .asked ≡ single (cut (0, 1)) → y .asked ≡ single (add (0, 1)) → Served (r .session) (x ∷ y ∷ []) → NoneRefused (x ∷ y ∷ [])
+    → totalLine (lineIn y) ≢ totalLine (shown (r .answer) lent′)

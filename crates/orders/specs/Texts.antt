@@ -1,0 +1,60 @@
+-- Document 02, ticket 7, for the lines of a text. proofs/Texts.antt proves it. Assumes nothing.
+use Prim.Native.Nat.{ℕ, _+_}
+use mathlib.Core.Path.{_≡_}
+use mathlib.Core.List.{List, [], _∷_, _++_, map}
+use Rattle.plain.specs.Search.{Edge}
+use Rattle.plain.specs.Machine.{Change, add, cut, Line, gameLine, roundLine, noneLine, noLine}
+use Rattle.plain.specs.Orders.{Apart, Reordered, totalLine}
+use Rattle.line.specs.Records.{recordOf}
+use Rattle.watch.specs.Text.{Play, Held, waiting, playing, changing, requestOf, printed, heldBehind}
+use Rattle.watch.specs.Truth.{All}
+
+-- a line that is no refusal
+abbrev pub NotNo : Line → Type 0
+NotNo (gameLine size moves paying) = Unit {0}
+NotNo (roundLine spent kept stem cycle walk) = Unit {0}
+NotNo (noneLine spent kept) = Unit {0}
+NotNo (noLine r) = ⊥
+
+-- the lines ask for these changes, each for one
+abbrev pub Asking : List (List ℕ) → List Change → Type 0
+Asking ls cs = map (λ l. requestOf (recordOf l)) ls ≡ map changing cs
+
+-- what is held behind the lines of a text, and what is printed for lines that follow
+abbrev pub heldAfter : List (List ℕ) → Held
+heldAfter ls = heldBehind waiting (map recordOf ls)
+
+abbrev pub printedBehind : List (List ℕ) → List (List ℕ) → List Line
+printedBehind earlier ls = printed (heldAfter earlier) (map recordOf ls)
+
+-- the last `round` or `none` line of some, "counts aside": its looks are taken together. Where there is none it is the one before.
+abbrev pub newer : List Line → Line → List Line
+newer before (gameLine size moves paying) = before
+newer before (roundLine spent kept stem cycle walk) = totalLine (roundLine spent kept stem cycle walk) ∷ []
+newer before (noneLine spent kept) = totalLine (noneLine spent kept) ∷ []
+newer before (noLine r) = before
+
+unfoldable pub lastVerdict : List Line → List Line → List Line
+lastVerdict before [] = before
+lastVerdict before (l ∷ ls) = lastVerdict (newer before l) ls
+
+-- of what is printed for the lines of a text
+abbrev pub toldBy : List (List ℕ) → List Line
+toldBy ls = lastVerdict [] (printedBehind [] ls)
+
+-- Two texts end alike: in the same verdict, walk and total; and what is printed for lines behind them is the same, counts and all.
+pub record SameEnding (ls ms : List (List ℕ)) : Type 0 where
+  pub same-told : toldBy ls ≡ toldBy ms
+  pub same-after : (later : List (List ℕ)) → printedBehind ls later ≡ printedBehind ms later
+
+-- Behind lines of a text after which a game is played: lines that ask for changes, which name pairwise different states, and lines that ask for the same changes in another order, none
+-- answered by a `no` line.
+abbrev pub AnyOrders : Type 0
+AnyOrders = (earlier ls ms : List (List ℕ)) (p : Play) (cs ds : List Change) → heldAfter earlier ≡ playing p → Apart cs → Reordered cs ds
+    → Asking ls cs → All NotNo (printedBehind earlier ls) → Asking ms ds → All NotNo (printedBehind earlier ms)
+    → SameEnding (earlier ++ ls) (earlier ++ ms)
+
+-- a line that adds a move, not answered by a `no` line, and a line that cuts it straight away: all is as if neither had been there
+abbrev pub BringsBack : Type 0
+BringsBack = (earlier : List (List ℕ)) (p : Play) (e : Edge) (l m : List ℕ) → heldAfter earlier ≡ playing p → Asking (l ∷ m ∷ []) (add e ∷ cut e ∷ []) → All NotNo (printedBehind earlier (l ∷ []))
+    → SameEnding (earlier ++ (l ∷ m ∷ [])) earlier
