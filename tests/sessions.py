@@ -391,6 +391,13 @@ def unended(rng, table):
     return whole[:-1] if rng.random() < 0.3 else whole + behind
 
 
+def line_alone(rng, session, refused=0.2):
+    """A change outside a batch. This share of them is refused, or an unreadable line."""
+    fault = (rng.choice(NUMBERS), 1) if rng.random() < refused else None
+    for line in some_lines(rng, session.table, 1, rng.random() < 0.4, fault):
+        session.send(*line or ("line", rng.choice(NO_CALL)))
+
+
 def batches(rng, size=None, count=None):
     """Batches, and changes alone and unreadable lines between them. Seldom the input ends inside a batch."""
     sizes = 1, 2, rng.randint(3, 5), rng.randint(3, 8), rng.randint(6, 12), rng.randint(13, 64), rng.randint(65, 511), 512
@@ -398,9 +405,7 @@ def batches(rng, size=None, count=None):
     for _ in range(count or rng.randint(3, 12)):
         session.send("batch", batch_of(rng, session.table))
         for _ in range(rng.choice((0, 0, 1, 3))):
-            fault = (rng.choice(NUMBERS), 1) if rng.random() < 0.2 else None
-            for line in some_lines(rng, session.table, 1, rng.random() < 0.4, fault):
-                session.send(*line or ("line", rng.choice(NO_CALL)))
+            line_alone(rng, session)
     return session.text.data() + (unended(rng, session.table) if rng.random() < 0.2 else b"")
 
 
