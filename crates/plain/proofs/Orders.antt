@@ -1,12 +1,12 @@
 -- TICKET 7: changes that name different states, in any order; a move that is added and cut; one that is cut and added. Assumes nothing.
-use mathlib.Core.Path.{_≡_, refl, sym, ap, _∙_}
+use mathlib.Core.Path.{_≡_, refl, sym, ap, subst, _∙_}
 use mathlib.Core.Logic.{_≢_}
 use mathlib.Core.Bool.{false, not}
 use mathlib.Core.List.{List, [], _∷_, _++_, map}
 use Prim.Native.Nat.{ℕ}
 use native.Mathlib.Omega.{arith}
 use lib.Dec.{eqb}
-use Rattle.plain.specs.Lists.{any, filter, anyBelow, elem, before, from}
+use Rattle.plain.specs.Lists.{any, filter, anyBelow, elem, Once, before, from}
 use Rattle.plain.specs.Search.{Edge, Config, onPath, step, steps, statesOf, stemOf, cycleOf, none, lasso, unfinished, verdict, count}
 use Rattle.plain.specs.Table.{Table, bit, accepts, row, budget, final}
 use Rattle.plain.specs.Refusals.{accepted, firstHeld, pairs, sameEdge, present, badSize, badStart, badMarks, badCount, outside, repeated, full, shortRoom, loadTrial}
@@ -59,7 +59,7 @@ reordered-unnamed x cs ds (first c rest before behind r) f =
     insert-unnamed x c before behind (w .0) (reordered-unnamed x rest (before ++ behind) r (w .1))
 
 apart-cons : (c : Change) (cs : List Change) → Apart (c ∷ cs) → (elem (stateOf c) (namedAll cs) ≡ false) × Apart cs
-apart-cons c cs a = rw (named-first c cs) at a
+apart-cons c cs a = subst Once (named-first c cs) a
 
 -- ---- the tables that they leave
 
