@@ -21,7 +21,7 @@ use Rattle.verdict.proofs.Told.{answered-once}
 use Rattle.session.specs.declared.Session.{Session}
 use Rattle.session.specs.Promises.{callOf, Holds, Exchange, callIn, Served, AllRight}
 use Rattle.session.proofs.Demand3.{all-right, load-accepted, answered-accepted}
-use Rattle.orders.specs.Sessions.{NoneRefused, Given, givenTo, changesIn, SameTold, TwoOrders, AnyOrders, LastTold, by-load, by-call, left, BringsBack, CutFollows, NeedNot}
+use Rattle.orders.specs.Sessions.{NoneRefused, Given, givenTo, askedIn, SameTold, TwoOrders, AnyOrders, LastTold, by-load, by-call, left, BringsBack, CutFollows, NeedNot}
 
 -- ---- calls, one behind the other
 
@@ -114,7 +114,7 @@ sessions-any-orders s t h xs x later served n ys y later₂ served₂ n₂ apart
 -- ---- TWO ORDERS
 
 -- two calls that ask for one change each
-two-asked : (x y : Exchange) (c d : Change) → x .asked ≡ single c → y .asked ≡ single d → changesIn (x ∷ y ∷ []) ≡ c ∷ d ∷ []
+two-asked : (x y : Exchange) (c d : Change) → x .asked ≡ single c → y .asked ≡ single d → askedIn (x ∷ y ∷ []) ≡ c ∷ d ∷ []
 unfolding changesAsked changesOf
 two-asked x y c d e f = (λ i. changesOf (e i) ++ (changesOf (f i) ++ []))
 

@@ -30,8 +30,8 @@ abbrev pub givenTo : Exchange → Given
 givenTo x = (x .asked, x .lent)
 
 -- the changes that calls ask for, one behind the other
-abbrev pub changesIn : List Exchange → List Change
-changesIn xs = changesAsked (map callIn xs)
+abbrev pub askedIn : List Exchange → List Change
+askedIn xs = changesAsked (map callIn xs)
 
 -- ---- orders
 
@@ -59,7 +59,7 @@ abbrev pub AnyOrders : Type 0
 AnyOrders = (s : Session) (t : Table) → Holds s t
     → (xs : List Exchange) (x : Exchange) (later : List Exchange) → Served s (xs ++ (x ∷ later)) → NoneRefused (xs ++ (x ∷ []))
     → (ys : List Exchange) (y : Exchange) (later₂ : List Exchange) → Served s (ys ++ (y ∷ later₂)) → NoneRefused (ys ++ (y ∷ []))
-    → Apart (changesIn (xs ++ (x ∷ []))) → Reordered (changesIn (xs ++ (x ∷ []))) (changesIn (ys ++ (y ∷ [])))
+    → Apart (askedIn (xs ++ (x ∷ []))) → Reordered (askedIn (xs ++ (x ∷ []))) (askedIn (ys ++ (y ∷ [])))
     → SameEnding x later y later₂
 
 -- ---- there and back
