@@ -12,7 +12,7 @@ use Rattle.plain.specs.Claims.{totalled, tableBehind, lastOf}
 use Rattle.plain.specs.Games.{gameH}
 use Rattle.plain.specs.Orders.{Apart, Reordered, nothing, first, changesAsked, EachAccepted, addAndCut, totalLine}
 use Rattle.plain.proofs.Answers.{first-line}
-use Rattle.plain.proofs.OneByOne.{fresh-reports, answer-accepted, after-reports}
+use Rattle.plain.proofs.Calls.{fresh-reports, answer-accepted, after-reports}
 use Rattle.plain.proofs.Orders.{line-totalled, written-totalled, any-orders, brings-back, cut-follows, need-not}
 use Rattle.verdict.specs.declared.Answer.{Answer}
 use Rattle.verdict.specs.declared.Answer.the-variants.{Refused, Clear, Round}

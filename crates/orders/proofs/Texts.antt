@@ -12,7 +12,7 @@ use Rattle.plain.specs.Machine.{Change, add, cut, BatchLine, makes, other, Upda
 use Rattle.plain.specs.Claims.{Arises, loaded, totalled, tableBehind}
 use Rattle.plain.specs.Orders.{SameView, Apart, EachAccepted, totalLine}
 use Rattle.plain.proofs.Demands.{demand-2}
-use Rattle.plain.proofs.OneByOne.{answer-accepted, table-accepted, answer-refused, table-refused, after-arises, after-reports, fresh-reports, asked-each}
+use Rattle.plain.proofs.Calls.{answer-accepted, table-accepted, answer-refused, table-refused, after-arises, after-reports, fresh-reports, asked-each}
 use Rattle.plain.proofs.Views.{view-refl, same-call}
 use Rattle.plain.proofs.Orders.{told-alike, same-views, brings-back, cut-follows}
 use Rattle.line.specs.Records.{recordOf}

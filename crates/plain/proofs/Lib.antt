@@ -22,6 +22,7 @@ pub mod Unexplored
 pub mod Batches
 pub mod Demands
 pub mod Limits
+pub mod Calls
 pub mod OneByOne
 pub mod Views
 pub mod Orders

@@ -18,7 +18,8 @@ use Rattle.plain.proofs.Tests.{in-head, in-right, or-false, or-neither}
 use Rattle.plain.proofs.Trials.{held-later, unheld}
 use Rattle.plain.proofs.Rows.{row-has, row-add, without-newest}
 use Rattle.plain.proofs.Tables.{room-enough}
-use Rattle.plain.proofs.OneByOne.{single-trial, single-table, behind-calls, last-told, fresh-reports, each-call, roomy}
+use Rattle.plain.proofs.Calls.{single-trial, single-table, behind-calls, last-told, fresh-reports, each-call}
+use Rattle.plain.proofs.OneByOne.{roomy}
 use Rattle.plain.proofs.Views.{stateOf, named-is, view-refl, view-trans, same-apply-all, swapped, only-rows}
 
 -- ---- the states that changes name

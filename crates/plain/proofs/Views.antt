@@ -21,7 +21,7 @@ use Rattle.plain.proofs.Rows.{but, row-has, has-row, row-short, row-add
 use Rattle.plain.proofs.Tables.{changed-size, changed-start}
 use Rattle.plain.proofs.Batches.{line-accepted, line-refused, batch-tried, batch-short}
 use Rattle.plain.proofs.Demands.{kept-all, kept-meeting}
-use Rattle.plain.proofs.OneByOne.{answer-accepted, table-accepted, answer-refused, table-refused}
+use Rattle.plain.proofs.Calls.{answer-accepted, table-accepted, answer-refused, table-refused}
 
 -- ---- two tables with the same view: what is read of them
 

@@ -22,7 +22,7 @@ use Rattle.plain.proofs.Tables.{Valid, valid}
 use Rattle.plain.proofs.SameRun.{alike, alike-discovered, alike-marked, alike-probes, alike-verdict}
 use Rattle.plain.proofs.Batches.{taken-here, Made, update-made, update-valid, update-arises, update-size, update-start, update-agree, update-room}
 use Rattle.plain.proofs.Demands.{run-final, verdict-right, kept-meeting, Untouched, update-same, update-met}
-use Rattle.plain.proofs.OneByOne.{answer-accepted, table-accepted, answer-refused, table-refused}
+use Rattle.plain.proofs.Calls.{answer-accepted, table-accepted, answer-refused, table-refused}
 use Rattle.look.specs.Numbers.{plus}
 use Rattle.look.proofs.Counting.{plus-more}
 use Rattle.search.specs.Core.{Result}

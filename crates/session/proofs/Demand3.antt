@@ -8,7 +8,8 @@ use Rattle.plain.specs.Table.{Table}
 use Rattle.plain.specs.Refusals.{Trial, Load, accepted, refused, loadTrial}
 use Rattle.plain.specs.Machine.{Change, BatchLine, makes, changesIn, Update, single, batch, Call, callFor, trialOf, Answer as PlainAnswer, tableOf, loadAnswer, answerTo, tableAfter, answers, Line, answerLine, answerLines}
 use Rattle.plain.proofs.Answers.{load-told, call-told}
-use Rattle.plain.proofs.OneByOne.{answer-refused, one-by-one, as-one}
+use Rattle.plain.proofs.Calls.{answer-refused}
+use Rattle.plain.proofs.OneByOne.{one-by-one, as-one}
 use Rattle.plain.proofs.Loops.{loop-told}
 use Rattle.verdict.specs.declared.Answer.{Answer}
 use Rattle.session.specs.declared.Session.{Session}
