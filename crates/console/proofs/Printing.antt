@@ -6,14 +6,14 @@ use mathlib.Core.Bool.{true, true≢false}
 use mathlib.Core.List.{List, [], _∷_, _++_, map, map-append, append-nil, append-assoc}
 use lib.ListN.{length, take}
 use Rattle.line.specs.Records.{recordOf}
-use Rattle.line.specs.declared.Record.{Record}
 use Rattle.verdict.specs.declared.Answer.{Answer}
 use Rattle.lead.specs.declared.Lead.{Lead}
 use Rattle.lead.specs.declared.Plan.{Plan}
 use Rattle.lead.specs.Asked.{asked}
 use Rattle.watch.specs.declared.Written.{Written}
-use Rattle.watch.specs.Text.{Held, waiting, step, limit, heldBehind}
+use Rattle.watch.specs.Text.{waiting, step, limit, heldBehind}
 use Rattle.watch.specs.Model.{linesMost, Laid, Writes}
+use Rattle.watch.proofs.Records.{held-append}
 use Rattle.watch.proofs.Output.{laid-bytes}
 use Rattle.console.specs.declared.Status.{Status}
 use Rattle.console.specs.declared.Status.the-variants.{More, Line, Last, Over}
@@ -95,10 +95,6 @@ unfolding bytesTold
 told-bytes line lead plan answer walk d d′ w e f t =
     laid-bytes _ d d′ (w .first) (w .len) (t .laid) ∙ rw (e, f)
 
-one-more : (p : Held) (rs : List Record) (r : Record) → step (heldBehind p rs) r .next ≡ heldBehind p (rs ++ (r ∷ []))
-unfolding heldBehind
-one-more p [] r = refl
-one-more p (x ∷ rs) r = one-more (step p x .next) rs r
-
 pub one-behind : (ls : List (List ℕ)) (l : List ℕ) → step (heldBehind waiting (map recordOf ls)) (recordOf l) .next ≡ heldBehind waiting (map recordOf (ls ++ (l ∷ [])))
-one-behind ls l = one-more waiting (map recordOf ls) (recordOf l) ∙ ap (heldBehind waiting) (sym (map-append recordOf ls (l ∷ [])))
+unfolding heldBehind
+one-behind ls l = sym (held-append waiting (map recordOf ls) (recordOf l ∷ [])) ∙ ap (heldBehind waiting) (sym (map-append recordOf ls (l ∷ [])))

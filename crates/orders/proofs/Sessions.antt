@@ -4,7 +4,7 @@ use Prim.Native.Nat.{ℕ}
 use mathlib.Core.List.{List, [], _∷_, _++_, append-assoc, map, map-append, nil≢cons, cons≢nil, head-eq-of-cons-eq, tail-eq-of-cons-eq}
 use native.Mathlib.Omega.{arith}
 use lib.ListN.{length}
-use Rattle.plain.specs.Search.{Edge, Verdict, none, lasso, unfinished}
+use Rattle.plain.specs.Search.{Verdict, none, lasso, unfinished}
 use Rattle.plain.specs.Table.{Table}
 use Rattle.plain.specs.Refusals.{Trial, accepted}
 use Rattle.plain.specs.Machine.{Change, add, cut, Update, single, changesOf, Answer as PlainAnswer, answer, loadAnswer, tableOf, written, Call, callFor, trialOf, answerTo, tableAfter, answers, Line, answerLine}

@@ -2,27 +2,28 @@
 use mathlib.Core.Path.{_≡_, refl, sym, ap, subst, subst⁻¹, _∙_}
 use mathlib.Core.Logic.{_≢_}
 use mathlib.Core.Bool.{Bool, true, false, _&&_, cond}
-use mathlib.Core.List.{List, [], _∷_, _++_, map, map-append, nil≢cons, cons≢nil, head-eq-of-cons-eq, tail-eq-of-cons-eq}
+use mathlib.Core.List.{List, [], _∷_, _++_, append-nil, append-assoc, map, map-append, nil≢cons, cons≢nil, head-eq-of-cons-eq, tail-eq-of-cons-eq}
 use Prim.Native.Nat.{ℕ}
 use native.Mathlib.Omega.{arith}
 use Rattle.plain.specs.Search.{Verdict, none, lasso, unfinished, verdict, count}
 use Rattle.plain.specs.Table.{Table, final}
 use Rattle.plain.specs.Refusals.{Trial, accepted, refused, loadTrial, full}
-use Rattle.plain.specs.Machine.{Change, add, cut, BatchLine, makes, other, Update, single, batch, applied, Answer, answer, answerLine, loadAnswer, tableOf, Call, callFor, trialOf, answerTo, tableAfter, Line, noLine, numbered}
+use Rattle.plain.specs.Machine.{Change, add, cut, BatchLine, makes, other, changesIn, Update, single, batch, changesOf, applied, Answer, answer, answerLine, loadAnswer, tableOf, Call, callFor, trialOf, answerTo, tableAfter, Line, noLine, numbered}
 use Rattle.plain.specs.Claims.{Arises, loaded, totalled, tableBehind}
-use Rattle.plain.specs.Orders.{SameView, Apart, EachAccepted, totalLine}
+use Rattle.plain.specs.Orders.{SameView, Apart, changesAsked, EachAccepted, totalLine}
 use Rattle.plain.proofs.Demands.{demand-2}
-use Rattle.plain.proofs.Calls.{answer-accepted, table-accepted, answer-refused, table-refused, after-arises, after-reports, fresh-reports, asked-each}
+use Rattle.plain.proofs.Calls.{answer-accepted, table-accepted, answer-refused, table-refused, after-arises, after-reports, fresh-reports}
 use Rattle.plain.proofs.Views.{view-refl, same-call}
 use Rattle.plain.proofs.Orders.{told-alike, same-views, brings-back, cut-follows}
 use Rattle.line.specs.Records.{recordOf}
 use Rattle.line.specs.Words.{isWord}
 use Rattle.line.specs.declared.Word.the-variants.{Game, Pay, Move, Go}
 use Rattle.line.specs.declared.Record.{Record}
-use Rattle.watch.specs.Text.{Draft, Play, playOf, Held, waiting, gathering, playing, batching, ended, Step, empty, room, loadStep, loadOf, callOn, updateStep, Request, changing, beginning, ending, unknown, requestOf, playStep, batchStep, atFirst, beforeGo, afterGo, inBatch, step, printed, heldBehind}
+use Rattle.watch.specs.Text.{Draft, Play, playOf, Held, waiting, gathering, playing, batching, ended, Step, quiet, empty, room, loadStep, loadOf, callOn, updateStep, Request, changing, beginning, ending, unknown, requestOf, playStep, batchStep, atFirst, beforeGo, afterGo, inBatch, step, printed, heldBehind}
 use Rattle.watch.specs.Truth.{All}
+use Rattle.watch.proofs.Records.{held-append, printed-append}
 use Rattle.watch.proofs.Truth.{Sound, right}
-use Rattle.orders.specs.Texts.{NotNo, Asking, heldAfter, printedBehind, newer, lastVerdict, toldBy, SameEnding, AnyOrders, BringsBack}
+use Rattle.orders.specs.Texts.{NotNo, requested, Asking, nothing, one, some, heldAfter, printedBehind, newer, lastVerdict, toldBy, SameEnding, AnyOrders, BringsBack}
 
 -- ---- the last verdict that was told is that of the table that is held
 
@@ -190,6 +191,10 @@ asked-step : (r : Record) (c : Change) (t : Table) → requestOf r ≡ changing 
 unfolding step afterGo
 asked-step r c t e = ap (λ (q : Request). playStep q (playOf t)) e
 
+inside-step : (r : Record) (c : Change) (t : Table) (xs : List BatchLine) → requestOf r ≡ changing c → step (batching (playOf t) xs) r ≡ quiet (batching (playOf t) (xs ++ (makes c ∷ [])))
+unfolding step inBatch
+inside-step r c t xs e = ap (λ (q : Request). batchStep q (playOf t) xs) e
+
 all-left : (P : Line → Type 0) (xs ys : List Line) → All P (xs ++ ys) → All P xs
 all-left P [] ys a = tt
 all-left P (x ∷ xs) ys a = (a .0, all-left P xs ys (a .1))
@@ -207,62 +212,124 @@ not-refused c t n = by-trial (trialOf c t) refl
     by-trial accepted k = k
     by-trial (refused m) k = absurd (subst (λ (w : Answer). All NotNo (answerLine w)) (answer-refused c t m k) n .0)
 
-abbrev callsFor : List Change → List Call
-callsFor cs = map (callFor room) cs
+-- lines inside a batch: they are held, and nothing is printed
+inside-held : (t : Table) (xs : List BatchLine) (ls : List (List ℕ)) (cs : List Change) → map requested ls ≡ map changing cs
+    → (heldBehind (batching (playOf t) xs) (map recordOf ls) ≡ batching (playOf t) (xs ++ map makes cs)) × (printed (batching (playOf t) xs) (map recordOf ls) ≡ [])
+unfolding heldBehind printed
+inside-held t xs [] [] e = (ap (batching (playOf t)) (sym (append-nil xs)), refl)
+inside-held t xs [] (c ∷ cs) e = absurd (nil≢cons e)
+inside-held t xs (l ∷ ls) [] e = absurd (cons≢nil e)
+inside-held t xs (l ∷ ls) (c ∷ cs) e =
+    let k = inside-step (recordOf l) c t xs (head-eq-of-cons-eq e) in
+    let w = inside-held t (xs ++ (makes c ∷ [])) ls cs (tail-eq-of-cons-eq e) in (
+      ap (λ (s : Step). heldBehind (s .next) (map recordOf ls)) k ∙ w .0 ∙ ap (batching (playOf t)) (append-assoc xs (makes c ∷ []) (map makes cs)),
+      ap (λ (s : Step). s .lines ++ printed (s .next) (map recordOf ls)) k ∙ w .1,
+    )
 
--- the first line's request, and the others'
-first-asked : (l : List ℕ) (ls : List (List ℕ)) (c : Change) (cs : List Change) → Asking (l ∷ ls) (c ∷ cs) → (requestOf (recordOf l) ≡ changing c) × Asking ls cs
-first-asked l ls c cs e = (head-eq-of-cons-eq e, tail-eq-of-cons-eq e)
+changes-back : (cs : List Change) → changesIn (map makes cs) ≡ cs
+unfolding changesIn
+changes-back [] = refl
+changes-back (c ∷ cs) = ap (λ (ds : List Change). c ∷ ds) (changes-back cs)
 
-lines-accepted : (ls : List (List ℕ)) (cs : List Change) (t : Table) → Asking ls cs → All NotNo (printed (playing (playOf t)) (map recordOf ls)) → EachAccepted (callsFor cs) t
-unfolding printed
-lines-accepted [] [] t e n = tt
-lines-accepted [] (c ∷ cs) t e n = absurd (nil≢cons e)
-lines-accepted (l ∷ ls) [] t e n = absurd (cons≢nil e)
-lines-accepted (l ∷ ls) (c ∷ cs) t e n =
-    let w = first-asked l ls c cs e in
-    let n₂ = subst (λ (s : Step). All NotNo (s .lines ++ printed (s .next) (map recordOf ls))) (asked-step (recordOf l) c t (w .0)) n in
-    (not-refused (callFor room c) t (all-left NotNo (answerLine (answerTo (callFor room c) t)) _ n₂), lines-accepted ls cs (tableAfter (callFor room c) t) (w .1) (all-right NotNo (answerLine (answerTo (callFor room c) t)) _ n₂))
+-- ---- lines that ask for changes, as calls: none is answered by a `no` line only where all are accepted, and then the table behind them is held
 
-lines-held : (ls : List (List ℕ)) (cs : List Change) (t : Table) → Asking ls cs → heldBehind (playing (playOf t)) (map recordOf ls) ≡ playing (playOf (tableBehind (callsFor cs) t))
-unfolding heldBehind tableBehind
-lines-held [] [] t e = refl
-lines-held [] (c ∷ cs) t e = absurd (nil≢cons e)
-lines-held (l ∷ ls) [] t e = absurd (cons≢nil e)
-lines-held (l ∷ ls) (c ∷ cs) t e =
-    let w = first-asked l ls c cs e in
-    ap (λ (s : Step). heldBehind (s .next) (map recordOf ls)) (asked-step (recordOf l) c t (w .0)) ∙ lines-held ls cs (tableAfter (callFor room c) t) (w .1)
+record Does (ls : List (List ℕ)) (cs : List Change) (t : Table) : Type 0 where
+  pub calls : List Call
+  pub asked : changesAsked calls ≡ cs
+  pub each-accepted : All NotNo (printed (playing (playOf t)) (map recordOf ls)) → EachAccepted calls t
+  pub held : heldBehind (playing (playOf t)) (map recordOf ls) ≡ playing (playOf (tableBehind calls t))
 
--- what is held behind more lines
-held-append : (p : Held) (rs qs : List Record) → heldBehind p (rs ++ qs) ≡ heldBehind (heldBehind p rs) qs
+-- a call that some lines make, and the lines behind it
+then : (ls ms : List (List ℕ)) (u : Update) (cs : List Change) (t : Table)
+    → heldBehind (playing (playOf t)) (map recordOf ls) ≡ playing (playOf (tableAfter (callOn u) t)) → printed (playing (playOf t)) (map recordOf ls) ≡ answerLine (answerTo (callOn u) t)
+    → Does ms cs (tableAfter (callOn u) t) → Does (ls ++ ms) (changesOf u ++ cs) t
+unfolding changesAsked tableBehind
+then ls ms u cs t held lines d = record {
+  calls = callOn u ∷ d .calls;
+  asked = ap (λ (ds : List Change). changesOf u ++ ds) (d .asked);
+  each-accepted = λ n. let k = subst (All NotNo) (both ∙ (λ i. lines i ++ printed (held i) (map recordOf ms))) n in
+      (not-refused (callOn u) t (all-left NotNo (answerLine (answerTo (callOn u) t)) _ k), d .each-accepted (all-right NotNo (answerLine (answerTo (callOn u) t)) _ k));
+  held = ap (heldBehind (playing (playOf t))) (map-append recordOf ls ms) ∙ held-append (playing (playOf t)) (map recordOf ls) (map recordOf ms)
+      ∙ ap (λ (h : Held). heldBehind h (map recordOf ms)) held ∙ d .held;
+}
+  where
+    both : printed (playing (playOf t)) (map recordOf (ls ++ ms)) ≡ printed (playing (playOf t)) (map recordOf ls) ++ printed (heldBehind (playing (playOf t)) (map recordOf ls)) (map recordOf ms)
+    both = ap (printed (playing (playOf t))) (map-append recordOf ls ms) ∙ printed-append (playing (playOf t)) (map recordOf ls) (map recordOf ms)
+
+-- one change
+line-held : (l : List ℕ) (c : Change) (t : Table) → requested l ≡ changing c → heldBehind (playing (playOf t)) (recordOf l ∷ []) ≡ playing (playOf (tableAfter (callOn (single c)) t))
 unfolding heldBehind
-held-append p [] qs = refl
-held-append p (r ∷ rs) qs = held-append (step p r .next) rs qs
+line-held l c t e = ap (λ (s : Step). s .next) (asked-step (recordOf l) c t e)
+
+line-printed : (l : List ℕ) (c : Change) (t : Table) → requested l ≡ changing c → printed (playing (playOf t)) (recordOf l ∷ []) ≡ answerLine (answerTo (callOn (single c)) t)
+unfolding printed
+line-printed l c t e = ap (λ (s : Step). s .lines ++ []) (asked-step (recordOf l) c t e) ∙ append-nil (answerLine (answerTo (callOn (single c)) t))
+
+-- a batch
+module _ (b : List ℕ) (inside : List (List ℕ)) (e : List ℕ) (cs : List Change) (t : Table) (begins : requested b ≡ beginning) (asks : map requested inside ≡ map changing cs) (ends : requested e ≡ ending) where
+  batch-lines : map recordOf (b ∷ (inside ++ (e ∷ []))) ≡ recordOf b ∷ (map recordOf inside ++ (recordOf e ∷ []))
+  batch-lines = ap (λ (rs : List Record). recordOf b ∷ rs) (map-append recordOf inside (e ∷ []))
+
+  begun : step (playing (playOf t)) (recordOf b) ≡ quiet (batching (playOf t) [])
+  unfolding step afterGo
+  begun = ap (λ (q : Request). playStep q (playOf t)) begins
+
+  ended-step : step (batching (playOf t) (map makes cs)) (recordOf e) ≡ updateStep (batch (map makes cs)) (playOf t)
+  unfolding step inBatch
+  ended-step = ap (λ (q : Request). batchStep q (playOf t) (map makes cs)) ends
+
+  whole-held : heldBehind (playing (playOf t)) (map recordOf (b ∷ (inside ++ (e ∷ [])))) ≡ playing (playOf (tableAfter (callOn (batch (map makes cs))) t))
+  unfolding heldBehind
+  whole-held =
+      ap (heldBehind (playing (playOf t))) batch-lines ∙ ap (λ (s : Step). heldBehind (s .next) (map recordOf inside ++ (recordOf e ∷ []))) begun
+      ∙ held-append (batching (playOf t) []) (map recordOf inside) (recordOf e ∷ []) ∙ ap (λ (h : Held). heldBehind h (recordOf e ∷ [])) (inside-held t [] inside cs asks .0)
+      ∙ ap (λ (s : Step). s .next) ended-step
+
+  whole-printed : printed (playing (playOf t)) (map recordOf (b ∷ (inside ++ (e ∷ [])))) ≡ answerLine (answerTo (callOn (batch (map makes cs))) t)
+  unfolding printed
+  whole-printed =
+      let w = inside-held t [] inside cs asks in
+      ap (printed (playing (playOf t))) batch-lines ∙ ap (λ (s : Step). s .lines ++ printed (s .next) (map recordOf inside ++ (recordOf e ∷ []))) begun
+      ∙ printed-append (batching (playOf t) []) (map recordOf inside) (recordOf e ∷ []) ∙ (λ i. w .1 i ++ printed (w .0 i) (recordOf e ∷ []))
+      ∙ ap (λ (s : Step). s .lines ++ []) ended-step ∙ append-nil (answerLine (answerTo (callOn (batch (map makes cs))) t))
+
+does : (ls : List (List ℕ)) (cs : List Change) (t : Table) → Asking ls cs → Does ls cs t
+unfolding changesOf changesAsked heldBehind tableBehind
+does ls cs t nothing = record { calls = []; asked = refl; each-accepted = λ n. tt; held = refl }
+does ls cs t (one l c ms ds e rest) = then (l ∷ []) ms (single c) ds t (line-held l c t e) (line-printed l c t e) (does ms ds (tableAfter (callOn (single c)) t) rest)
+does ls cs t (some b inside e changes ms ds begins asks ends rest) =
+    let u = batch (map makes changes) in
+    let d = then (b ∷ (inside ++ (e ∷ []))) ms u ds t (whole-held b inside e changes t begins asks ends) (whole-printed b inside e changes t begins asks ends) (does ms ds (tableAfter (callOn u) t) rest) in
+    subst (λ (xs : List (List ℕ)). Does (b ∷ xs) (changes ++ ds) t) (append-assoc inside (e ∷ []) ms) (subst (λ (xs : List Change). Does ((b ∷ (inside ++ (e ∷ []))) ++ ms) (xs ++ ds) t) (changes-back changes) d)
 
 -- behind a text after which a game is played
-module _ (earlier : List (List ℕ)) (p : Play) (at : heldAfter earlier ≡ playing p) where
-  held-asked : (ls : List (List ℕ)) (cs : List Change) → Asking ls cs → heldAfter (earlier ++ ls) ≡ playing (playOf (tableBehind (callsFor cs) (p .table)))
-  held-asked ls cs e =
+module _ (earlier : List (List ℕ)) (p : Play) (at : heldAfter earlier ≡ playing p) (ls : List (List ℕ)) (cs : List Change) (asking : Asking ls cs) where
+  abbrev doing : Does ls cs (p .table)
+  doing = does ls cs (p .table) asking
+
+  held-asked : heldAfter (earlier ++ ls) ≡ playing (playOf (tableBehind (doing .calls) (p .table)))
+  held-asked =
       ap (heldBehind waiting) (map-append recordOf earlier ls) ∙ held-append waiting (map recordOf earlier) (map recordOf ls)
-      ∙ ap (λ (h : Held). heldBehind h (map recordOf ls)) at ∙ lines-held ls cs (p .table) e
+      ∙ ap (λ (h : Held). heldBehind h (map recordOf ls)) at ∙ doing .held
 
-  all-accepted : (ls : List (List ℕ)) (cs : List Change) → Asking ls cs → All NotNo (printedBehind earlier ls) → EachAccepted (callsFor cs) (p .table)
-  all-accepted ls cs e n = lines-accepted ls cs (p .table) e (subst (λ (h : Held). All NotNo (printed h (map recordOf ls))) at n)
-
-  asked-arises : Arises (p .table)
-  asked-arises = subst Sound at (text-behind earlier .sound)
+  all-accepted : All NotNo (printedBehind earlier ls) → EachAccepted (doing .calls) (p .table)
+  all-accepted n = doing .each-accepted (subst (λ (h : Held). All NotNo (printed h (map recordOf ls))) at n)
 
 -- ANY ORDERS
 pub texts-any-orders : AnyOrders
 texts-any-orders earlier ls ms p cs ds at apart order e n f k =
+    let a = does ls cs (p .table) e in
+    let b = does ms ds (p .table) f in
     same-ending (earlier ++ ls) (earlier ++ ms) _ _ (held-asked earlier p at ls cs e) (held-asked earlier p at ms ds f)
-    (same-views (p .table) (callsFor cs) (callsFor ds) (subst⁻¹ Apart (asked-each room cs) apart) (rw (asked-each room cs, asked-each room ds) order)
+    (same-views (p .table) (a .calls) (b .calls) (subst⁻¹ Apart (a .asked) apart) (rw (a .asked, b .asked) order)
     (all-accepted earlier p at ls cs e n) (all-accepted earlier p at ms ds f k))
 
 -- THERE AND BACK
 pub texts-bring-back : BringsBack
-texts-bring-back earlier p e l m at asking n =
+unfolding does then
+texts-bring-back earlier p e l m at adds cuts n =
     let t = p .table in
-    let added = all-accepted earlier p at (l ∷ []) (add e ∷ []) (ap (λ (q : Request). q ∷ []) (first-asked l (m ∷ []) (add e) (cut e ∷ []) asking .0)) n .0 in
-    let back = brings-back t e room room (asked-arises earlier p at) (cut-follows t e room room (omega arith) added) .same-table in
-    same-ending (earlier ++ (l ∷ m ∷ [])) earlier t t (held-asked earlier p at (l ∷ m ∷ []) (add e ∷ cut e ∷ []) asking ∙ ap (λ (u : Table). playing (playOf u)) back) at (view-refl t)
+    let added = not-refused (callFor room (add e)) t (subst (All NotNo) (ap (λ (h : Held). printed h (recordOf l ∷ [])) at ∙ line-printed l (add e) t adds) n) in
+    let back = brings-back t e room room (subst Sound at (text-behind earlier .sound)) (cut-follows t e room room (omega arith) added) .same-table in
+    same-ending (earlier ++ (l ∷ m ∷ [])) earlier t t
+    (held-asked earlier p at (l ∷ m ∷ []) (add e ∷ cut e ∷ []) (one l (add e) (m ∷ []) (cut e ∷ []) adds (one m (cut e) [] [] cuts nothing)) ∙ ap (λ (u : Table). playing (playOf u)) back) at (view-refl t)

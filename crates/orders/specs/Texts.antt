@@ -6,7 +6,7 @@ use Rattle.plain.specs.Search.{Edge}
 use Rattle.plain.specs.Machine.{Change, add, cut, Line, gameLine, roundLine, noneLine, noLine}
 use Rattle.plain.specs.Orders.{Apart, Reordered, totalLine}
 use Rattle.line.specs.Records.{recordOf}
-use Rattle.watch.specs.Text.{Play, Held, waiting, playing, changing, requestOf, printed, heldBehind}
+use Rattle.watch.specs.Text.{Play, Held, waiting, playing, Request, changing, beginning, ending, requestOf, printed, heldBehind}
 use Rattle.watch.specs.Truth.{All}
 
 -- a line that is no refusal
@@ -16,9 +16,17 @@ NotNo (roundLine spent kept stem cycle walk) = Unit {0}
 NotNo (noneLine spent kept) = Unit {0}
 NotNo (noLine r) = ⊥
 
--- the lines ask for these changes, each for one
-abbrev pub Asking : List (List ℕ) → List Change → Type 0
-Asking ls cs = map (λ l. requestOf (recordOf l)) ls ≡ map changing cs
+-- what a line requests behind `go`
+abbrev pub requested : List ℕ → Request
+requested l = requestOf (recordOf l)
+
+-- The lines ask for these changes, in this order: a line asks for one, or lines from a `begin` to its `end` ask for some.
+pub data Asking : List (List ℕ) → List Change → Type 0 where
+  nothing : Asking [] []
+  one : (l : List ℕ) (c : Change) (ls : List (List ℕ)) (cs : List Change) → requested l ≡ changing c → Asking ls cs → Asking (l ∷ ls) (c ∷ cs)
+  some : (b : List ℕ) (inside : List (List ℕ)) (e : List ℕ) (changes : List Change) (ls : List (List ℕ)) (cs : List Change)
+      → requested b ≡ beginning → map requested inside ≡ map changing changes → requested e ≡ ending → Asking ls cs
+      → Asking (b ∷ (inside ++ (e ∷ ls))) (changes ++ cs)
 
 -- what is held behind the lines of a text, and what is printed for lines that follow
 abbrev pub heldAfter : List (List ℕ) → Held
@@ -56,5 +64,5 @@ AnyOrders = (earlier ls ms : List (List ℕ)) (p : Play) (cs ds : List Change) �
 
 -- a line that adds a move, not answered by a `no` line, and a line that cuts it straight away: all is as if neither had been there
 abbrev pub BringsBack : Type 0
-BringsBack = (earlier : List (List ℕ)) (p : Play) (e : Edge) (l m : List ℕ) → heldAfter earlier ≡ playing p → Asking (l ∷ m ∷ []) (add e ∷ cut e ∷ []) → All NotNo (printedBehind earlier (l ∷ []))
-    → SameEnding (earlier ++ (l ∷ m ∷ [])) earlier
+BringsBack = (earlier : List (List ℕ)) (p : Play) (e : Edge) (l m : List ℕ) → heldAfter earlier ≡ playing p → requested l ≡ changing (add e) → requested m ≡ changing (cut e)
+    → All NotNo (printedBehind earlier (l ∷ [])) → SameEnding (earlier ++ (l ∷ m ∷ [])) earlier

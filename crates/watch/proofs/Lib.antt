@@ -1,4 +1,5 @@
 pub mod Texts
+pub mod Records
 pub mod Truth
 pub mod Steps
 pub mod Writing
