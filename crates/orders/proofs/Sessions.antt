@@ -10,7 +10,7 @@ use Rattle.plain.specs.Refusals.{Trial, accepted}
 use Rattle.plain.specs.Machine.{Change, add, cut, Update, single, changesOf, Answer as PlainAnswer, answer, loadAnswer, tableOf, written, Call, callFor, trialOf, answerTo, tableAfter, answers, Line, answerLine}
 use Rattle.plain.specs.Claims.{totalled, tableBehind, lastOf}
 use Rattle.plain.specs.Games.{gameH}
-use Rattle.plain.specs.Orders.{Apart, Reordered, nothing, first, changesAsked, EachAccepted, addAndCut, totalLine}
+use Rattle.plain.specs.Orders.{Apart, Permutation, nothing, first, changesAsked, EachAccepted, addAndCut, totalLine}
 use Rattle.plain.proofs.Answers.{first-line}
 use Rattle.plain.proofs.Calls.{fresh-reports, answer-accepted, after-reports}
 use Rattle.plain.proofs.Orders.{line-totalled, written-totalled, any-orders, brings-back, cut-follows, need-not}
@@ -122,7 +122,7 @@ pub sessions-two-orders : TwoOrders
 sessions-two-orders s t h c d apart x y e f served n x₂ y₂ e₂ f₂ served₂ n₂ =
     let one = two-asked x y c d e f in
     let other = two-asked x₂ y₂ d c e₂ f₂ in
-    let order : Reordered (c ∷ d ∷ []) (d ∷ c ∷ []) = first c (d ∷ []) (d ∷ []) [] (first d [] [] [] nothing) in
+    let order : Permutation (c ∷ d ∷ []) (d ∷ c ∷ []) = first c (d ∷ []) (d ∷ []) [] (first d [] [] [] nothing) in
     sessions-any-orders s t h (x ∷ []) y [] served n (x₂ ∷ []) y₂ [] served₂ n₂ (subst⁻¹ Apart one apart) (rw (one, other) order) .same-told
 
 -- ---- there and back

@@ -9,7 +9,7 @@ use Rattle.plain.specs.Table.{Table}
 use Rattle.plain.specs.Refusals.{Load}
 use Rattle.plain.specs.Machine.{Change, add, cut, Update, single, tableOf, tableAfter, Line}
 use Rattle.plain.specs.Games.{gameH}
-use Rattle.plain.specs.Orders.{Apart, Reordered, changesAsked, totalLine}
+use Rattle.plain.specs.Orders.{Apart, Permutation, changesAsked, totalLine}
 use Rattle.verdict.specs.declared.Answer.the-variants.{Refused}
 use Rattle.verdict.specs.Answers.{shown, NoRefusal}
 use Rattle.table.specs.declared.Refusal.{Refusal}
@@ -59,7 +59,7 @@ abbrev pub AnyOrders : Type 0
 AnyOrders = (s : Session) (t : Table) → Holds s t
     → (xs : List Exchange) (x : Exchange) (later : List Exchange) → Served s (xs ++ (x ∷ later)) → NoneRefused (xs ++ (x ∷ []))
     → (ys : List Exchange) (y : Exchange) (later₂ : List Exchange) → Served s (ys ++ (y ∷ later₂)) → NoneRefused (ys ++ (y ∷ []))
-    → Apart (askedIn (xs ++ (x ∷ []))) → Reordered (askedIn (xs ++ (x ∷ []))) (askedIn (ys ++ (y ∷ [])))
+    → Apart (askedIn (xs ++ (x ∷ []))) → Permutation (askedIn (xs ++ (x ∷ []))) (askedIn (ys ++ (y ∷ [])))
     → SameEnding x later y later₂
 
 -- ---- there and back

@@ -4,7 +4,7 @@ use mathlib.Core.Path.{_≡_}
 use mathlib.Core.List.{List, [], _∷_, _++_, map}
 use Rattle.plain.specs.Search.{Edge}
 use Rattle.plain.specs.Machine.{Change, add, cut, Line, gameLine, roundLine, noneLine, noLine}
-use Rattle.plain.specs.Orders.{Apart, Reordered, totalLine}
+use Rattle.plain.specs.Orders.{Apart, Permutation, totalLine}
 use Rattle.line.specs.Records.{recordOf}
 use Rattle.watch.specs.Text.{Play, Held, waiting, playing, Request, changing, beginning, ending, requestOf, printed, heldBehind}
 use Rattle.watch.specs.Truth.{All}
@@ -58,7 +58,7 @@ pub record SameEnding (ls ms : List (List ℕ)) : Type 0 where
 -- Behind lines of a text after which a game is played: lines that ask for changes, which name pairwise different states, and lines that ask for the same changes in another order, none
 -- answered by a `no` line.
 abbrev pub AnyOrders : Type 0
-AnyOrders = (earlier ls ms : List (List ℕ)) (p : Play) (cs ds : List Change) → heldAfter earlier ≡ playing p → Apart cs → Reordered cs ds
+AnyOrders = (earlier ls ms : List (List ℕ)) (p : Play) (cs ds : List Change) → heldAfter earlier ≡ playing p → Apart cs → Permutation cs ds
     → Asking ls cs → All NotNo (printedBehind earlier ls) → Asking ms ds → All NotNo (printedBehind earlier ms)
     → SameEnding (earlier ++ ls) (earlier ++ ms)
 

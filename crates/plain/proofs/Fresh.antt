@@ -2,16 +2,16 @@
 use mathlib.Core.Path.{_≡_, refl, sym, ap, _∙_}
 use mathlib.Core.Bool.{false}
 use mathlib.Core.List.{List, [], _∷_}
-use Prim.Native.Nat.{ℕ, _+_, _*_, _≤_}
+use Prim.Native.Nat.{ℕ, _*_, _≤_}
 use native.Mathlib.Omega.{arith}
 use lib.ListN.{length}
 use borrow.Author.Tests.{le-ltb}
 use Rattle.plain.specs.Lists.{any}
 use Rattle.plain.specs.Search.{Edge}
 use Rattle.plain.specs.Table.{Table}
-use Rattle.plain.specs.Refusals.{Trial, accepted, refused, pairs, flat, badCount, outside, repeated, shortRoom, loadTrial}
-use Rattle.plain.specs.Machine.{answer, tableOf, loadAnswer, updateAnswer, Call, trialOf, answerTo, tableAfter}
-use Rattle.plain.specs.Claims.{Arises, totalled, loadFrom, AsFresh}
+use Rattle.plain.specs.Refusals.{accepted, pairs, flat, badCount, outside, repeated, shortRoom, loadTrial}
+use Rattle.plain.specs.Machine.{tableOf, loadAnswer, Call, trialOf, tableAfter}
+use Rattle.plain.specs.Claims.{Arises, loadFrom, AsFresh}
 use Rattle.plain.proofs.Trials.{held-later, accepted-when}
 use Rattle.plain.proofs.Tables.{Valid, valid, count-fine}
 use Rattle.plain.proofs.Batches.{update-size, update-room}
@@ -52,13 +52,8 @@ fresh-answer t v room h = (λ i. loadAnswer (fresh-accepted t v room h i) (fresh
 -- ---- a call is answered as a fresh load of the table that it leaves
 
 pub as-fresh : (c : Call) (t : Table) → Arises t → AsFresh c t
-unfolding answerTo updateAnswer trialOf totalled
-as-fresh c t a v spent kept-looks e = by-trial (trialOf c t) refl e
-  where
-    by-trial : (x : Trial) → trialOf c t ≡ x → updateAnswer x c t ≡ answer v spent kept-looks
-        → loadAnswer (loadTrial (loadFrom (tableAfter c t)) (c .room)) (tableOf (loadFrom (tableAfter c t))) ≡ answer v (kept-looks + spent) 0
-    by-trial (refused n) k f = absurd (let z : _≡_ {A = ℕ} 0 1 = cc in omega arith)
-    by-trial accepted k f =
-        let t′ = tableAfter c t in
-        let room : t′ .size ≤ c .room = omega (arith, update-room (c .update) t (c .room) k, ap (λ (u : Table). u .size) (table-accepted c t k), update-size (c .update) t) in
-        fresh-answer t′ (valid t′ (after-arises c t a k)) (c .room) room ∙ sym (after-reports c t a k) ∙ ap totalled e
+unfolding trialOf
+as-fresh c t a k =
+    let t′ = tableAfter c t in
+    let room : t′ .size ≤ c .room = omega (arith, update-room (c .update) t (c .room) k, ap (λ (u : Table). u .size) (table-accepted c t k), update-size (c .update) t) in
+    fresh-answer t′ (valid t′ (after-arises c t a k)) (c .room) room ∙ sym (after-reports c t a k)

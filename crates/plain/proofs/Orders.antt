@@ -12,15 +12,15 @@ use Rattle.plain.specs.Table.{Table, bit, accepts, row, budget, final}
 use Rattle.plain.specs.Refusals.{accepted, firstHeld, pairs, sameEdge, present, badSize, badStart, badMarks, badCount, outside, repeated, full, shortRoom, loadTrial}
 use Rattle.plain.specs.Machine.{Change, add, cut, tableOf, withEdges, without, apply, conditions, changeTrial, applyAll, namedAll, changesOf, applied, updateTrial, kept, Answer, refusal, answer, loadAnswer, Call, callFor, trialOf, tableAfter, answers, written, answerLine}
 use Rattle.plain.specs.Claims.{Arises, loaded, totalled, tableBehind, lastOf}
-use Rattle.plain.specs.Orders.{SameView, Apart, TwoOrders, Reordered, nothing, first, changesAsked, EachAccepted, AnyOrders, addAndCut, BringsBack, CutFollows, cutAndAdd, NeedNot, totalLine}
+use Rattle.plain.specs.Orders.{SameView, Apart, TwoOrders, Permutation, nothing, first, changesAsked, EachAccepted, AnyOrders, addAndCut, BringsBack, CutFollows, cutAndAdd, NeedNot, totalLine}
 use Rattle.plain.specs.Games.{wordOf, knownBy, known, gameH}
 use Rattle.plain.proofs.Tests.{in-head, in-right, or-false, or-neither}
 use Rattle.plain.proofs.Trials.{held-later, unheld}
 use Rattle.plain.proofs.Rows.{row-has, row-add, without-newest}
 use Rattle.plain.proofs.Tables.{room-enough}
-use Rattle.plain.proofs.Calls.{single-trial, single-table, behind-calls, last-told, fresh-reports, each-call}
+use Rattle.plain.proofs.Calls.{single-trial, single-table, behind-calls, last-told, fresh-reports}
 use Rattle.plain.proofs.OneByOne.{roomy}
-use Rattle.plain.proofs.Views.{stateOf, named-is, view-refl, view-trans, same-apply-all, swapped, only-rows}
+use Rattle.plain.proofs.Views.{stateOf, named-is, view-refl, view-trans, same-apply-all, commute, only-rows}
 
 -- ---- the states that changes name
 
@@ -53,11 +53,11 @@ part-unnamed x (d ∷ before) behind f =
     cons-unnamed x d before (w .0) (part-unnamed x before behind (w .1))
 
 -- in another order
-reordered-unnamed : (x : ℕ) (cs ds : List Change) → Reordered cs ds → elem x (namedAll cs) ≡ false → elem x (namedAll ds) ≡ false
-reordered-unnamed x cs ds nothing f = f
-reordered-unnamed x cs ds (first c rest before behind r) f =
+permuted-unnamed : (x : ℕ) (cs ds : List Change) → Permutation cs ds → elem x (namedAll cs) ≡ false → elem x (namedAll ds) ≡ false
+permuted-unnamed x cs ds nothing f = f
+permuted-unnamed x cs ds (first c rest before behind r) f =
     let w = unnamed-cons x c rest f in
-    insert-unnamed x c before behind (w .0) (reordered-unnamed x rest (before ++ behind) r (w .1))
+    insert-unnamed x c before behind (w .0) (permuted-unnamed x rest (before ++ behind) r (w .1))
 
 apart-cons : (c : Change) (cs : List Change) → Apart (c ∷ cs) → (elem (stateOf c) (namedAll cs) ≡ false) × Apart cs
 apart-cons c cs a = subst Once (named-first c cs) a
@@ -71,15 +71,15 @@ unfolding applyAll
 moved c [] behind t f = view-refl (applyAll behind (apply c t))
 moved c (d ∷ before) behind t f =
     let w = unnamed-cons (stateOf c) d before f in
-    view-trans (same-apply-all (before ++ behind) (swapped c d t (w .0))) (moved c before behind (apply d t) (w .1))
+    view-trans (same-apply-all (before ++ behind) (commute c d t (w .0))) (moved c before behind (apply d t) (w .1))
 
 -- changes that name pairwise different states lead to the same view in any order
-any-order : (cs ds : List Change) (t : Table) → Reordered cs ds → Apart cs → SameView (applyAll cs t) (applyAll ds t)
+any-order : (cs ds : List Change) (t : Table) → Permutation cs ds → Apart cs → SameView (applyAll cs t) (applyAll ds t)
 unfolding applyAll
 any-order cs ds t nothing a = view-refl t
 any-order cs ds t (first c rest before behind r) a =
     let w = apart-cons c rest a in
-    let other = part-unnamed (stateOf c) before behind (reordered-unnamed (stateOf c) rest (before ++ behind) r (w .0)) in
+    let other = part-unnamed (stateOf c) before behind (permuted-unnamed (stateOf c) rest (before ++ behind) r (w .0)) in
     view-trans (any-order rest (before ++ behind) (apply c t) r (w .1)) (moved c before behind t other)
 
 -- ---- what they tell
@@ -89,7 +89,7 @@ pub told-alike : (t u : Table) → SameView t u → loadAnswer accepted t ≡ lo
 unfolding loadAnswer
 told-alike t u w = ap (λ (c : Config). answer (verdict c) (count c) 0) (only-rows t u w .same-search)
 
--- and by the same lines, their looks taken together
+-- the line of an answer, its looks taken together
 pub line-totalled : (a : Answer) → answerLine (totalled a) ≡ map totalLine (answerLine a)
 unfolding answerLine totalled totalLine
 line-totalled (refusal r) = refl
@@ -97,7 +97,7 @@ line-totalled (answer none spent kept) = refl
 line-totalled (answer (lasso stem cycle) spent kept) = refl
 line-totalled (answer unfinished spent kept) = refl
 
--- the walk is written alike
+-- its walk is written as it was
 pub written-totalled : (a : Answer) (lent : List ℕ) → written (totalled a) lent ≡ written a lent
 unfolding written totalled
 written-totalled (refusal r) lent = refl
@@ -106,7 +106,7 @@ written-totalled (answer (lasso stem cycle) spent kept) lent = refl
 written-totalled (answer unfinished spent kept) lent = refl
 
 -- accepted calls whose changes are the same in another order leave the same view
-pub same-views : (t : Table) (cs ds : List Call) → Apart (changesAsked cs) → Reordered (changesAsked cs) (changesAsked ds) → EachAccepted cs t → EachAccepted ds t
+pub same-views : (t : Table) (cs ds : List Call) → Apart (changesAsked cs) → Permutation (changesAsked cs) (changesAsked ds) → EachAccepted cs t → EachAccepted ds t
     → SameView (tableBehind cs t) (tableBehind ds t)
 same-views t cs ds apart order h k = rw (behind-calls cs t h, behind-calls ds t k) (any-order (changesAsked cs) (changesAsked ds) t order apart)
 
@@ -123,9 +123,8 @@ any-orders t cs ds a apart order h k =
 pub two-orders : TwoOrders
 unfolding changesAsked changesOf lastOf answers
 two-orders t c d room a apart h k =
-    let w = any-orders t (callFor room c ∷ callFor room d ∷ []) (callFor room d ∷ callFor room c ∷ []) a apart
-    (first c (d ∷ []) (d ∷ []) [] (first d [] [] [] nothing)) (each-call room (c ∷ d ∷ []) t h) (each-call room (d ∷ c ∷ []) t k) in
-    rw (single-table room c t (h .0), single-table room d t (k .0)) at (w .same-report (loadAnswer accepted t) (fresh-reports t))
+    any-orders t (callFor room c ∷ callFor room d ∷ []) (callFor room d ∷ callFor room c ∷ []) a apart (first c (d ∷ []) (d ∷ []) [] (first d [] [] [] nothing)) h k .same-report
+    (loadAnswer accepted t) (fresh-reports t)
 
 -- ---- there and back
 

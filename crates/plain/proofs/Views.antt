@@ -227,8 +227,8 @@ same-apply-all [] w = w
 same-apply-all (c ∷ cs) w = same-apply-all cs (same-apply c w)
 
 -- TWO CHANGES that name different states, in both orders
-pub swapped : (c d : Change) (t : Table) → eqb (stateOf c) (stateOf d) ≡ false → SameView (apply d (apply c t)) (apply c (apply d t))
-swapped c d t n = record {
+pub commute : (c d : Change) (t : Table) → eqb (stateOf c) (stateOf d) ≡ false → SameView (apply d (apply c t)) (apply c (apply d t))
+commute c d t n = record {
   same-size = changed-size d (apply c t) ∙ changed-size c t ∙ sym (changed-size c (apply d t) ∙ changed-size d t);
   same-start = changed-start d (apply c t) ∙ changed-start c t ∙ sym (changed-start c (apply d t) ∙ changed-start d t);
   same-count = counts;

@@ -74,6 +74,11 @@ pub record KeptRight (u : Update) (t : Table) (spent kept : ℕ) : Type 0 where
   -- "Kept + spent = that search's full count"
   pub adds-up : kept + spent ≡ count (final (applied u t))
 
+-- an answer with its looks taken together: the verdict, the walk, and the total of kept and spent
+unfoldable pub totalled : Answer → Answer
+totalled (refusal r) = refusal r
+totalled (answer v spent kept) = answer v (kept + spent) 0
+
 -- the load of a table as it stands: its marks and its moves are those of that moment
 unfoldable pub loadFrom : Table → Load
 loadFrom t = record { size = t .size; start = t .start; words = t .words; numbers = flat (t .edges) }
@@ -81,13 +86,7 @@ loadFrom t = record { size = t .size; start = t .start; words = t .words; number
 -- Of an accepted call, and the table t that it finds: "Anyone comparing with a fresh load uses the marks of that moment" (document 02, ticket 2). A load of the
 -- table as the call leaves it answers with the same verdict and walk; its looks, all spent, are those kept and those spent.
 abbrev pub AsFresh : Call → Table → Type 0
-AsFresh c t = (v : Verdict) (spent kept : ℕ) → answerTo c t ≡ answer v spent kept
-    → loadAnswer (loadTrial (loadFrom (tableAfter c t)) (c .room)) (tableOf (loadFrom (tableAfter c t))) ≡ answer v (kept + spent) 0
-
--- an answer with its looks taken together: the verdict, the walk, and the total of kept and spent
-unfoldable pub totalled : Answer → Answer
-totalled (refusal r) = refusal r
-totalled (answer v spent kept) = answer v (kept + spent) 0
+AsFresh c t = trialOf c t ≡ accepted → loadAnswer (loadTrial (loadFrom (tableAfter c t)) (c .room)) (tableOf (loadFrom (tableAfter c t))) ≡ totalled (answerTo c t)
 
 -- the answer tells the verdict and the walk of a table, and its looks, kept and spent together, are those of its search: what a load of that table tells
 abbrev pub Reports : Answer → Table → Type 0

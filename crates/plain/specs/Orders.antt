@@ -8,8 +8,8 @@ use Rattle.plain.specs.Lists.{Once}
 use Rattle.plain.specs.Search.{Edge}
 use Rattle.plain.specs.Table.{Table, accepts, row, final}
 use Rattle.plain.specs.Refusals.{accepted}
-use Rattle.plain.specs.Machine.{Change, add, cut, tableOf, apply, changesOf, namedAll, Answer, loadAnswer, Call, callFor, trialOf, answerTo, tableAfter, answers, Line, gameLine, roundLine, noneLine, noLine, answerLine}
-use Rattle.plain.specs.Claims.{Arises, AllAccepted, totalled, Reports, tableBehind, lastOf}
+use Rattle.plain.specs.Machine.{Change, add, cut, tableOf, changesOf, namedAll, Answer, loadAnswer, Call, callFor, trialOf, answerTo, tableAfter, answers, Line, gameLine, roundLine, noneLine, noLine, answerLine}
+use Rattle.plain.specs.Claims.{Arises, totalled, Reports, tableBehind, lastOf}
 use Rattle.plain.specs.Games.{gameH}
 
 -- ---- what a call sees of a table
@@ -37,27 +37,27 @@ OnlyRows = (t u : Table) → SameView t u → SeenAlike t u
 abbrev pub Apart : List Change → Type 0
 Apart cs = Once (namedAll cs)
 
+-- the calls are accepted, each on the table that those before it leave
+abbrev pub EachAccepted : List Call → Table → Type 0
+EachAccepted [] t = Unit {0}
+EachAccepted (c ∷ cs) t = (trialOf c t ≡ accepted) × EachAccepted cs (tableAfter c t)
+
 -- "two changes of moves that leave different states, one straight after the other from the same session, if accepted in both orders, end in the same verdict, walk and total of
 -- kept and spent in the second answer." It is so of every two changes that name different states, of moves or of marks.
 abbrev pub TwoOrders : Type 0
 TwoOrders = (t : Table) (c d : Change) (room : ℕ) → Arises t → Apart (c ∷ d ∷ [])
-    → AllAccepted room (c ∷ d ∷ []) t → AllAccepted room (d ∷ c ∷ []) t
-    → totalled (answerTo (callFor room d) (apply c t)) ≡ totalled (answerTo (callFor room c) (apply d t))
+    → EachAccepted (callFor room c ∷ callFor room d ∷ []) t → EachAccepted (callFor room d ∷ callFor room c ∷ []) t
+    → totalled (answerTo (callFor room d) (tableAfter (callFor room c) t)) ≡ totalled (answerTo (callFor room c) (tableAfter (callFor room d) t))
 
--- the same changes in another order: the first of one list stands somewhere in the other, and so on with the rest
-pub data Reordered : List Change → List Change → Type 0 where
-  nothing : Reordered [] []
-  first : (c : Change) (cs before behind : List Change) → Reordered cs (before ++ behind) → Reordered (c ∷ cs) (before ++ (c ∷ behind))
+-- the same changes in another order, a permutation: the first of one list stands somewhere in the other, and so on with the rest
+pub data Permutation : List Change → List Change → Type 0 where
+  nothing : Permutation [] []
+  first : (c : Change) (cs before behind : List Change) → Permutation cs (before ++ behind) → Permutation (c ∷ cs) (before ++ (c ∷ behind))
 
 -- the changes that calls ask for, one behind the other, those of batches too
 unfoldable pub changesAsked : List Call → List Change
 changesAsked [] = []
 changesAsked (c ∷ cs) = changesOf (c .update) ++ changesAsked cs
-
--- the calls are accepted, each on the table that those before it leave
-abbrev pub EachAccepted : List Call → Table → Type 0
-EachAccepted [] t = Unit {0}
-EachAccepted (c ∷ cs) t = (trialOf c t ≡ accepted) × EachAccepted cs (tableAfter c t)
 
 -- Two lists of calls end alike: in the same verdict, walk and total in the last answer (of an empty list that is the one before it), and no call behind them tells the two apart.
 pub record SameEnding (cs ds : List Call) (t : Table) : Type 0 where
@@ -66,7 +66,7 @@ pub record SameEnding (cs ds : List Call) (t : Table) : Type 0 where
 
 -- Beyond the ticket's two: any number of changes that name pairwise different states, in any two orders that are accepted, each a call of its own or in a batch.
 abbrev pub AnyOrders : Type 0
-AnyOrders = (t : Table) (cs ds : List Call) → Arises t → Apart (changesAsked cs) → Reordered (changesAsked cs) (changesAsked ds)
+AnyOrders = (t : Table) (cs ds : List Call) → Arises t → Apart (changesAsked cs) → Permutation (changesAsked cs) (changesAsked ds)
     → EachAccepted cs t → EachAccepted ds t → SameEnding cs ds t
 
 -- ---- lines
