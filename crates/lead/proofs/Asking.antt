@@ -14,7 +14,7 @@ use Rattle.plain.specs.Table.{withMark}
 use Rattle.line.specs.Words.{isWord}
 use Rattle.line.specs.declared.Word.the-variants.{Game, Pay, Move, Go, End}
 use Rattle.line.specs.declared.Record.{Record}
-use Rattle.table.specs.Batches.{lineFor}
+use Rattle.batch.specs.Batches.{lineFor}
 use Rattle.lead.specs.declared.Stage.{Stage}
 use Rattle.lead.specs.declared.Stage.the-variants.{Gathering, Over}
 use Rattle.lead.specs.declared.Lead.{Lead}

@@ -12,7 +12,7 @@ use Rattle.plain.proofs.Tests.{and-true}
 use Rattle.line.specs.declared.Record.{Record}
 use Rattle.answer.specs.Bytes.{overwritten, Put}
 use Rattle.answer.proofs.Laws.{length-overwritten, put-set, put-then}
-use Rattle.table.specs.declared.BatchLine.{BatchLine}
+use Rattle.batch.specs.declared.BatchLine.{BatchLine}
 use Rattle.lead.specs.declared.Lead.{Lead}
 use Rattle.lead.specs.declared.Stage.{Stage}
 use Rattle.lead.specs.declared.Stage.the-variants.{Waiting, Gathering, Playing, Batching, Over}

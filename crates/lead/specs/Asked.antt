@@ -13,10 +13,10 @@ use Rattle.line.specs.declared.Record.{Record}
 use Rattle.answer.specs.Bytes.{overwritten}
 use Rattle.table.specs.declared.Op.{Op}
 use Rattle.table.specs.declared.Op.the-variants.{Add, Cut, Mark, Unmark}
-use Rattle.table.specs.declared.Update.the-variants.{Change, Batch}
+use Rattle.batch.specs.declared.Update.the-variants.{Change, Batch}
 use Rattle.table.specs.declared.Position.the-variants.{Alone}
-use Rattle.table.specs.declared.BatchLine.{BatchLine}
-use Rattle.table.specs.Batches.{lineFor, lineTo}
+use Rattle.batch.specs.declared.BatchLine.{BatchLine}
+use Rattle.batch.specs.Batches.{lineFor, lineTo}
 use Rattle.lead.specs.declared.Stage.{Stage}
 use Rattle.lead.specs.declared.Stage.the-variants.{Waiting, Gathering, Playing, Batching, Over}
 use Rattle.lead.specs.declared.Lead.{Lead}

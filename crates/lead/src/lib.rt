@@ -1,13 +1,13 @@
 // What a line asks for, and what is held from line to line.
+use batch::BatchLine;
+use batch::Update;
 use line::Record;
 use line::Word;
 use line::is_word;
 use rows::wide;
-use table::BatchLine;
 use table::Op;
 use table::Position;
 use table::Refusal;
-use table::Update;
 ghost use mathlib.Core.Path.{_≡_};
 ghost use Rattle.line.specs.Records.{recordOf};
 ghost use Rattle.lead.specs.Asked.{firstLead, staged as Asked·staged, noTask, refusing as Asked·refusing, changing as Asked·changing, batching as Asked·batching, holding as Asked·holding, isFull, askedFirst, askedMove, askedBefore, requestOf, askedAfter, askedInside, asked, takesMove, filedMove, takesLine, lineRead, filedLine, filed, isOver};
@@ -326,7 +326,7 @@ fn line_of(r: Record) -> BatchLine
 {
     let request = request_of(r);
     if let Request::Change(op) = request {
-        return table::line_of(op);
+        return batch::line_of(op);
     }
     BatchLine {
         what: 0,

@@ -11,12 +11,12 @@
 // - of no round 1, and the probes spent and kept
 // - of a round 2, the probes, the lengths of stem and cycle, and the walk
 // - behind each a sum of the lent list
+use batch::Update;
 use session::Outcome;
 use session::Session;
 use table::Op;
 use table::Position;
 use table::Refusal;
-use table::Update;
 use verdict::Answer;
 ghost use Prim.Native.Nat.{_≤_, _<_};
 
@@ -263,14 +263,14 @@ fn recode(lines: &mut [u16]) {
     let mut i: usize = 0;
     while i < lines.len() {
         lines[i] = code_of(lines[i]);
-        i += table::LINE;
+        i += batch::LINE;
     }
 }
 
 // The change or batch at a place is made, with as much of the list lent as it says.
 fn update_at(text: &[u8], at: usize, what: u16, s: Session, lent: &mut [u16]) -> Outcome {
     let mut lines: [u16; 210] = [0; 210];
-    let count = line_count(text, at, what) * table::LINE;
+    let count = line_count(text, at, what) * batch::LINE;
     list_at(text, at, 6, count, &mut lines);
     recode(&mut lines);
     let asked = asked_at(text, at, what);

@@ -31,8 +31,8 @@ use Rattle.search.proofs.Scans.{ran-from}
 use Rattle.search.proofs.Ended.{rewound-spent}
 use Rattle.plain.proofs.Limits.{Small, limits, size-few, small}
 use Rattle.search.proofs.Resumed.{resume-fits}
-use Rattle.table.specs.declared.Update.{Update}
-use Rattle.table.specs.declared.BatchLine.{BatchLine}
+use Rattle.batch.specs.declared.Update.{Update}
+use Rattle.batch.specs.declared.BatchLine.{BatchLine}
 use Rattle.session.specs.declared.Session.{Session}
 use Rattle.session.specs.declared.Settled.{Settled}
 use Rattle.session.specs.declared.Resumption.{Resumption}
@@ -42,8 +42,8 @@ use Rattle.verdict.specs.declared.Answer.{Answer}
 use Rattle.verdict.specs.declared.Answer.the-variants.{Refused}
 use Rattle.table.specs.Trials.{Arrays}
 use Rattle.table.specs.Filing.{Stored}
-use Rattle.table.specs.Batches.{linesIn, statesIn, numbersIn, TriedIn, callTriedIn, positionAt}
-use Rattle.table.proofs.Batches.{lines-other}
+use Rattle.batch.specs.Batches.{linesIn, statesIn, numbersIn, TriedIn, callTriedIn, positionAt}
+use Rattle.batch.proofs.Batches.{lines-other}
 use Rattle.session.specs.Model.{Records, recordsOf, recordsIn, arraysHeld, gameIn, allPassedOver, namedMost, earliestOf, resumptionOf, backAt, Sought, verdictOf, sessionOf, Settles, isAlone, onlyLine, UpdatedIn}
 use Rattle.session.specs.Promises.{heightOf, Holds, updateOf, callOf, withoutGame, Updates}
 use Rattle.verdict.proofs.Told.{told, never-refused}

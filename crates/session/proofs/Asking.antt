@@ -12,14 +12,14 @@ use Rattle.plain.specs.Machine.{Change, add, cut, mark, unmark, BatchLine as Pl
 use Rattle.plain.proofs.Trials.{held-first, held-later}
 use Rattle.plain.proofs.Tables.{Valid}
 use Rattle.plain.proofs.Batches.{batch-made}
-use Rattle.table.specs.declared.Update.{Update}
-use Rattle.table.specs.declared.Update.the-variants as Update
+use Rattle.batch.specs.declared.Update.{Update}
+use Rattle.batch.specs.declared.Update.the-variants as Update
 use Rattle.table.specs.declared.Position.the-variants as Position
 use Rattle.table.specs.Trials.{Arrays, addConditions, cutConditions, markConditions, unmarkConditions}
 use Rattle.table.specs.Filing.{Stored, changeOf}
-use Rattle.table.specs.Batches.{linesIn, numbersIn, lineTrialIn, TriedIn, aheadTrial, callTriedIn, positionAt}
+use Rattle.batch.specs.Batches.{linesIn, numbersIn, lineTrialIn, TriedIn, aheadTrial, callTriedIn, positionAt}
 use Rattle.table.proofs.Pairs.{outside-from}
-use Rattle.table.proofs.Batches.{line-makes, tried-stop, call-on, call-stop, batch-same, batch-stored, single-same, single-stored}
+use Rattle.batch.proofs.Batches.{line-makes, tried-stop, call-on, call-stop, batch-same, batch-stored, single-same, single-stored}
 use Rattle.verdict.specs.declared.Answer.the-variants.{Refused}
 use Rattle.verdict.specs.Answers.{refusing, positionOf}
 use Rattle.session.specs.Model.{isAlone, onlyLine}

@@ -6,7 +6,7 @@ use Prim.Native.Nat.{ℕ}
 use native.Mathlib.Omega.{arith}
 use lib.ListN.{length}
 use Rattle.plain.specs.Refusals.{accepted, refused}
-use Rattle.table.specs.declared.Attempt.{Attempt}
+use Rattle.batch.specs.declared.Attempt.{Attempt}
 use Rattle.table.specs.declared.Trial.the-variants.{Accepted, Refused}
 use Rattle.verdict.specs.declared.Answer.{Answer}
 use Rattle.verdict.specs.Answers.{refusing}
@@ -14,11 +14,11 @@ use Rattle.session.specs.declared.Resumption.{Resumption}
 use Rattle.session.specs.declared.Settled.{Settled}
 use Rattle.session.specs.declared.Verdict.{Verdict}
 use Rattle.table.specs.Trials.{Arrays}
-use Rattle.table.specs.Batches.{linesIn, TriedIn, callTriedIn, AttemptedCall}
+use Rattle.batch.specs.Batches.{linesIn, TriedIn, callTriedIn, AttemptedCall}
 use Rattle.session.specs.Model.{Records, gameIn, resumptionOf, Settles, UpdatedIn}
 use Rattle.rows.specs.Rows.{Tabled}
 use Rattle.table.proofs.Trying.{tried-accepted, tried-refused}
-use Rattle.table.proofs.Batches.{tried-tabled}
+use Rattle.batch.proofs.Batches.{tried-tabled}
 
 same-number : {m n : ℕ} → refused m ≡ refused n → m ≡ n
 same-number e = cc

@@ -12,14 +12,14 @@ use Rattle.plain.specs.Lists.{all}
 use Rattle.plain.specs.Machine.{BatchLine as PlainLine}
 use Rattle.rows.specs.Change.{Rows}
 use Rattle.look.specs.Numbers.{noNumber}
-use Rattle.table.specs.declared.BatchLine.{BatchLine}
+use Rattle.batch.specs.declared.BatchLine.{BatchLine}
 use Rattle.table.specs.declared.Subject.{Subject}
 use Rattle.table.specs.declared.Subject.the-variants as Subject
 use Rattle.table.specs.declared.Switch.{Switch}
 use Rattle.table.specs.Trials.{opOf}
 use Rattle.table.specs.Filing.{namedBy}
-use Rattle.table.specs.Batches.{lineIn, isChange, switchIn, linesIn, statesIn, headLine, opFor}
-use Rattle.table.proofs.Batches.{Making, change-line, other-line, lines-next, lines-end}
+use Rattle.batch.specs.Batches.{lineIn, isChange, switchIn, linesIn, statesIn, headLine, opFor}
+use Rattle.batch.proofs.Batches.{Making, change-line, other-line, lines-next, lines-end}
 use Rattle.session.specs.declared.Resumption.the-variants.{Nowhere}
 use Rattle.session.specs.Model.{unexploredEdge, unexploredIn, passedOverIn, allPassedOver, namedMost, earliestOf, resumptionOf}
 use Rattle.session.proofs.Resuming.{named-one, switched-edge, switched-mark}

@@ -49,8 +49,8 @@ use Rattle.plain.proofs.Prefix.{meets-one, unmet-one}
 use Rattle.plain.proofs.Batches.{Taken, passed-step}
 use Rattle.plain.proofs.Limits.{limits, size-few, small}
 use Rattle.table.proofs.Changing.{named-below}
-use Rattle.table.proofs.Batches.{change-back}
-use Rattle.table.specs.Batches.{opFor}
+use Rattle.batch.proofs.Batches.{change-back}
+use Rattle.batch.specs.Batches.{opFor}
 use Rattle.verdict.specs.Answers.{WalkOf}
 
 -- ---- laws of the definitions

@@ -12,12 +12,12 @@ use Rattle.rows.specs.Rows.{entries, rowAt, placeOf}
 use Rattle.rows.specs.Change.{Rows}
 use Rattle.table.specs.declared.Op.{Op}
 use Rattle.table.specs.declared.Op.the-variants.{Add, Cut, Mark, Unmark}
-use Rattle.table.specs.declared.Update.{Update}
-use Rattle.table.specs.declared.Update.the-variants as Update
-use Rattle.table.specs.declared.BatchLine.{BatchLine}
+use Rattle.batch.specs.declared.Update.{Update}
+use Rattle.batch.specs.declared.Update.the-variants as Update
+use Rattle.batch.specs.declared.BatchLine.{BatchLine}
 use Rattle.table.specs.Trials.{Arrays, arraysOf}
 use Rattle.table.specs.Filing.{namedBy}
-use Rattle.table.specs.Batches.{lineFor, lineTo, linesIn, statesIn, opFor, positionAt, callTriedIn}
+use Rattle.batch.specs.Batches.{lineFor, lineTo, linesIn, statesIn, opFor, positionAt, callTriedIn}
 use Rattle.look.specs.Numbers.{noNumber}
 use Rattle.search.specs.declared.Phase.{Phase}
 use Rattle.search.specs.declared.Phase.the-variants.{Outer, Nested, Exhausted, Found}

@@ -16,12 +16,12 @@ use Rattle.verdict.specs.Answers.{shown, WalkOf, Answered, LoadAnswered}
 use Rattle.table.specs.declared.Refusal.{Refusal}
 use Rattle.table.specs.declared.Position.{Position}
 use Rattle.table.specs.declared.Position.the-variants as Position
-use Rattle.table.specs.declared.Update.{Update}
-use Rattle.table.specs.declared.Update.the-variants as Update
+use Rattle.batch.specs.declared.Update.{Update}
+use Rattle.batch.specs.declared.Update.the-variants as Update
 use Rattle.session.specs.declared.Session.{Session}
 use Rattle.session.specs.declared.Outcome.{Outcome}
 use Rattle.table.specs.Filing.{changeOf, Stored}
-use Rattle.table.specs.Batches.{linesIn}
+use Rattle.batch.specs.Batches.{linesIn}
 use Rattle.session.specs.Model.{arraysHeld, noGame}
 
 -- what is asked of the plain table: one change, or a batch, whose lines stand in a list of numbers

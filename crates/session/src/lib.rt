@@ -1,11 +1,11 @@
 // One session: the game's table and the records of its search. It is made by a load and by nothing else.
+use batch::BatchLine;
+use batch::Update;
 use rows::wide;
-use table::BatchLine;
 use table::Position;
 use table::Refusal;
 use table::Subject;
 use table::Trial;
-use table::Update;
 use verdict::Answer;
 ghost use mathlib.Core.Path.{_≡_};
 ghost use mathlib.Core.List.{_++_};
@@ -16,7 +16,7 @@ ghost use Rattle.rows.specs.Change.{rowsOf};
 ghost use Rattle.look.specs.Numbers.{plus};
 ghost use Rattle.search.specs.Core.{gameOf, Lengths};
 ghost use Rattle.table.specs.Trials.{arraysOf};
-ghost use Rattle.table.specs.Batches.{lineIn, linesIn, statesIn, numbersIn};
+ghost use Rattle.batch.specs.Batches.{lineIn, linesIn, statesIn, numbersIn};
 ghost use Rattle.session.specs.Model.{unexploredEdge, passedOverIn, allPassedOver, namedMost, earliestOf, resumptionOf, isFound, verdictOf, noVerdict, recordsOf, Sought, isAlone, onlyLine, noGame, Settles, UpdatedIn};
 ghost use Rattle.session.specs.Promises.{updateOf, Loads, Updates};
 
@@ -116,13 +116,13 @@ fn is_passed_over(
     requires { ⌜ Tabled (now targets) (now starts) × (length (now number) ≡ 512) × (length (now index) ≡ 512) × (length (now walk) ≡ 512) ⌝ }
     ensures { λ r. ⌜ r ≡ passedOverIn (lineIn line) (rowsOf (now (targets .entry)) (now (starts .entry))) (now (number .entry)) (now (index .entry)) (now (walk .entry)) height ⌝ }
 {
-    if !table::is_change(line) {
+    if !batch::is_change(line) {
         return true;
     }
-    if look::get(number, table::named_by(line)) == look::NO_NUMBER {
+    if look::get(number, batch::named_by(line)) == look::NO_NUMBER {
         return true;
     }
-    let switch = table::switch_in(line);
+    let switch = batch::switch_in(line);
     let subject = switch.subject;
     if let Subject::Edge { from, to } = subject {
         let tip = look::down(height);
@@ -146,14 +146,14 @@ fn all_passed_over(
     requires { ⌜ Tabled (now targets) (now starts) × (length (now number) ≡ 512) × (length (now index) ≡ 512) × (length (now walk) ≡ 512) ⌝ }
     ensures { λ r. ⌜ r ≡ allPassedOver (linesIn (numbersIn alone only (now (lines .entry)))) (rowsOf (now (targets .entry)) (now (starts .entry))) (now (number .entry)) (now (index .entry)) (now (walk .entry)) height ⌝ }
 {
-    let end = table::lines_end(alone, lines);
+    let end = batch::lines_end(alone, lines);
     let mut at: usize = 0;
     while at < end {
-        let line = table::line_at(alone, only, lines, at);
+        let line = batch::line_at(alone, only, lines, at);
         if !is_passed_over(line, targets, starts, number, index, walk, height) {
             return false;
         }
-        at += table::LINE;
+        at += batch::LINE;
     }
     true
 }
@@ -163,17 +163,17 @@ fn name_states(alone: bool, only: BatchLine, lines: &[u16], states: &mut [u16; N
     requires { ⌜ length (now states) ≡ namedMost ⌝ }
     ensures { λ r. ⌜ (r ≤ namedMost) × (length (now (states .exit)) ≡ namedMost) × (take r (now (states .exit)) ≡ take namedMost (statesIn (numbersIn alone only (now (lines .entry))))) ⌝ }
 {
-    let end = table::lines_end(alone, lines);
+    let end = batch::lines_end(alone, lines);
     let mut at: usize = 0;
     let mut n: usize = 0;
     while at < end {
         if n == NAMED {
             return n;
         }
-        let line = table::line_at(alone, only, lines, at);
-        states[n] = table::named_by(line);
+        let line = batch::line_at(alone, only, lines, at);
+        states[n] = batch::named_by(line);
         n += 1;
-        at += table::LINE;
+        at += batch::LINE;
     }
     n
 }
@@ -506,7 +506,7 @@ fn update_in(
         walk,
         old.height,
     );
-    let attempt = table::attempt_call(alone, only, lines, size, targets, starts, words, lent.len());
+    let attempt = batch::attempt_call(alone, only, lines, size, targets, starts, words, lent.len());
     let trial = attempt.trial;
     if let Trial::Refused(n) = trial {
         let position = attempt.position;
@@ -548,7 +548,7 @@ fn only_line(asked: Update) -> BatchLine
     ensures { λ r. ⌜ r ≡ onlyLine asked ⌝ }
 {
     match asked {
-        Update::Change(op) => table::line_of(op),
+        Update::Change(op) => batch::line_of(op),
         Update::Batch => BatchLine {
             what: 0,
             first: 0,

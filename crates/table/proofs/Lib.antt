@@ -3,4 +3,3 @@ pub mod Pairs
 pub mod Trying
 pub mod Filing
 pub mod Changing
-pub mod Batches

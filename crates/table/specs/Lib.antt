@@ -1,3 +1,2 @@
 pub mod Trials
 pub mod Filing
-pub mod Batches

@@ -1,14 +1,10 @@
-// The game's table in its arrays: calls are tried on it, and accepted ones are filed in its rows and its marks. No search.
+// The game's table in its arrays: a load and changes are tried on it, and accepted ones are filed in its rows and its marks. No search.
 use rows::wide;
 ghost use mathlib.Core.Path.{_≡_};
-ghost use mathlib.Core.Bool.{true};
-ghost use Prim.Native.Nat.{_<_};
-ghost use lib.ListN.{length, drop};
 ghost use Rattle.plain.specs.Lists.{any};
 ghost use Rattle.plain.specs.Refusals.{firstHeld, badMarks, outside, roomCondition, pairs};
 ghost use Rattle.rows.specs.Rows.{Tabled};
 ghost use Rattle.table.specs.Trials.{arraysOf, opOf, tried, earlyTrial, there, addConditions, cutConditions, markConditions, unmarkConditions, conditionsIn, trialIn};
-ghost use Rattle.table.specs.Batches.{lineFor, lineTo, isChange, subjectIn, switchIn, lineIn, numbersIn, endIn, headLine, linesIn, isRefused, positionAt, triedIn, aheadTrial, callTriedIn, AttemptedLine, AttemptedLines, AttemptedCall};
 ghost use Rattle.table.specs.Filing.{filedIn, Attempted, Empty, Limits, FiledAll, Tried};
 
 // Where a refusal stands: it is that of the call, or that of a line of a batch, with its position.
@@ -31,19 +27,6 @@ pub enum Op {
     Unmark { state: u16 },
 }
 
-// What a call on a session asks for: one change, or a batch, whose lines a lent list holds.
-pub enum Update {
-    Change(Op),
-    Batch,
-}
-
-// A line of a batch: what it does, and its states. 1 adds a move, 2 cuts one, 3 marks a state, 4 unmarks one. With any other number it makes no change.
-pub struct BatchLine {
-    pub what: u16,
-    pub first: u16,
-    pub second: u16,
-}
-
 // What a change switches on or off: an edge (move), or a state's paying mark.
 pub enum Subject {
     Edge { from: u16, to: u16 },
@@ -62,18 +45,6 @@ pub enum Trial {
     Accepted,
     Refused(u16),
 }
-
-// What trying a call comes to, and where it ends: at the call itself, or at a line of a batch.
-pub struct Attempt {
-    pub trial: Trial,
-    pub position: Position,
-}
-
-// A list of lines has so many numbers for each.
-pub const LINE: usize = 3;
-
-// The most changes of a batch.
-const CHANGES: u16 = 64;
 
 // The most moves of a game, and the numbers of so many moves.
 const MOVES: u16 = 2048;
@@ -168,7 +139,7 @@ fn file_all(numbers: &[u16], size: u16, targets: &mut [u16; 2048], starts: &mut 
 }
 
 // Refusal 11: the list lent for the walk has fewer entries than the game has states.
-fn room_trial(size: u16, room: usize) -> Trial
+pub fn room_trial(size: u16, room: usize) -> Trial
     ensures { λ r. ⌜ r ≡ tried (firstHeld (roomCondition size room)) ⌝ }
 {
     if room < wide(size) {
@@ -267,65 +238,6 @@ fn unmark_trial(size: u16, words: &[u64; 8], state: u16) -> Trial
     Trial::Accepted
 }
 
-// It comes, or it goes.
-fn switched(on: bool, subject: Subject) -> Switch
-    ensures { λ r. ⌜ r ≡ record { on = on; subject = subject } ⌝ }
-{
-    Switch { on, subject }
-}
-
-fn line(what: u16, first: u16, second: u16) -> BatchLine
-    ensures { λ r. ⌜ r ≡ lineFor what first second ⌝ }
-{
-    BatchLine {
-        what,
-        first,
-        second,
-    }
-}
-
-// The line of a batch that makes a change.
-pub fn line_of(op: Op) -> BatchLine
-    ensures { λ r. ⌜ r ≡ lineTo op ⌝ }
-{
-    match op {
-        Op::Add { from, to } => line(1, from, to),
-        Op::Cut { from, to } => line(2, from, to),
-        Op::Mark { state } => line(3, state, 0),
-        Op::Unmark { state } => line(4, state, 0),
-    }
-}
-
-// Does a line make a change?
-pub fn is_change(line: BatchLine) -> bool
-    ensures { λ r. ⌜ r ≡ isChange line ⌝ }
-{
-    if line.what == 0 {
-        return false;
-    }
-    line.what <= 4
-}
-
-// What a line switches that makes a change.
-fn subject_in(line: BatchLine) -> Subject
-    ensures { λ r. ⌜ r ≡ subjectIn line ⌝ }
-{
-    if line.what <= 2 {
-        return Subject::Edge {
-            from: line.first,
-            to: line.second,
-        };
-    }
-    Subject::Mark { state: line.first }
-}
-
-// The change that a line makes, as what it switches and which way.
-pub fn switch_in(line: BatchLine) -> Switch
-    ensures { λ r. ⌜ r ≡ switchIn line ⌝ }
-{
-    switched(line.what % 2 == 1, subject_in(line))
-}
-
 // The refusals of a change itself.
 fn own_trial(
     switch: Switch,
@@ -405,7 +317,7 @@ fn file_one(
 }
 
 // Tries a change, and makes it in the arrays where it is accepted.
-fn attempt_change(
+pub fn attempt_change(
     switch: Switch,
     size: u16,
     targets: &mut [u16; 2048],
@@ -422,159 +334,4 @@ fn attempt_change(
     }
     file_one(switch, size, targets, starts, words);
     Trial::Accepted
-}
-
-// The state that a line's change names: the one that its move leaves, or the one marked or unmarked.
-pub fn named_by(line: BatchLine) -> u16
-    ensures { λ r. ⌜ r ≡ line .first ⌝ }
-{
-    line.first
-}
-
-// The line at a place in the list of a call: a change alone is the only one.
-pub fn line_at(alone: bool, only: BatchLine, lines: &[u16], at: usize) -> BatchLine
-    requires { ⌜ (at < length (numbersIn alone only (now lines))) × (alone ≡ true → at ≡ 0) ⌝ }
-    ensures { λ r. ⌜ r ≡ headLine (drop at (numbersIn alone only (now (lines .entry)))) ⌝ }
-{
-    if alone {
-        return only;
-    }
-    if lines.len() - at < LINE {
-        return line(0, 0, 0);
-    }
-    line(lines[at], lines[at + 1], lines[at + 2])
-}
-
-// Where the list of a call ends.
-pub fn lines_end(alone: bool, lines: &[u16]) -> usize
-    ensures { λ r. ⌜ r ≡ endIn alone (now (lines .entry)) ⌝ }
-{
-    if alone {
-        return LINE;
-    }
-    lines.len()
-}
-
-// Tries the line at a position, and makes its change in the arrays where it is accepted.
-fn attempt_line(
-    line: BatchLine,
-    position: u16,
-    size: u16,
-    targets: &mut [u16; 2048],
-    starts: &mut [u16; 513],
-    words: &mut [u64; 8],
-    room: usize,
-) -> Trial
-    requires { ⌜ Tabled (now targets) (now starts) ⌝ }
-    ensures { λ r. ⌜ AttemptedLine (lineIn line) position size room (arraysOf (now (targets .entry)) (now (starts .entry)) (now (words .entry))) r (arraysOf (now (targets .exit)) (now (starts .exit)) (now (words .exit))) ⌝ }
-{
-    if !is_change(line) {
-        return Trial::Refused(1);
-    }
-    if CHANGES < position {
-        return Trial::Refused(15);
-    }
-    attempt_change(switch_in(line), size, targets, starts, words, room)
-}
-
-fn is_refused(trial: Trial) -> bool
-    ensures { λ r. ⌜ r ≡ isRefused trial ⌝ }
-{
-    match trial {
-        Trial::Accepted => false,
-        Trial::Refused(n) => true,
-    }
-}
-
-// An attempt that ends with the line at a position, where it is one of a batch.
-fn ended(alone: bool, trial: Trial, position: u16) -> Attempt
-    ensures { λ r. ⌜ r ≡ record { trial = trial; position = positionAt alone position } ⌝ }
-{
-    if alone {
-        return Attempt {
-            trial,
-            position: Position::Alone,
-        };
-    }
-    Attempt {
-        trial,
-        position: Position::Line(position),
-    }
-}
-
-// Tries the lines of a call one after the other, each on the table as those before it leave it, up to the first that is refused.
-fn attempt_lines(
-    alone: bool,
-    only: BatchLine,
-    lines: &[u16],
-    size: u16,
-    targets: &mut [u16; 2048],
-    starts: &mut [u16; 513],
-    words: &mut [u64; 8],
-    room: usize,
-) -> Attempt
-    requires { ⌜ Tabled (now targets) (now starts) ⌝ }
-    ensures { λ r. ⌜ AttemptedLines alone (triedIn 1 (linesIn (numbersIn alone only (now (lines .entry)))) size (arraysOf (now (targets .entry)) (now (starts .entry)) (now (words .entry))) room) r (arraysOf (now (targets .exit)) (now (starts .exit)) (now (words .exit))) ⌝ }
-{
-    let end = lines_end(alone, lines);
-    let mut at: usize = 0;
-    let mut position: u16 = 1;
-    while at < end {
-        let line = line_at(alone, only, lines, at);
-        let trial = attempt_line(line, position, size, targets, starts, words, room);
-        if is_refused(trial) {
-            return ended(alone, trial, position);
-        }
-        at += LINE;
-        position += 1;
-    }
-    ended(alone, Trial::Accepted, position)
-}
-
-// What is tried ahead of a batch: that there is a game, and 11.
-fn ahead_trial(alone: bool, size: u16, room: usize) -> Trial
-    ensures { λ r. ⌜ r ≡ tried (aheadTrial alone size room) ⌝ }
-{
-    if alone {
-        return Trial::Accepted;
-    }
-    if size == 0 {
-        return Trial::Refused(2);
-    }
-    room_trial(size, room)
-}
-
-// Tries a call, and makes its changes in the arrays where all are accepted. Where a line of a batch is refused, the arrays are put back as they were. The old ones
-// are held here, and by a batch alone: so the compiler has no copy of them to make for a change (docs/DECISIONS.md, 83).
-pub fn attempt_call(
-    alone: bool,
-    only: BatchLine,
-    lines: &[u16],
-    size: u16,
-    targets: &mut [u16; 2048],
-    starts: &mut [u16; 513],
-    words: &mut [u64; 8],
-    room: usize,
-) -> Attempt
-    requires { ⌜ Tabled (now targets) (now starts) ⌝ }
-    ensures { λ r. ⌜ AttemptedCall alone (callTriedIn alone (linesIn (numbersIn alone only (now (lines .entry)))) size (arraysOf (now (targets .entry)) (now (starts .entry)) (now (words .entry))) room) (arraysOf (now (targets .entry)) (now (starts .entry)) (now (words .entry))) r (arraysOf (now (targets .exit)) (now (starts .exit)) (now (words .exit))) ⌝ }
-{
-    let ahead = ahead_trial(alone, size, room);
-    if is_refused(ahead) {
-        return ended(alone, ahead, 0);
-    }
-    if alone {
-        return attempt_lines(alone, only, lines, size, targets, starts, words, room);
-    }
-    let old_targets = *targets;
-    let old_starts = *starts;
-    let old_words = *words;
-    let r = attempt_lines(alone, only, lines, size, targets, starts, words, room);
-    let trial = r.trial;
-    if is_refused(trial) {
-        *targets = old_targets;
-        *starts = old_starts;
-        *words = old_words;
-    }
-    r
 }

@@ -4,7 +4,7 @@ use mathlib.Core.Path.{_≡_, ap, subst, _∙_}
 use mathlib.Core.List.{List}
 use lib.ListN.{length, take}
 use Rattle.session.specs.declared.Outcome.{Outcome}
-use Rattle.table.specs.declared.Update.{Update}
+use Rattle.batch.specs.declared.Update.{Update}
 use Rattle.session.specs.declared.Session.{Session}
 use Rattle.session.specs.Promises.{updateOf, Loads, Updates}
 use Rattle.lead.specs.declared.Lead.{Lead}

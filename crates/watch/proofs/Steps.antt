@@ -27,10 +27,10 @@ use Rattle.verdict.specs.declared.Answer.the-variants.{Refused, Clear, Round}
 use Rattle.verdict.specs.Answers.{LoadAnswered, isRefused, shown}
 use Rattle.session.specs.declared.Session.{Session}
 use Rattle.session.specs.declared.Outcome.{Outcome}
-use Rattle.table.specs.declared.BatchLine.{BatchLine as CodedLine}
+use Rattle.batch.specs.declared.BatchLine.{BatchLine as CodedLine}
 use Rattle.table.specs.Filing.{changeOf}
-use Rattle.table.specs.Batches.{lineIn, linesIn}
-use Rattle.table.proofs.Batches.{line-makes}
+use Rattle.batch.specs.Batches.{lineIn, linesIn}
+use Rattle.batch.proofs.Batches.{line-makes}
 use Rattle.session.specs.Promises.{Holds, Loads, Updates}
 use Rattle.lead.specs.declared.Stage.{Stage}
 use Rattle.lead.specs.declared.Stage.the-variants.{Waiting, Gathering, Playing, Batching, Over}

@@ -1,6 +1,6 @@
 -- `lead::ask_inside`: a law for each way out.
 use mathlib.Core.Path.{sym, ap, _∙_}
-use Rattle.table.specs.declared.Update.the-variants.{Batch}
+use Rattle.batch.specs.declared.Update.the-variants.{Batch}
 use Rattle.lead.specs.declared.Lead.{Lead}
 use Rattle.lead.specs.declared.Ask.the-variants.{Update as AskUpdate}
 use Rattle.lead.specs.declared.Task.the-variants.{Ask as Asks}

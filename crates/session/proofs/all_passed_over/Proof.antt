@@ -8,8 +8,8 @@ use lib.ListN.{length, drop}
 use borrow.Author.Needs.{needs}
 use borrow.Author.Tests.{not-true, not-false}
 use Rattle.rows.specs.Change.{rowsOf}
-use Rattle.table.specs.Batches.{linesIn, numbersIn, endIn}
-use Rattle.table.proofs.Batches.{numbers-length}
+use Rattle.batch.specs.Batches.{linesIn, numbersIn, endIn}
+use Rattle.batch.proofs.Batches.{numbers-length}
 use Rattle.session.specs.Model.{allPassedOver}
 use Rattle.session.proofs.Lines.{passed-end, passed-stop, passed-on}
 use Rattle.session.proofs.all_passed_over.Statement.{statement}

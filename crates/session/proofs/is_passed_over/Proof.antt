@@ -7,7 +7,7 @@ use lib.ListN.{getD}
 use borrow.Author.Needs.{needs}
 use borrow.Author.Tests.{not-true, not-false}
 use Rattle.rows.specs.Change.{rowsOf}
-use Rattle.table.specs.Batches.{isChange}
+use Rattle.batch.specs.Batches.{isChange}
 use Rattle.session.specs.Model.{unexploredEdge}
 use Rattle.session.proofs.Lines.{passed-other, passed-unmet, passed-edge, passed-mark}
 use Rattle.session.proofs.is_passed_over.Statement.{statement}

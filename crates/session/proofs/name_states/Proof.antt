@@ -6,8 +6,8 @@ use native.Mathlib.Omega.{arith}
 use denote.Ref.{now}
 use lib.ListN.{length}
 use borrow.Author.Needs.{needs}
-use Rattle.table.specs.Batches.{numbersIn, endIn}
-use Rattle.table.proofs.Batches.{numbers-length}
+use Rattle.batch.specs.Batches.{numbersIn, endIn}
+use Rattle.batch.proofs.Batches.{numbers-length}
 use Rattle.session.proofs.Lines.{Named, named-begun, named-on, named-all, named-full}
 use Rattle.session.proofs.name_states.Statement.{statement}
 use Rattle.session.proofs.name_states.Tie as tie

@@ -1,7 +1,7 @@
 -- `lines_end` meets its contract. Assumes nothing.
 use borrow.Author.Needs.{needs}
-use Rattle.table.proofs.lines_end.Statement.{statement}
-use Rattle.table.proofs.lines_end.Tie as tie
+use Rattle.batch.proofs.lines_end.Statement.{statement}
+use Rattle.batch.proofs.lines_end.Tie as tie
 
 returns : tie.Need-returns
 returns c = search needs

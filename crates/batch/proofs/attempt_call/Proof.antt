@@ -2,9 +2,9 @@
 use mathlib.Core.Path.{refl, sym, _∙_}
 use Rattle.plain.proofs.Tests.{contra}
 use borrow.Author.Needs.{needs}
-use Rattle.table.proofs.Batches.{call-stopped, call-tried, call-made, call-alone}
-use Rattle.table.proofs.attempt_call.Statement.{statement}
-use Rattle.table.proofs.attempt_call.Tie as tie
+use Rattle.batch.proofs.Batches.{call-stopped, call-tried, call-made, call-alone}
+use Rattle.batch.proofs.attempt_call.Statement.{statement}
+use Rattle.batch.proofs.attempt_call.Tie as tie
 
 ahead-trial-requires : tie.Need-ahead-trial-requires
 ahead-trial-requires c κs = search needs

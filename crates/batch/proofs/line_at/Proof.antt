@@ -4,10 +4,10 @@ use Prim.Native.Nat.{ℕ}
 use native.Mathlib.Omega.{arith}
 use denote.Ref.{now}
 use lib.ListN.{length}
-use Rattle.table.proofs.Batches.{head-three, head-few, head-lent, numbers-lent, only-first}
+use Rattle.batch.proofs.Batches.{head-three, head-few, head-lent, numbers-lent, only-first}
 use borrow.Author.Needs.{needs}
-use Rattle.table.proofs.line_at.Statement.{statement}
-use Rattle.table.proofs.line_at.Tie as tie
+use Rattle.batch.proofs.line_at.Statement.{statement}
+use Rattle.batch.proofs.line_at.Tie as tie
 
 returns : tie.Need-returns
 returns c =

@@ -2,9 +2,9 @@
 use mathlib.Core.Path.{sym, _∙_}
 use borrow.Author.Needs.{needs}
 use borrow.Author.Tests.{not-true, not-false}
-use Rattle.table.proofs.Batches.{attempt-other, attempt-late, attempt-made}
-use Rattle.table.proofs.attempt_line.Statement.{statement}
-use Rattle.table.proofs.attempt_line.Tie as tie
+use Rattle.batch.proofs.Batches.{attempt-other, attempt-late, attempt-made}
+use Rattle.batch.proofs.attempt_line.Statement.{statement}
+use Rattle.batch.proofs.attempt_line.Tie as tie
 
 is-change-requires : tie.Need-is-change-requires
 is-change-requires c κs = search needs

@@ -1,7 +1,7 @@
 -- `line_of` meets its contract. Assumes nothing.
 use borrow.Author.Needs.{needs}
-use Rattle.table.proofs.line_of.Statement.{statement}
-use Rattle.table.proofs.line_of.Tie as tie
+use Rattle.batch.proofs.line_of.Statement.{statement}
+use Rattle.batch.proofs.line_of.Tie as tie
 
 enum-known-op : tie.Need-enum-known-op
 enum-known-op c = search needs

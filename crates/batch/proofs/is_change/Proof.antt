@@ -1,8 +1,8 @@
 -- `is_change` meets its contract. Assumes nothing.
 use mathlib.Core.Path.{sym}
-use Rattle.table.proofs.Batches.{is-none, is-small}
-use Rattle.table.proofs.is_change.Statement.{statement}
-use Rattle.table.proofs.is_change.Tie as tie
+use Rattle.batch.proofs.Batches.{is-none, is-small}
+use Rattle.batch.proofs.is_change.Statement.{statement}
+use Rattle.batch.proofs.is_change.Tie as tie
 
 returns : tie.Need-returns
 returns c = sym (is-none (c .before .before .args .line) (c .if1 .taken))

@@ -1,10 +1,10 @@
 -- `ahead_trial` meets its contract. Assumes nothing.
 use borrow.Author.Needs.{needs}
 use borrow.Author.Tests.{eq-eqb, ne-eqb}
-use Rattle.table.specs.Batches.{aheadTrial}
+use Rattle.batch.specs.Batches.{aheadTrial}
 use Rattle.table.proofs.Trying.{stop, skip}
-use Rattle.table.proofs.ahead_trial.Statement.{statement}
-use Rattle.table.proofs.ahead_trial.Tie as tie
+use Rattle.batch.proofs.ahead_trial.Statement.{statement}
+use Rattle.batch.proofs.ahead_trial.Tie as tie
 
 returns : tie.Need-returns
 unfolding aheadTrial

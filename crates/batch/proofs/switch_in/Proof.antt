@@ -3,8 +3,8 @@ use Prim.Native.Nat.{_%_}
 use mathlib.Core.Path.{_∙_}
 use lib.Dec.{eqb}
 use borrow.Author.Needs.{needs}
-use Rattle.table.proofs.switch_in.Statement.{statement}
-use Rattle.table.proofs.switch_in.Tie as tie
+use Rattle.batch.proofs.switch_in.Statement.{statement}
+use Rattle.batch.proofs.switch_in.Tie as tie
 
 subject-in-requires : tie.Need-subject-in-requires
 subject-in-requires c κs = search needs

@@ -7,19 +7,19 @@ use lib.Dec.{eqb, ltb, leb}
 use lib.ListN.{length}
 use Rattle.plain.specs.Refusals.{Trial as PlainTrial, accepted, refused, firstHeld, roomCondition}
 use Rattle.plain.specs.Machine.{Change, add, cut, mark, unmark, BatchLine as PlainLine, makes, other}
 use Rattle.table.specs.declared.Op.{Op}
 use Rattle.table.specs.declared.Op.the-variants.{Add, Cut, Mark, Unmark}
 use Rattle.table.specs.declared.Subject.{Subject}
 use Rattle.table.specs.declared.Subject.the-variants as Subject
 use Rattle.table.specs.declared.Switch.{Switch}
 use Rattle.table.specs.declared.Trial.{Trial}
 use Rattle.table.specs.declared.Trial.the-variants.{Accepted, Refused}
 use Rattle.table.specs.declared.Position.{Position}
 use Rattle.table.specs.declared.Position.the-variants as Position
-use Rattle.table.specs.declared.Attempt.{Attempt}
-use Rattle.table.specs.declared.BatchLine.{BatchLine}
+use Rattle.batch.specs.declared.Attempt.{Attempt}
+use Rattle.batch.specs.declared.BatchLine.{BatchLine}
 use Rattle.table.specs.Trials.{Arrays, tried, conditionsIn}
 use Rattle.table.specs.Filing.{filedIn}
 
 -- ---- a line as three numbers
 

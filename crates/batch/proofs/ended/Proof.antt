@@ -1,6 +1,6 @@
 -- `ended` meets its contract. Assumes nothing.
-use Rattle.table.proofs.ended.Statement.{statement}
-use Rattle.table.proofs.ended.Tie as tie
+use Rattle.batch.proofs.ended.Statement.{statement}
+use Rattle.batch.proofs.ended.Tie as tie
 
 returns : tie.Need-returns
 returns c = rw (c .if1 .taken)

@@ -5,11 +5,11 @@ use mathlib.Core.Bool.{Bool}
 use native.Mathlib.Omega.{arith}
 use denote.Ref.{now}
 use borrow.Author.Needs.{needs}
 use Rattle.table.specs.Trials.{arraysOf}
-use Rattle.table.specs.Batches.{numbersIn, endIn}
-use Rattle.table.proofs.Batches.{numbers-length, Walked, walk-begun, walk-ended, walk-stopped, walk-on}
-use Rattle.table.proofs.attempt_lines.Statement.{statement}
-use Rattle.table.proofs.attempt_lines.Tie as tie
+use Rattle.batch.specs.Batches.{numbersIn, endIn}
+use Rattle.batch.proofs.Batches.{numbers-length, Walked, walk-begun, walk-ended, walk-stopped, walk-on}
+use Rattle.batch.proofs.attempt_lines.Statement.{statement}
+use Rattle.batch.proofs.attempt_lines.Tie as tie
 
 abbrev Inv-loop : tie.InvT-loop
 Inv-loop alone only lines size targets₀ starts₀ words₀ room end at₀ position₀ targets starts words at position =

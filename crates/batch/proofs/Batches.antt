@@ -18,20 +18,20 @@ use Rattle.plain.proofs.Trials.{held-later, passed, last-free}
 use Rattle.plain.proofs.Tables.{Valid, valid-change, changed-size}
 use Rattle.plain.proofs.Batches.{batch-tried, batch-short, line-accepted, line-refused}
 use Rattle.rows.specs.Rows.{Tabled}
 use Rattle.table.specs.declared.Op.{Op}
 use Rattle.table.specs.declared.Op.the-variants.{Add, Cut, Mark, Unmark}
 use Rattle.table.specs.declared.Subject.the-variants as Subject
 use Rattle.table.specs.declared.Switch.{Switch}
 use Rattle.table.specs.declared.Trial.{Trial}
 use Rattle.table.specs.declared.Trial.the-variants.{Accepted, Refused}
-use Rattle.table.specs.declared.Attempt.{Attempt}
-use Rattle.table.specs.declared.BatchLine.{BatchLine}
+use Rattle.batch.specs.declared.Attempt.{Attempt}
+use Rattle.batch.specs.declared.BatchLine.{BatchLine}
 use Rattle.table.specs.Trials.{Arrays, opOf, tried, conditionsIn, trialIn}
 use Rattle.table.specs.Filing.{changeOf, filedIn, Attempted, Stored}
-use Rattle.table.specs.Batches.{lineFor, lineTo, lineIn, isChange, subjectIn, switchIn, linesIn, statesIn, headLine, numbersIn, endIn, opFor, lineTrialIn, filedLine, TriedIn, triedIn, aheadTrial, callTriedIn, isRefused, positionAt, AttemptedLine, AttemptedLines, AttemptedCall}
+use Rattle.batch.specs.Batches.{lineFor, lineTo, lineIn, isChange, subjectIn, switchIn, linesIn, statesIn, headLine, numbersIn, endIn, opFor, lineTrialIn, filedLine, TriedIn, triedIn, aheadTrial, callTriedIn, isRefused, positionAt, AttemptedLine, AttemptedLines, AttemptedCall}
 use Rattle.table.proofs.Trying.{tried-accepted, tried-refused, stop, skip}
 use Rattle.table.proofs.Filing.{not-accepted}
 use Rattle.table.proofs.Changing.{filed-tabled, conditions-same, trial-same, restored}
 
 -- ---- one line
 

@@ -1,8 +1,8 @@
 -- `subject_in` meets its contract. Assumes nothing.
 use mathlib.Core.Path.{sym}
-use Rattle.table.proofs.Batches.{subject-edge, subject-mark}
-use Rattle.table.proofs.subject_in.Statement.{statement}
-use Rattle.table.proofs.subject_in.Tie as tie
+use Rattle.batch.proofs.Batches.{subject-edge, subject-mark}
+use Rattle.batch.proofs.subject_in.Statement.{statement}
+use Rattle.batch.proofs.subject_in.Tie as tie
 
 returns : tie.Need-returns
 returns c = sym (subject-edge (c .before .before .args .line) (c .if1 .taken))
