@@ -6,9 +6,11 @@ use Prim.Native.Nat.{ℕ}
 use native.Mathlib.Omega.{arith}
 use Rattle.plain.specs.Search.{Verdict, none, lasso, unfinished, verdict, count}
 use Rattle.plain.specs.Table.{Table, final}
-use Rattle.plain.specs.Refusals.{Trial, accepted, refused, Load, loadTrial}
+use Rattle.plain.specs.Refusals.{Trial, accepted, refused, firstHeld, beyond, Load, loadTrial}
 use Rattle.plain.specs.Machine.{answer, Update, applied, tableOf, loadAnswer, updateAnswer, Call, trialOf, answerTo, tableAfter, Line, gameLine, answerLine}
+use Rattle.plain.specs.Questions.{Question, ways, questionTrial, questionReply, replyTo, replyLine}
 use Rattle.plain.specs.Claims.{Arises, loaded, reportOf, ReportRight, KeptRight, LineTrue, LineCounted}
+use Rattle.plain.proofs.Trials.{never-handed}
 use Rattle.plain.proofs.Batches.{update-arises, update-never-7}
 use Rattle.plain.proofs.Demands.{report-right, demand-3-kept}
 
@@ -65,3 +67,12 @@ call-told c t l a e = by-trial (trialOf c t) refl e
       truth = subst (λ (x : Line). LineTrue x (tableAfter c t)) (ap first-line f) (never-7 n k);
       counts = subst (λ (x : Line). LineCounted x (c .update) t) (ap first-line f) tt;
     }
+
+-- of every question
+pub reply-told : (q : Question) (t : Table) → LineTrue (replyLine (replyTo q t)) t
+unfolding elem replyTo questionTrial questionReply replyLine
+reply-told (ways s) t = by-trial (firstHeld ((6, beyond (t .size) s) ∷ [])) refl
+  where
+    by-trial : (x : Trial) → firstHeld ((6, beyond (t .size) s) ∷ []) ≡ x → LineTrue (replyLine (questionReply x (ways s) t)) t
+    by-trial accepted k = (refl, refl)
+    by-trial (refused n) k = λ z. never-handed 7 ((6, beyond (t .size) s) ∷ []) refl (k ∙ ap refused z)

@@ -24,6 +24,7 @@ pub mod Demands
 pub mod Limits
 pub mod Calls
 pub mod OneByOne
+pub mod Degrees
 pub mod Views
 pub mod Orders
 pub mod Answers

@@ -9,7 +9,7 @@ use Rattle.plain.specs.Search.{Graph, onPath, step, steps, statesOf, ste
 use Rattle.plain.specs.Cycles.{AcceptingLoop, OneMoveRound}
 use Rattle.plain.specs.Table.{Table, bit, accepts, row, graphOf, budget, final}
 use Rattle.plain.specs.Refusals.{firstHeld, pairs, sameEdge, present, badSize, badStart, badMarks, badCount, outside, repeated, shortRoom, loadTrial}
-use Rattle.plain.specs.Machine.{tableOf, Line, gameLine, roundLine, noneLine, noLine}
+use Rattle.plain.specs.Machine.{tableOf, Line, gameLine, roundLine, noneLine, noLine, waysLine}
 use Rattle.plain.specs.Claims.{Arises, loaded, LineTrue, LoopTold}
 use Rattle.plain.specs.Games.{wordOf, knownBy, known, returning}
 use Rattle.plain.proofs.Tests.{in-head}
@@ -37,6 +37,7 @@ loop-told (gameLine size moves paying) t h s = tt
 loop-told (roundLine spent kept stem cycle walk) t h s = tt
 loop-told (noneLine spent kept) t h s = h .clear-only refl (loop-round (graphOf t) s .0)
 loop-told (noLine r) t h s = tt
+loop-told (waysLine v leaving entering) t h s = tt
 
 -- "though the search may answer another": here one of two moves
 pub another-round : (s : AcceptingLoop (graphOf (tableOf (returning .load)))) × Arises (tableOf (returning .load))

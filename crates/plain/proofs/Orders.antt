@@ -117,6 +117,7 @@ any-orders t cs ds a apart order h k =
     record {
       same-report = λ before r. last-told cs t a h before r ∙ told-alike (tableBehind cs t) (tableBehind ds t) w ∙ sym (last-told ds t a k before r);
       same-after = only-rows (tableBehind cs t) (tableBehind ds t) w .same-answers;
+      same-replies = only-rows (tableBehind cs t) (tableBehind ds t) w .same-replies;
     }
 
 -- TWO ORDERS

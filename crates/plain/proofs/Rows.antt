@@ -91,16 +91,16 @@ row-add-other (f ∷ es) e x n = ⊎-elim
 
 -- ---- a cut edge leaves its row, the others of the row keep their order, and the other rows stay
 
-cut-yes : (e f : Edge) (es : List Edge) → sameEdge e f ≡ true → without e (f ∷ es) ≡ without e es
+pub cut-yes : (e f : Edge) (es : List Edge) → sameEdge e f ≡ true → without e (f ∷ es) ≡ without e es
 unfolding without
 cut-yes e f es h = filter-no (λ x. not (sameEdge e x)) f es (rw h)
 
-cut-no : (e f : Edge) (es : List Edge) → sameEdge e f ≡ false → without e (f ∷ es) ≡ f ∷ without e es
+pub cut-no : (e f : Edge) (es : List Edge) → sameEdge e f ≡ false → without e (f ∷ es) ≡ f ∷ without e es
 unfolding without
 cut-no e f es h = filter-yes (λ x. not (sameEdge e x)) f es (rw h)
 
 -- an edge that is not there: nothing is taken out
-without-none : (es : List Edge) (e : Edge) → present es e ≡ false → without e es ≡ es
+pub without-none : (es : List Edge) (e : Edge) → present es e ≡ false → without e es ≡ es
 unfolding present without filter
 without-none [] e n = refl
 without-none (f ∷ es) e n =

@@ -14,6 +14,8 @@ use Rattle.plain.specs.Search.{Edge, begin, probesOf, meets, finished, r
 use Rattle.plain.specs.Table.{Table, accepts, withMark, withoutMark, row, searched, budget, final, firstMeeting}
 use Rattle.plain.specs.Refusals.{Trial, accepted, refused, firstHeld, present, outside, beyond, full, roomCondition}
 use Rattle.plain.specs.Machine.{Change, add, cut, mark, unmark, named, apply, conditions, changeTrial, BatchLine, makes, other, lineConditions, BatchTrial, changesIn, applyAll, linesTrial, batchTrial, Update, single, batch, applied, namedBy, updateTrial, atLine, positionIn, unexplored, passedOver, keepsAll, kept, refusal, answer, Call, trialOf, answerTo, tableAfter, answers}
+use Rattle.plain.specs.Claims.{tableBehind}
+use Rattle.plain.specs.Questions.{Question, ways, degrees, questionTrial, questionReply, replyTo}
 use Rattle.plain.specs.Orders.{SameView, OnlyRows}
 use Rattle.plain.proofs.Tests.{contra, either, not-true, same, self, filter-short}
 use Rattle.plain.proofs.Words.{accepts-marked, accepts-marked-other, accepts-unmarked, accepts-unmarked-other}
@@ -21,6 +23,7 @@ use Rattle.plain.proofs.Rows.{but, row-has, has-row, row-short, row-add
 use Rattle.plain.proofs.Tables.{changed-size, changed-start}
 use Rattle.plain.proofs.Batches.{line-accepted, line-refused, batch-tried, batch-short}
 use Rattle.plain.proofs.Demands.{kept-all, kept-meeting}
+use Rattle.plain.proofs.Degrees.{same-in, same-out}
 use Rattle.plain.proofs.Calls.{answer-accepted, table-accepted, answer-refused, table-refused}
 
 -- ---- two tables with the same view: what is read of them
@@ -350,6 +353,28 @@ unfolding answers
 same-calls [] w = refl
 same-calls (c ∷ cs) w = let k = same-call c w in (λ i. k .same-answer i ∷ same-calls cs (k .same-view) i)
 
+-- the tables behind it
+pub same-behind : (cs : List Call) {t u : Table} → SameView t u → SameView (tableBehind cs t) (tableBehind cs u)
+unfolding tableBehind
+same-behind [] w = w
+same-behind (c ∷ cs) w = same-behind cs (same-call c w .same-view)
+
+-- a question
+pub same-reply : (q : Question) {t u : Table} → SameView t u → replyTo q t ≡ replyTo q u
+unfolding replyTo questionTrial questionReply
+same-reply q {t} {u} w = ap (λ (x : Trial). questionReply x q t) (trials q) ∙ replies (questionTrial q u) q
+  where
+    trials : (q : Question) → questionTrial q t ≡ questionTrial q u
+    trials (ways s) = ap (λ (n : ℕ). firstHeld ((6, beyond n s) ∷ [])) (w .same-size)
+
+    replies : (x : Trial) (q : Question) → questionReply x q t ≡ questionReply x q u
+    replies accepted (ways s) = λ i. degrees s (same-out (t .edges) (u .edges) s (w .same-row s) i) (same-in (t .edges) (u .edges) s (w .same-row) i)
+    replies (refused n) q = refl
+
 -- THE LEMMA
 pub only-rows : OnlyRows
-only-rows t u w = record { same-search = same-final t u w; same-answers = λ cs. same-calls cs w }
+only-rows t u w = record {
+  same-search = same-final t u w;
+  same-answers = λ cs. same-calls cs w;
+  same-replies = λ cs q. same-reply q (same-behind cs w);
+}

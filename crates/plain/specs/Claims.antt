@@ -10,7 +10,8 @@ use Rattle.plain.specs.Search.{Edge, Verdict, none, lasso, unfinished, v
 use Rattle.plain.specs.Cycles.{FreeRound, AcceptingLoop, Lasso}
 use Rattle.plain.specs.Table.{Table, graphOf, final, firstMeeting}
 use Rattle.plain.specs.Refusals.{accepted, refused, flat, Load, loadTrial, sameEdge}
-use Rattle.plain.specs.Machine.{Change, apply, changeTrial, BatchLine, makes, changesIn, Update, applied, namedBy, atLine, keepsAll, keptPart, Answer, refusal, answer, tableOf, loadAnswer, Call, callFor, batchCall, trialOf, answerTo, tableAfter, answers, Line, gameLine, roundLine, noneLine, noLine}
+use Rattle.plain.specs.Machine.{Change, apply, changeTrial, BatchLine, makes, changesIn, Update, applied, namedBy, atLine, keepsAll, keptPart, Answer, refusal, answer, tableOf, loadAnswer, Call, callFor, batchCall, trialOf, answerTo, tableAfter, answers, Line, gameLine, roundLine, noneLine, noLine, waysLine}
+use Rattle.plain.specs.Questions.{outDegree, inDegree}
 
 -- the tables that a session can hold: those that a load accepts, and those to which accepted changes lead
 pub data Arises : Table → Type 0 where
@@ -117,12 +118,14 @@ pub record AsOne (c : Change) (t : Table) (room : ℕ) : Type 0 where
   pub same-answer : trialOf (callFor room c) t ≡ accepted → answerTo (batchCall room (makes c ∷ [])) t ≡ answerTo (callFor room c) t
   pub same-table : tableAfter (batchCall room (makes c ∷ [])) t ≡ tableAfter (callFor room c) t
 
--- What an answer's line says of the table as the call leaves it is true. Of a `no` line: "refusal 7 no longer occurs" (document 02, ticket 1).
+-- What a line says of the table that is then present is true. Of a `no` line: "refusal 7 no longer occurs" (document 02, ticket 1). Of a `ways` line: the counts "equal a count over
+-- the present moves" (ticket 8).
 abbrev pub LineTrue : Line → Table → Type 0
 LineTrue (gameLine size moves paying) t = Unit {0}
 LineTrue (roundLine spent kept stem cycle walk) t = ReportRight (round stem cycle walk) t
 LineTrue (noneLine spent kept) t = ReportRight clear t
 LineTrue (noLine r) t = r .number ≢ 7
+LineTrue (waysLine s leaving entering) t = (leaving ≡ outDegree (t .edges) s) × (entering ≡ inDegree (t .edges) s)
 
 -- a line that does not say "none"
 abbrev pub NotNone : Line → Type 0
@@ -130,6 +133,7 @@ NotNone (gameLine size moves paying) = Unit {0}
 NotNone (roundLine spent kept stem cycle walk) = Unit {0}
 NotNone (noneLine spent kept) = ⊥
 NotNone (noLine r) = Unit {0}
+NotNone (waysLine s leaving entering) = Unit {0}
 
 -- Document 02, ticket 1, "The trade counts such a repeat as a round": where a paying state with a move to itself can be reached, the line does not say "none".
 abbrev pub LoopTold : Line → Table → Type 0
@@ -141,6 +145,7 @@ LineCounted (gameLine size moves paying) u t = Unit {0}
 LineCounted (roundLine spent kept stem cycle walk) u t = KeptRight u t spent kept
 LineCounted (noneLine spent kept) u t = KeptRight u t spent kept
 LineCounted (noLine r) u t = Unit {0}
+LineCounted (waysLine s leaving entering) u t = Unit {0}
 
 -- "a number is handed back when its condition holds and no earlier one that is tried there does, and only then": cs are the conditions, in the
 -- order tried, each with its number

@@ -6,6 +6,7 @@ pub mod Cycles
 pub mod Table
 pub mod Refusals
 pub mod Machine
+pub mod Questions
 pub mod Claims
 pub mod Games
 pub mod Orders

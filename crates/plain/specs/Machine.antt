@@ -233,7 +233,7 @@ written (answer none spent kept) lent = lent
 written (answer (lasso stem cycle) spent kept) lent = stem ++ (cycle ++ drop (length stem + length cycle) lent)
 written (answer unfinished spent kept) lent = lent
 
--- The output lines of document 01, their fields in the order printed.
+-- The output lines, their fields in the order printed.
 pub data Line : Type 0 where
   -- N, the count of moves, the count of paying states
   gameLine : ℕ → ℕ → ℕ → Line
@@ -243,6 +243,8 @@ pub data Line : Type 0 where
   noneLine : ℕ → ℕ → Line
   -- the refusal's number, and of a batch the line's position
   noLine : Refusal → Line
+  -- document 02, ticket 8: the state, the count of moves that leave it, the count that enter it
+  waysLine : ℕ → ℕ → ℕ → Line
 
 unfoldable pub answerLine : Answer → List Line
 answerLine (refusal r) = noLine r ∷ []

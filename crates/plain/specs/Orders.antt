@@ -8,7 +8,8 @@ use Rattle.plain.specs.Lists.{Once}
 use Rattle.plain.specs.Search.{Edge}
 use Rattle.plain.specs.Table.{Table, accepts, row, final}
 use Rattle.plain.specs.Refusals.{accepted}
-use Rattle.plain.specs.Machine.{Change, add, cut, tableOf, changesOf, namedAll, Answer, loadAnswer, Call, callFor, trialOf, answerTo, tableAfter, answers, Line, gameLine, roundLine, noneLine, noLine, answerLine}
+use Rattle.plain.specs.Machine.{Change, add, cut, tableOf, changesOf, namedAll, Answer, loadAnswer, Call, callFor, trialOf, answerTo, tableAfter, answers, Line, gameLine, roundLine, noneLine, noLine, waysLine, answerLine}
+use Rattle.plain.specs.Questions.{Question, replyTo}
 use Rattle.plain.specs.Claims.{Arises, totalled, Reports, tableBehind, lastOf}
 use Rattle.plain.specs.Games.{gameH}
 
@@ -23,10 +24,11 @@ pub record SameView (t u : Table) : Type 0 where
   pub same-words : length (t .words) ≡ length (u .words)
   pub same-marks : (s : ℕ) → accepts (t .words) s ≡ accepts (u .words) s
 
--- The search sees no more of a table, and neither do calls, whatever their list.
+-- The search sees no more of a table, and neither do calls, whatever their list, and questions, before, between and behind them.
 pub record SeenAlike (t u : Table) : Type 0 where
   pub same-search : final t ≡ final u
   pub same-answers : (cs : List Call) → answers cs t ≡ answers cs u
+  pub same-replies : (cs : List Call) (q : Question) → replyTo q (tableBehind cs t) ≡ replyTo q (tableBehind cs u)
 
 abbrev pub OnlyRows : Type 0
 OnlyRows = (t u : Table) → SameView t u → SeenAlike t u
@@ -59,10 +61,12 @@ unfoldable pub changesAsked : List Call → List Change
 changesAsked [] = []
 changesAsked (c ∷ cs) = changesOf (c .update) ++ changesAsked cs
 
--- Two lists of calls end alike: in the same verdict, walk and total in the last answer (of an empty list that is the one before it), and no call behind them tells the two apart.
+-- Two lists of calls end alike: in the same verdict, walk and total in the last answer (of an empty list that is the one before it), and no call behind them tells the two apart,
+-- nor does a question.
 pub record SameEnding (cs ds : List Call) (t : Table) : Type 0 where
   pub same-report : (before : Answer) → Reports before t → totalled (lastOf before (answers cs t)) ≡ totalled (lastOf before (answers ds t))
   pub same-after : (es : List Call) → answers es (tableBehind cs t) ≡ answers es (tableBehind ds t)
+  pub same-replies : (es : List Call) (q : Question) → replyTo q (tableBehind es (tableBehind cs t)) ≡ replyTo q (tableBehind es (tableBehind ds t))
 
 -- Beyond the ticket's two: any number of changes that name pairwise different states, in any two orders that are accepted, each a call of its own or in a batch.
 abbrev pub AnyOrders : Type 0
@@ -77,6 +81,7 @@ totalLine (gameLine size moves paying) = gameLine size moves paying
 totalLine (roundLine spent kept stem cycle walk) = roundLine (kept + spent) 0 stem cycle walk
 totalLine (noneLine spent kept) = noneLine (kept + spent) 0
 totalLine (noLine r) = noLine r
+totalLine (waysLine s leaving entering) = waysLine s leaving entering
 
 -- ---- there and back
 
