@@ -4,6 +4,7 @@ use mathlib.Core.Logic.{_≢_}
 use mathlib.Core.List.{List, [], _∷_}
 use Prim.Native.Nat.{ℕ}
 use native.Mathlib.Omega.{arith}
+use Rattle.plain.specs.Lists.{elem}
 use Rattle.plain.specs.Search.{Verdict, none, lasso, unfinished, verdict, count}
 use Rattle.plain.specs.Table.{Table, final}
 use Rattle.plain.specs.Refusals.{Trial, accepted, refused, firstHeld, beyond, Load, loadTrial}
