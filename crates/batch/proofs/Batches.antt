@@ -17,7 +17,6 @@ use Rattle.plain.proofs.Tests.{contra, either, or-false, and-true}
 use Rattle.plain.proofs.Trials.{held-later, passed, last-free}
 use Rattle.plain.proofs.Tables.{Valid, valid-change, changed-size}
 use Rattle.plain.proofs.Batches.{batch-tried, batch-short, line-accepted, line-refused}
-use Rattle.rows.specs.Rows.{Tabled}
 use Rattle.table.specs.declared.Op.{Op}
 use Rattle.table.specs.declared.Op.the-variants.{Add, Cut, Mark, Unmark}
 use Rattle.table.specs.declared.Subject.the-variants as Subject
@@ -26,12 +25,12 @@ use Rattle.table.specs.declared.Trial.{Trial}
 use Rattle.table.specs.declared.Trial.the-variants.{Accepted, Refused}
 use Rattle.batch.specs.declared.Attempt.{Attempt}
 use Rattle.batch.specs.declared.BatchLine.{BatchLine}
-use Rattle.table.specs.Trials.{Arrays, opOf, tried, conditionsIn, trialIn}
+use Rattle.table.specs.Trials.{Arrays, Sized, opOf, tried, conditionsIn, trialIn}
 use Rattle.table.specs.Filing.{changeOf, filedIn, Attempted, Stored}
 use Rattle.batch.specs.Batches.{lineFor, lineTo, lineIn, isChange, subjectIn, switchIn, linesIn, statesIn, headLine, numbersIn, endIn, opFor, lineTrialIn, filedLine, TriedIn, triedIn, aheadTrial, callTriedIn, isRefused, positionAt, AttemptedLine, AttemptedLines, AttemptedCall}
 use Rattle.table.proofs.Trying.{tried-accepted, tried-refused, stop, skip}
 use Rattle.table.proofs.Filing.{not-accepted}
-use Rattle.table.proofs.Changing.{filed-tabled, conditions-same, trial-same, restored}
+use Rattle.table.proofs.Changing.{filed-sized, conditions-same, trial-same, restored}
 
 -- ---- one line
 
@@ -202,7 +201,7 @@ lines-other (a ∷ b ∷ d ∷ ns) (c ∷ cs) e =
 -- ---- trying lines
 
 -- the trial of a change, as its conditions
-opened : (op : Op) (size room : ℕ) (a : Arrays) (r : Trial) → r ≡ tried (trialIn op size a room) → r ≡ tried (firstHeld (conditionsIn op size a ++ roomCondition size room))
+opened : (op : Op) (size room : ℕ) (a : Arrays) (r : Trial) → r ≡ tried (trialIn op size (a .rows) (a .words) room) → r ≡ tried (firstHeld (conditionsIn op size (a .rows) (a .words) ++ roomCondition size room))
 unfolding trialIn
 opened op size room a r e = e
 
@@ -261,12 +260,9 @@ accepted-is (Refused n) e = absurd (true≢false e)
 refused-not : (n : ℕ) → refused n ≡ accepted → ⊥
 refused-not n e = let z : _≡_ {A = ℕ} 0 1 = cc in omega arith
 
-abbrev TabledIn : Arrays → Type 0
-TabledIn a = Tabled (a .rows .targets) (a .rows .starts)
-
-line-tabled : (x : PlainLine) (size : ℕ) (a a′ : Arrays) → a′ ≡ filedLine x size a → TabledIn a → TabledIn a′
-line-tabled (makes c) size a a′ e l = filed-tabled (opFor c) size a a′ e l
-line-tabled other size a a′ e l = subst⁻¹ TabledIn e l
+line-sized : (x : PlainLine) (size : ℕ) (a a′ : Arrays) → a′ ≡ filedLine x size a → Sized a → Sized a′
+line-sized (makes c) size a a′ e l = filed-sized (opFor c) size a a′ e l
+line-sized other size a a′ e l = subst⁻¹ Sized e l
 
 -- an accepted line is one of the first 64
 early : (i : ℕ) (x : PlainLine) (size : ℕ) (a : Arrays) (room : ℕ) → lineTrialIn i x size a room ≡ accepted → i ≤ 64
@@ -276,12 +272,12 @@ early i other size a room e = absurd (refused-not 1 e)
 -- what is left of the lines, tried on the arrays as they are, comes to what all of them come to
 pub record Walked (ns : List ℕ) (size room : ℕ) (a₀ : Arrays) (at position : ℕ) (a : Arrays) : Type 0 where
   pub rest : triedIn position (linesIn (drop at ns)) size a room ≡ triedIn 1 (linesIn ns) size a₀ room
-  pub tabled : Tabled (a .rows .targets) (a .rows .starts)
+  pub sized : Sized a
   pub place : at + 3 ≡ 3 * position
   pub few : position ≤ 65
 
-pub walk-begun : (ns : List ℕ) (size room : ℕ) (a : Arrays) → TabledIn a → Walked ns size room a 0 1 a
-walk-begun ns size room a l = record { rest = refl; tabled = l; place = omega arith; few = omega arith }
+pub walk-begun : (ns : List ℕ) (size room : ℕ) (a : Arrays) → Sized a → Walked ns size room a 0 1 a
+walk-begun ns size room a l = record { rest = refl; sized = l; place = omega arith; few = omega arith }
 
 -- an attempt that ended so
 ended-so : (alone : Bool) (x : Attempt) (k : Trial) (i : ℕ) → x ≡ record { trial = k; position = positionAt alone i } → (n : PlainTrial) → k ≡ tried n → (a a′ : Arrays) → a′ ≡ a
@@ -324,7 +320,7 @@ module _ (ns : List ℕ) (size room : ℕ) (a₀ : Arrays) (at position : ℕ) (
           rest =
               (λ j. triedIn (add-one position j) (linesIn (drop (at + 3) ns)) size (e .filed fine j) room)
               ∙ sym (tried-on position (lineIn l) (linesIn (drop (at + 3) ns)) size a room trial) ∙ next;
-          tabled = line-tabled (lineIn l) size a a′ (e .filed fine) (w .tabled);
+          sized = line-sized (lineIn l) size a a′ (e .filed fine) (w .sized);
           place = omega (arith, w .place);
           few = omega arith;
         }
@@ -377,23 +373,22 @@ call-alone alone only ns size a room x a′ z w e = by-alone (subst (λ (b : Boo
     by-alone w = w .arrays-are ∙ alone-unfiled (lineIn only) size a room (ap isRefused (sym (w .trial-is)) ∙ e)
 
 -- the arrays of the rows keep their lengths
-lines-tabled : (i : ℕ) (xs : List PlainLine) (size : ℕ) (a : Arrays) (room : ℕ) → TabledIn a → TabledIn (triedIn i xs size a room .arrays)
+lines-sized : (i : ℕ) (xs : List PlainLine) (size : ℕ) (a : Arrays) (room : ℕ) → Sized a → Sized (triedIn i xs size a room .arrays)
 unfolding triedIn
-lines-tabled i [] size a room l = l
-lines-tabled i (x ∷ xs) size a room l =
-    by-trial (lineTrialIn i x size a room) refl (lines-tabled (suc i) xs size (filedLine x size a) room (line-tabled x size a (filedLine x size a) refl l))
+lines-sized i [] size a room l = l
+lines-sized i (x ∷ xs) size a room l =
+    by-trial (lineTrialIn i x size a room) refl (lines-sized (suc i) xs size (filedLine x size a) room (line-sized x size a (filedLine x size a) refl l))
   where
-    by-trial : (w : PlainTrial) → lineTrialIn i x size a room ≡ w → TabledIn (triedIn (suc i) xs size (filedLine x size a) room .arrays) → TabledIn (triedIn i (x ∷ xs) size a room .arrays)
-    by-trial accepted k below = subst⁻¹ (λ (t : TriedIn). TabledIn (t .arrays)) (tried-on i x xs size a room k) below
-    by-trial (refused n) k below = subst⁻¹ (λ (t : TriedIn). TabledIn (t .arrays)) (tried-stop i x xs size a room n k) l
+    by-trial : (w : PlainTrial) → lineTrialIn i x size a room ≡ w → Sized (triedIn (suc i) xs size (filedLine x size a) room .arrays) → Sized (triedIn i (x ∷ xs) size a room .arrays)
+    by-trial accepted k below = subst⁻¹ (λ (t : TriedIn). Sized (t .arrays)) (tried-on i x xs size a room k) below
+    by-trial (refused n) k below = subst⁻¹ (λ (t : TriedIn). Sized (t .arrays)) (tried-stop i x xs size a room n k) l
 
-pub tried-tabled : (alone : Bool) (xs : List PlainLine) (size : ℕ) (a : Arrays) (room : ℕ) → Tabled (a .rows .targets) (a .rows .starts)
-    → Tabled (callTriedIn alone xs size a room .arrays .rows .targets) (callTriedIn alone xs size a room .arrays .rows .starts)
-tried-tabled alone xs size a room l = by-trial (aheadTrial alone size room) refl
+pub tried-sized : (alone : Bool) (xs : List PlainLine) (size : ℕ) (a : Arrays) (room : ℕ) → Sized a → Sized (callTriedIn alone xs size a room .arrays)
+tried-sized alone xs size a room l = by-trial (aheadTrial alone size room) refl
   where
-    by-trial : (w : PlainTrial) → aheadTrial alone size room ≡ w → TabledIn (callTriedIn alone xs size a room .arrays)
-    by-trial accepted k = subst⁻¹ (λ (t : TriedIn). TabledIn (t .arrays)) (call-on alone xs size a room k) (lines-tabled 1 xs size a room l)
-    by-trial (refused n) k = subst⁻¹ (λ (t : TriedIn). TabledIn (t .arrays)) (call-stop alone xs size a room n k) l
+    by-trial : (w : PlainTrial) → aheadTrial alone size room ≡ w → Sized (callTriedIn alone xs size a room .arrays)
+    by-trial accepted k = subst⁻¹ (λ (t : TriedIn). Sized (t .arrays)) (call-on alone xs size a room k) (lines-sized 1 xs size a room l)
+    by-trial (refused n) k = subst⁻¹ (λ (t : TriedIn). Sized (t .arrays)) (call-stop alone xs size a room n k) l
 
 -- ---- arrays that hold a table
 
@@ -416,7 +411,7 @@ module _ (t : Table) (v : Valid t) (a : Arrays) (f : Stored t a) (c : Change) (r
     line-same : lineTrialIn i (makes c) (t .size) a room ≡ firstHeld (lineConditions i (makes c) t)
     unfolding lineConditions
     line-same =
-        let own : conditionsIn (opFor c) (t .size) a ≡ conditions c t = conditions-same t a f (opFor c) ∙ ap (λ (d : Change). conditions d t) (change-back c) in
+        let own : conditionsIn (opFor c) (t .size) (a .rows) (a .words) ≡ conditions c t = conditions-same t a f (opFor c) ∙ ap (λ (d : Change). conditions d t) (change-back c) in
         (λ j. firstHeld ((15, ltb 64 i) ∷ (own j ++ roomCondition (t .size) room)))
         ∙ last-free ((15, ltb 64 i) ∷ conditions c t) (roomCondition (t .size) room) roomy
 
@@ -480,7 +475,7 @@ module _ (t : Table) (v : Valid t) (a : Arrays) (f : Stored t a) where
     only-same : lineTrialIn 1 (makes c) (t .size) a room ≡ changeTrial c t room
     unfolding trialIn
     only-same =
-        held-later (15, ltb 64 1) (conditionsIn (opFor c) (t .size) a ++ roomCondition (t .size) room) refl
+        held-later (15, ltb 64 1) (conditionsIn (opFor c) (t .size) (a .rows) (a .words) ++ roomCondition (t .size) room) refl
         ∙ trial-same t a f (opFor c) room ∙ ap (λ (d : Change). changeTrial d t room) (change-back c)
 
     only-made : changeTrial c t room ≡ accepted → callTriedIn true (makes c ∷ []) (t .size) a room ≡ record { trial = accepted; position = 2; arrays = filedIn (opFor c) (t .size) a }

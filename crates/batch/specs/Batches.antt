@@ -95,7 +95,7 @@ opFor (unmark s) = Unmark s
 
 -- The trial of the i-th line, read off the arrays. 11 comes behind a change's own refusals: it is tried ahead of a batch, so that it never strikes there.
 abbrev pub lineTrialIn : ℕ → PlainLine → ℕ → Arrays → ℕ → PlainTrial
-lineTrialIn i (makes c) size a room = firstHeld ((15, ltb 64 i) ∷ (conditionsIn (opFor c) size a ++ roomCondition size room))
+lineTrialIn i (makes c) size a room = firstHeld ((15, ltb 64 i) ∷ (conditionsIn (opFor c) size (a .rows) (a .words) ++ roomCondition size room))
 lineTrialIn i other size a room = refused 1
 
 abbrev pub filedLine : PlainLine → ℕ → Arrays → Arrays

@@ -135,10 +135,11 @@ fn attempt_line(
     targets: &mut [u16; 2048],
     starts: &mut [u16; 513],
     words: &mut [u64; 8],
+    indegree: &mut [u16; 512],
     room: usize,
 ) -> Trial
-    requires { ⌜ Tabled (now targets) (now starts) ⌝ }
-    ensures { λ r. ⌜ AttemptedLine (lineIn line) position size room (arraysOf (now (targets .entry)) (now (starts .entry)) (now (words .entry))) r (arraysOf (now (targets .exit)) (now (starts .exit)) (now (words .exit))) ⌝ }
+    requires { ⌜ Tabled (now targets) (now starts) × (length (now indegree) ≡ 512) ⌝ }
+    ensures { λ r. ⌜ AttemptedLine (lineIn line) position size room (arraysOf (now (targets .entry)) (now (starts .entry)) (now (words .entry)) (now (indegree .entry))) r (arraysOf (now (targets .exit)) (now (starts .exit)) (now (words .exit)) (now (indegree .exit))) ⌝ }
 {
     if !is_change(line) {
         return Trial::Refused(1);
@@ -146,7 +147,7 @@ fn attempt_line(
     if CHANGES < position {
         return Trial::Refused(15);
     }
-    table::attempt_change(switch_in(line), size, targets, starts, words, room)
+    table::attempt_change(switch_in(line), size, targets, starts, words, indegree, room)
 }
 
 fn is_refused(trial: Trial) -> bool
@@ -183,17 +184,18 @@ fn attempt_lines(
     targets: &mut [u16; 2048],
     starts: &mut [u16; 513],
     words: &mut [u64; 8],
+    indegree: &mut [u16; 512],
     room: usize,
 ) -> Attempt
-    requires { ⌜ Tabled (now targets) (now starts) ⌝ }
-    ensures { λ r. ⌜ AttemptedLines alone (triedIn 1 (linesIn (numbersIn alone only (now (lines .entry)))) size (arraysOf (now (targets .entry)) (now (starts .entry)) (now (words .entry))) room) r (arraysOf (now (targets .exit)) (now (starts .exit)) (now (words .exit))) ⌝ }
+    requires { ⌜ Tabled (now targets) (now starts) × (length (now indegree) ≡ 512) ⌝ }
+    ensures { λ r. ⌜ AttemptedLines alone (triedIn 1 (linesIn (numbersIn alone only (now (lines .entry)))) size (arraysOf (now (targets .entry)) (now (starts .entry)) (now (words .entry)) (now (indegree .entry))) room) r (arraysOf (now (targets .exit)) (now (starts .exit)) (now (words .exit)) (now (indegree .exit))) ⌝ }
 {
     let end = lines_end(alone, lines);
     let mut at: usize = 0;
     let mut position: u16 = 1;
     while at < end {
         let line = line_at(alone, only, lines, at);
-        let trial = attempt_line(line, position, size, targets, starts, words, room);
+        let trial = attempt_line(line, position, size, targets, starts, words, indegree, room);
         if is_refused(trial) {
             return ended(alone, trial, position);
         }
@@ -226,27 +228,30 @@ pub fn attempt_call(
     targets: &mut [u16; 2048],
     starts: &mut [u16; 513],
     words: &mut [u64; 8],
+    indegree: &mut [u16; 512],
     room: usize,
 ) -> Attempt
-    requires { ⌜ Tabled (now targets) (now starts) ⌝ }
-    ensures { λ r. ⌜ AttemptedCall alone (callTriedIn alone (linesIn (numbersIn alone only (now (lines .entry)))) size (arraysOf (now (targets .entry)) (now (starts .entry)) (now (words .entry))) room) (arraysOf (now (targets .entry)) (now (starts .entry)) (now (words .entry))) r (arraysOf (now (targets .exit)) (now (starts .exit)) (now (words .exit))) ⌝ }
+    requires { ⌜ Tabled (now targets) (now starts) × (length (now indegree) ≡ 512) ⌝ }
+    ensures { λ r. ⌜ AttemptedCall alone (callTriedIn alone (linesIn (numbersIn alone only (now (lines .entry)))) size (arraysOf (now (targets .entry)) (now (starts .entry)) (now (words .entry)) (now (indegree .entry))) room) (arraysOf (now (targets .entry)) (now (starts .entry)) (now (words .entry)) (now (indegree .entry))) r (arraysOf (now (targets .exit)) (now (starts .exit)) (now (words .exit)) (now (indegree .exit))) ⌝ }
 {
     let ahead = ahead_trial(alone, size, room);
     if is_refused(ahead) {
         return ended(alone, ahead, 0);
     }
     if alone {
-        return attempt_lines(alone, only, lines, size, targets, starts, words, room);
+        return attempt_lines(alone, only, lines, size, targets, starts, words, indegree, room);
     }
     let old_targets = *targets;
     let old_starts = *starts;
     let old_words = *words;
-    let r = attempt_lines(alone, only, lines, size, targets, starts, words, room);
+    let old_indegree = *indegree;
+    let r = attempt_lines(alone, only, lines, size, targets, starts, words, indegree, room);
     let trial = r.trial;
     if is_refused(trial) {
         *targets = old_targets;
         *starts = old_starts;
         *words = old_words;
+        *indegree = old_indegree;
     }
     r
 }

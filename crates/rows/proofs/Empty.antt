@@ -7,7 +7,7 @@ use lib.ListN.{getD, replicate, length-replicate}
 use Rattle.rows.specs.Rows.{rowAt, edgeCount, Compressed}
 use Rattle.rows.proofs.Entries.{row-none}
 
-reads-same : (n i a : ℕ) → getD (replicate n a) i a ≡ a
+pub reads-same : (n i a : ℕ) → getD (replicate n a) i a ≡ a
 reads-same zero i a = refl
 reads-same (suc n) zero a = refl
 reads-same (suc n) (suc i) a = reads-same n i a

@@ -1,9 +1,9 @@
 -- A change of the table: its trial is the plain table's, and the arrays that it leaves hold the changed table. Assumes nothing.
-use mathlib.Core.Path.{_≡_, sym, ap, subst, subst⁻¹, _∙_}
+use mathlib.Core.Path.{_≡_, refl, sym, ap, subst, subst⁻¹, _∙_}
 use mathlib.Core.Logic.{⊎-elim}
 use mathlib.Core.Bool.{true, false, not}
 use mathlib.Core.List.{List, [], _∷_, _++_}
-use Prim.Native.Nat.{ℕ, suc, _<_}
+use Prim.Native.Nat.{ℕ, suc, _≤_, _<_}
 use native.Mathlib.Omega.{arith}
 use lib.Dec.{eqb, leb}
 use lib.ListN.{length, take, drop}
@@ -23,20 +23,30 @@ use Rattle.rows.proofs.Entries.{row-length}
 use Rattle.rows.proofs.Change.{removes-edge, inserted-lengths, removed-lengths}
 use Rattle.table.specs.declared.Op.{Op}
 use Rattle.table.specs.declared.Op.the-variants.{Add, Cut, Mark, Unmark}
-use Rattle.table.specs.Trials.{Arrays, there, addConditions, cutConditions, markConditions, unmarkConditions, conditionsIn, trialIn}
-use Rattle.table.specs.Filing.{changeOf, namedBy, filedIn, Filed, Stored}
+use Rattle.table.specs.Trials.{Arrays, Sized, there, addConditions, cutConditions, markConditions, unmarkConditions, conditionsIn, trialIn}
+use Rattle.table.specs.Filing.{changeOf, namedBy, filedIn, Filed, Counted, Stored}
 use Rattle.table.proofs.Places.{place-hit, place-miss}
 use Rattle.table.proofs.Filing.{there-present, filed-insert}
+use Rattle.table.proofs.Counting.{recounted-length, counted-more, counted-fewer}
 
 rows-of : {a b : Arrays} → a ≡ b → a .rows ≡ b .rows
 rows-of e = λ i. e i .rows
 
--- the arrays of the rows keep their lengths
-pub filed-tabled : (op : Op) (size : ℕ) (a a′ : Arrays) → a′ ≡ filedIn op size a → Tabled (a .rows .targets) (a .rows .starts) → Tabled (a′ .rows .targets) (a′ .rows .starts)
+-- the arrays keep their lengths
+filed-counts : (op : Op) (size : ℕ) (a : Arrays) → length (filedIn op size a .indegree) ≡ length (a .indegree)
+filed-counts (Add from to) size a = recounted-length true to (a .indegree)
+filed-counts (Cut from to) size a = recounted-length false to (a .indegree)
+filed-counts (Mark state) size a = refl
+filed-counts (Unmark state) size a = refl
+
+filed-tabled : (op : Op) (size : ℕ) (a a′ : Arrays) → a′ ≡ filedIn op size a → Tabled (a .rows .targets) (a .rows .starts) → Tabled (a′ .rows .targets) (a′ .rows .starts)
 filed-tabled (Add from to) size a a′ e l = inserted-lengths size from to (a .rows) (a′ .rows) (rows-of e) l
 filed-tabled (Cut from to) size a a′ e l = removed-lengths size from _ (a .rows) (a′ .rows) (rows-of e) l
 filed-tabled (Mark state) size a a′ e l = subst⁻¹ (λ (r : Rows). Tabled (r .targets) (r .starts)) (rows-of e) l
 filed-tabled (Unmark state) size a a′ e l = subst⁻¹ (λ (r : Rows). Tabled (r .targets) (r .starts)) (rows-of e) l
+
+pub filed-sized : (op : Op) (size : ℕ) (a a′ : Arrays) → a′ ≡ filedIn op size a → Sized a → Sized a′
+filed-sized op size a a′ e l = (filed-tabled op size a a′ e (l .0), ap (λ (b : Arrays). length (b .indegree)) e ∙ filed-counts op size a ∙ l .1)
 
 -- the state that an accepted change names
 pub named-below : (op : Op) (t : Table) (room : ℕ) → changeTrial (changeOf op) t room ≡ accepted → namedBy op < t .size
@@ -90,7 +100,7 @@ module _ (t : Table) (before : Rows) (f : Filed (t .size) (t .edges) before) whe
 
 module _ (t : Table) (before : Arrays) (f : Stored t before) where
   -- the conditions read off the arrays are the table's
-  pub conditions-same : (op : Op) → conditionsIn op (t .size) before ≡ conditions (changeOf op) t
+  pub conditions-same : (op : Op) → conditionsIn op (t .size) (before .rows) (before .words) ≡ conditions (changeOf op) t
   unfolding addConditions cutConditions markConditions unmarkConditions conditions full
   conditions-same (Add from to) = λ i.
       (6, outside (t .size) (from, to)) ∷ (8, present-here t (before .rows) (f .filed) from to i) ∷ (9, leb 2048 (f .filed .count-is i)) ∷ []
@@ -99,13 +109,27 @@ module _ (t : Table) (before : Arrays) (f : Stored t before) where
   conditions-same (Unmark state) = λ i. (6, beyond (t .size) state) ∷ (14, not (accepts (f .words-are i) state)) ∷ []
 
   -- and so is the trial
-  pub trial-same : (op : Op) (room : ℕ) → trialIn op (t .size) before room ≡ changeTrial (changeOf op) t room
+  pub trial-same : (op : Op) (room : ℕ) → trialIn op (t .size) (before .rows) (before .words) room ≡ changeTrial (changeOf op) t room
   unfolding trialIn changeTrial
   trial-same op room = λ i. firstHeld (conditions-same op i ++ roomCondition (t .size) room)
 
-  -- other words, and the rows as they were
-  switched : (a : Arrays) (words : List ℕ) → a .rows ≡ before .rows → a .words ≡ words → Stored (withWords t words) a
-  switched a words same new = record { filed = subst⁻¹ (Filed (t .size) (t .edges)) same (f .filed); words-are = new }
+  -- other words, and the moves as they were
+  switched : (a : Arrays) (words : List ℕ) → a .rows ≡ before .rows → a .indegree ≡ before .indegree → a .words ≡ words → Stored (withWords t words) a
+  switched a words rows counts new = record {
+    filed = subst⁻¹ (Filed (t .size) (t .edges)) rows (f .filed);
+    words-are = new;
+    counted = subst⁻¹ (Counted (t .edges)) counts (f .counted);
+  }
+
+  few : length (t .edges) ≤ 2048
+  few = omega (arith, f .filed .compressed .within, f .filed .count-is)
+
+  states : t .size ≤ 512
+  states = f .filed .compressed .states
+
+  -- a state that is not outside the game has a count
+  entered : (from to : ℕ) → outside (t .size) (from, to) ≡ false → to < 512
+  entered from to e = omega (arith, inside-both (t .size) (from, to) e .1, states)
 
   -- an accepted change leaves arrays that hold the changed table
   pub restored : (a : Arrays) → Valid t → (op : Op) (room : ℕ) → changeTrial (changeOf op) t room ≡ accepted → a ≡ filedIn op (t .size) before → Stored (apply (changeOf op) t) a
@@ -114,10 +138,13 @@ module _ (t : Table) (before : Arrays) (f : Stored t before) where
     filed = filed-insert (t .size) (t .edges) (from, to) (before .rows) (a .rows) (f .filed) (named-below (Add from to) t room e)
         (omega (arith, leb-false 2048 (length (t .edges)) (unheld 9 _ e), f .filed .count-is)) (rows-of new);
     words-are = (λ i. new i .words) ∙ f .words-are;
+    counted = subst⁻¹ (Counted (t .edges ++ ((from, to) ∷ []))) (λ i. new i .indegree) (counted-more (t .edges) (from, to) (before .indegree) (f .counted) (entered from to (unheld 6 _ e)) few);
   }
   restored a valid (Cut from to) room e new = record {
     filed = filed-remove t (before .rows) (f .filed) (a .rows) valid from to (named-below (Cut from to) t room e) (not-false (present (t .edges) (from, to)) (unheld 10 _ e)) (rows-of new);
     words-are = (λ i. new i .words) ∙ f .words-are;
+    counted = subst⁻¹ (Counted (without (from, to) (t .edges))) (λ i. new i .indegree)
+        (counted-fewer (t .edges) (from, to) (before .indegree) (f .counted) (entered from to (unheld 6 _ e)) (valid .once) (not-false (present (t .edges) (from, to)) (unheld 10 _ e)));
   }
-  restored a valid (Mark state) room e new = switched a (withMark (t .words) state) (rows-of new) ((λ i. new i .words) ∙ ap (λ (w : List ℕ). withMark w state) (f .words-are))
-  restored a valid (Unmark state) room e new = switched a (withoutMark (t .words) state) (rows-of new) ((λ i. new i .words) ∙ ap (λ (w : List ℕ). withoutMark w state) (f .words-are))
+  restored a valid (Mark state) room e new = switched a (withMark (t .words) state) (rows-of new) (λ i. new i .indegree) ((λ i. new i .words) ∙ ap (λ (w : List ℕ). withMark w state) (f .words-are))
+  restored a valid (Unmark state) room e new = switched a (withoutMark (t .words) state) (rows-of new) (λ i. new i .indegree) ((λ i. new i .words) ∙ ap (λ (w : List ℕ). withoutMark w state) (f .words-are))

@@ -2,4 +2,5 @@ pub mod Places
 pub mod Pairs
 pub mod Trying
 pub mod Filing
+pub mod Counting
 pub mod Changing

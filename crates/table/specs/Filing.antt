@@ -1,16 +1,18 @@
 -- The table in its arrays: what they hold, and what filing leaves. Assumes nothing.
-use Prim.Native.Nat.{ℕ, _≤_}
+use Prim.Native.Nat.{ℕ, _-_, _≤_}
 use mathlib.Core.Path.{_≡_}
-use mathlib.Core.Bool.{Bool, false}
-use mathlib.Core.List.{List}
-use lib.ListN.{length, replicate}
+use mathlib.Core.Bool.{Bool, true, false}
+use mathlib.Core.List.{List, [], _∷_}
+use lib.ListN.{length, getD, set, replicate}
 use Rattle.plain.specs.Lists.{any}
 use Rattle.plain.specs.Search.{Edge}
 use Rattle.plain.specs.Table.{Table, row, withMark, withoutMark}
 use Rattle.plain.specs.Refusals.{outside, pairs, repeated, Load, loadTrial}
 use Rattle.plain.specs.Machine.{Change, add, cut, mark, unmark}
+use Rattle.plain.specs.Questions.{inDegree}
 use Rattle.rows.specs.Rows.{rowAt, edgeCount, placeOf, Compressed}
 use Rattle.rows.specs.Change.{Rows, rowsOf, inserted, removed}
+use Rattle.look.specs.Numbers.{further}
 use Rattle.table.specs.declared.Op.{Op}
 use Rattle.table.specs.declared.Op.the-variants.{Add, Cut, Mark, Unmark}
 use Rattle.table.specs.declared.Trial.{Trial}
@@ -23,10 +25,16 @@ pub record Filed (size : ℕ) (edges : List Edge) (rows : Rows) : Type 0 where
   pub rows-are : (v : ℕ) → rowAt (rows .targets) (rows .starts) v ≡ row edges v
   pub count-is : edgeCount (rows .starts) size ≡ length edges
 
--- the arrays hold the table: its moves, and its paying marks
+-- the counts are those of these edges: for each state, how many enter it
+pub record Counted (edges : List Edge) (indegree : List ℕ) : Type 0 where
+  pub counts-size : length indegree ≡ 512
+  pub counts-are : (s : ℕ) → getD indegree s 0 ≡ inDegree edges s
+
+-- the arrays hold the table: its moves, its paying marks, and the counts of its moves
 pub record Stored (t : Table) (a : Arrays) : Type 0 where
   pub filed : Filed (t .size) (t .edges) (a .rows)
   pub words-are : a .words ≡ t .words
+  pub counted : Counted (t .edges) (a .indegree)
 
 -- ---- a change
 
@@ -44,22 +52,32 @@ namedBy (Cut from to) = from
 namedBy (Mark state) = state
 namedBy (Unmark state) = state
 
-abbrev pub withRows : Arrays → Rows → Arrays
-withRows a r = record { rows = r; words = a .words }
+-- one edge more enters a state, or one fewer; within 16 bits, and where the state has a count
+abbrev pub recounted : Bool → ℕ → List ℕ → List ℕ
+recounted true s xs = set xs s (further (getD xs s 0))
+recounted false s xs = set xs s (getD xs s 0 - 1)
+
+-- edges, one after the other
+unfoldable pub countedAll : List Edge → List ℕ → List ℕ
+countedAll [] xs = xs
+countedAll (e ∷ es) xs = countedAll es (recounted true (e .1) xs)
+
+abbrev pub withRows : Arrays → Rows → List ℕ → Arrays
+withRows a rows indegree = record { rows = rows; words = a .words; indegree = indegree }
 
 abbrev pub withWords : Arrays → List ℕ → Arrays
-withWords a words = record { rows = a .rows; words = words }
+withWords a words = record { rows = a .rows; words = words; indegree = a .indegree }
 
 -- the arrays after a change was filed; a cut takes out the edge at the place of its target
 abbrev pub filedIn : Op → ℕ → Arrays → Arrays
-filedIn (Add from to) size a = withRows a (inserted size from to (a .rows))
-filedIn (Cut from to) size a = withRows a (removed size from (placeOf to (rowAt (a .rows .targets) (a .rows .starts) from)) (a .rows))
+filedIn (Add from to) size a = withRows a (inserted size from to (a .rows)) (recounted true to (a .indegree))
+filedIn (Cut from to) size a = withRows a (removed size from (placeOf to (rowAt (a .rows .targets) (a .rows .starts) from)) (a .rows)) (recounted false to (a .indegree))
 filedIn (Mark state) size a = withWords a (withMark (a .words) state)
 filedIn (Unmark state) size a = withWords a (withoutMark (a .words) state)
 
 -- a change that was tried: the arrays are changed where it is accepted, else as they were
 pub record Attempted (op : Op) (size room : ℕ) (a : Arrays) (r : Trial) (a′ : Arrays) : Type 0 where
-  pub trial-is : r ≡ tried (trialIn op size a room)
+  pub trial-is : r ≡ tried (trialIn op size (a .rows) (a .words) room)
   pub filed : r ≡ Accepted → a′ ≡ filedIn op size a
   pub unfiled : (n : ℕ) → r ≡ Refused n → a′ ≡ a
 

@@ -1,12 +1,14 @@
 -- The trials of calls, read off the arrays of a table. Assumes nothing.
 use Prim.Native.Nat.{ℕ}
+use mathlib.Core.Path.{_≡_}
 use mathlib.Core.Bool.{Bool, true, false, not}
 use mathlib.Core.List.{List, [], _∷_, _++_}
 use lib.Dec.{ltb, leb}
+use lib.ListN.{length}
 use Rattle.plain.specs.Lists.{any}
 use Rattle.plain.specs.Table.{accepts}
 use Rattle.plain.specs.Refusals.{Trial as PlainTrial, accepted, refused, firstHeld, badSize, badStart, badMarks, badCount, outside, beyond, roomCondition, pairs}
-use Rattle.rows.specs.Rows.{rowAt, degreeAt, edgeCount, placeOf}
+use Rattle.rows.specs.Rows.{rowAt, degreeAt, edgeCount, placeOf, Tabled}
 use Rattle.rows.specs.Change.{Rows, rowsOf}
 use Rattle.table.specs.declared.Op.{Op}
 use Rattle.table.specs.declared.Op.the-variants.{Add, Cut, Mark, Unmark}
@@ -16,14 +18,19 @@ use Rattle.table.specs.declared.Switch.{Switch}
 use Rattle.table.specs.declared.Trial.{Trial}
 use Rattle.table.specs.declared.Trial.the-variants.{Accepted, Refused}
 
--- the table's arrays: the moves as rows, and the words of the paying marks
+-- the table's arrays: the moves as rows, the words of the paying marks, and for each state the count of moves that enter it
 pub record Arrays : Type 0 where
   pub rows : Rows
   pub words : List ℕ
+  pub indegree : List ℕ
 
 -- the same of lent arrays
-abbrev pub arraysOf : List ℕ → List ℕ → List ℕ → Arrays
-arraysOf targets starts words = record { rows = rowsOf targets starts; words = words }
+abbrev pub arraysOf : List ℕ → List ℕ → List ℕ → List ℕ → Arrays
+arraysOf targets starts words indegree = record { rows = rowsOf targets starts; words = words; indegree = indegree }
+
+-- lengths that the arrays have by their types
+abbrev pub Sized : Arrays → Type 0
+Sized a = Tabled (a .rows .targets) (a .rows .starts) × (length (a .indegree) ≡ 512)
 
 -- the change that switches something on or off
 abbrev pub switching : Bool → Subject → Op
@@ -72,12 +79,12 @@ unfoldable pub unmarkConditions : ℕ → List ℕ → ℕ → List (ℕ × Bool
 unmarkConditions size words state = (6, beyond size state) ∷ (14, not (accepts words state)) ∷ []
 
 -- the conditions of a change itself
-abbrev pub conditionsIn : Op → ℕ → Arrays → List (ℕ × Bool)
-conditionsIn (Add from to) size a = addConditions size (a .rows .targets) (a .rows .starts) from to
-conditionsIn (Cut from to) size a = cutConditions size (a .rows .targets) (a .rows .starts) from to
-conditionsIn (Mark state) size a = markConditions size (a .words) state
-conditionsIn (Unmark state) size a = unmarkConditions size (a .words) state
+abbrev pub conditionsIn : Op → ℕ → Rows → List ℕ → List (ℕ × Bool)
+conditionsIn (Add from to) size rows words = addConditions size (rows .targets) (rows .starts) from to
+conditionsIn (Cut from to) size rows words = cutConditions size (rows .targets) (rows .starts) from to
+conditionsIn (Mark state) size rows words = markConditions size words state
+conditionsIn (Unmark state) size rows words = unmarkConditions size words state
 
 -- the trial of a change: 11 behind its own conditions
-unfoldable pub trialIn : Op → ℕ → Arrays → ℕ → PlainTrial
-trialIn op size a room = firstHeld (conditionsIn op size a ++ roomCondition size room)
+unfoldable pub trialIn : Op → ℕ → Rows → List ℕ → ℕ → PlainTrial
+trialIn op size rows words room = firstHeld (conditionsIn op size rows words ++ roomCondition size room)

@@ -1,11 +1,13 @@
 // The game's table in its arrays: a load and changes are tried on it, and accepted ones are filed in its rows and its marks. No search.
 use rows::wide;
 ghost use mathlib.Core.Path.{_≡_};
+ghost use lib.ListN.{length};
 ghost use Rattle.plain.specs.Lists.{any};
 ghost use Rattle.plain.specs.Refusals.{firstHeld, badMarks, outside, roomCondition, pairs};
 ghost use Rattle.rows.specs.Rows.{Tabled};
+ghost use Rattle.rows.specs.Change.{rowsOf};
 ghost use Rattle.table.specs.Trials.{arraysOf, opOf, tried, earlyTrial, there, addConditions, cutConditions, markConditions, unmarkConditions, conditionsIn, trialIn};
-ghost use Rattle.table.specs.Filing.{filedIn, Attempted, Empty, Limits, FiledAll, Tried};
+ghost use Rattle.table.specs.Filing.{recounted, countedAll, filedIn, Attempted, Empty, Limits, FiledAll, Tried};
 
 // Where a refusal stands: it is that of the call, or that of a line of a batch, with its position.
 pub enum Position {
@@ -247,7 +249,7 @@ fn own_trial(
     words: &[u64; 8],
 ) -> Trial
     requires { ⌜ Tabled (now targets) (now starts) ⌝ }
-    ensures { λ r. ⌜ r ≡ tried (firstHeld (conditionsIn (opOf switch) size (arraysOf (now (targets .entry)) (now (starts .entry)) (now (words .entry))))) ⌝ }
+    ensures { λ r. ⌜ r ≡ tried (firstHeld (conditionsIn (opOf switch) size (rowsOf (now (targets .entry)) (now (starts .entry))) (now (words .entry)))) ⌝ }
 {
     let subject = switch.subject;
     match subject {
@@ -276,13 +278,38 @@ fn change_trial(
     room: usize,
 ) -> Trial
     requires { ⌜ Tabled (now targets) (now starts) ⌝ }
-    ensures { λ r. ⌜ r ≡ tried (trialIn (opOf switch) size (arraysOf (now (targets .entry)) (now (starts .entry)) (now (words .entry))) room) ⌝ }
+    ensures { λ r. ⌜ r ≡ tried (trialIn (opOf switch) size (rowsOf (now (targets .entry)) (now (starts .entry))) (now (words .entry)) room) ⌝ }
 {
     let own = own_trial(switch, size, targets, starts, words);
     if let Trial::Refused(n) = own {
         return Trial::Refused(n);
     }
     room_trial(size, room)
+}
+
+// One edge more enters a state, or one fewer.
+fn count_edge(indegree: &mut [u16; 512], to: u16, more: bool)
+    requires { ⌜ length (now indegree) ≡ 512 ⌝ }
+    ensures { λ r. ⌜ now (indegree .exit) ≡ recounted more to (now (indegree .entry)) ⌝ }
+{
+    let n = look::get(indegree, to);
+    if more {
+        look::put(indegree, to, look::further(n));
+        return;
+    }
+    look::put(indegree, to, look::down(n));
+}
+
+// Counts the moves of the list, each at the state that it enters.
+pub fn count_edges(numbers: &[u16], indegree: &mut [u16; 512])
+    requires { ⌜ length (now indegree) ≡ 512 ⌝ }
+    ensures { λ r. ⌜ now (indegree .exit) ≡ countedAll (pairs (now (numbers .entry))) (now (indegree .entry)) ⌝ }
+{
+    let mut i: usize = 0;
+    while i + 1 < numbers.len() {
+        count_edge(indegree, numbers[i + 1], true);
+        i += 2;
+    }
 }
 
 // The change is made in the arrays.
@@ -292,13 +319,15 @@ fn file_one(
     targets: &mut [u16; 2048],
     starts: &mut [u16; 513],
     words: &mut [u64; 8],
+    indegree: &mut [u16; 512],
 )
-    requires { ⌜ Tabled (now targets) (now starts) ⌝ }
-    ensures { λ r. ⌜ arraysOf (now (targets .exit)) (now (starts .exit)) (now (words .exit)) ≡ filedIn (opOf switch) size (arraysOf (now (targets .entry)) (now (starts .entry)) (now (words .entry))) ⌝ }
+    requires { ⌜ Tabled (now targets) (now starts) × (length (now indegree) ≡ 512) ⌝ }
+    ensures { λ r. ⌜ arraysOf (now (targets .exit)) (now (starts .exit)) (now (words .exit)) (now (indegree .exit)) ≡ filedIn (opOf switch) size (arraysOf (now (targets .entry)) (now (starts .entry)) (now (words .entry)) (now (indegree .entry))) ⌝ }
 {
     let subject = switch.subject;
     match subject {
         Subject::Edge { from, to } => {
+            count_edge(indegree, to, switch.on);
             if switch.on {
                 rows::insert(targets, starts, size, from, to);
                 return;
@@ -323,15 +352,16 @@ pub fn attempt_change(
     targets: &mut [u16; 2048],
     starts: &mut [u16; 513],
     words: &mut [u64; 8],
+    indegree: &mut [u16; 512],
     room: usize,
 ) -> Trial
-    requires { ⌜ Tabled (now targets) (now starts) ⌝ }
-    ensures { λ r. ⌜ Attempted (opOf switch) size room (arraysOf (now (targets .entry)) (now (starts .entry)) (now (words .entry))) r (arraysOf (now (targets .exit)) (now (starts .exit)) (now (words .exit))) ⌝ }
+    requires { ⌜ Tabled (now targets) (now starts) × (length (now indegree) ≡ 512) ⌝ }
+    ensures { λ r. ⌜ Attempted (opOf switch) size room (arraysOf (now (targets .entry)) (now (starts .entry)) (now (words .entry)) (now (indegree .entry))) r (arraysOf (now (targets .exit)) (now (starts .exit)) (now (words .exit)) (now (indegree .exit))) ⌝ }
 {
     let trial = change_trial(switch, size, targets, starts, words, room);
     if let Trial::Refused(n) = trial {
         return Trial::Refused(n);
     }
-    file_one(switch, size, targets, starts, words);
+    file_one(switch, size, targets, starts, words, indegree);
     Trial::Accepted
 }

@@ -27,7 +27,7 @@ attempt-lines-requires c κs = search needs
 
 returns-2 : tie.Need-returns-2
 returns-2 c =
-    let alone = c .before .before .before .before in
+    let alone = c .before .before .before .before .before in
     let n = alone .before in
     let k = n .before in
     call-made _ _ _ _ _ _
@@ -42,7 +42,7 @@ is-refused-requires-2 c κs = search needs
 
 -- the lines of a batch, tried
 abbrev ahead : tie.After-attempt-lines2 → tie.Else1
-ahead c = c .before .before .before .before .before .before .before .before
+ahead c = c .before .before .before .before .before .before .before .before .before .before
 
 returns-3 : tie.Need-returns-3
 returns-3 c =

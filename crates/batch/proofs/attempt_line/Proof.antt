@@ -27,7 +27,7 @@ attempt-change-requires c κs = search needs
 
 returns-3 : tie.Need-returns-3
 returns-3 c =
-    let s = c .before .before .before .before in
+    let s = c .before .before .before .before .before in
     let e = s .before .before in
     let k = e .before in
     attempt-made (k .before .args .line) _ _ _ _ (sym (k .is-change .ensures) ∙ not-false _ (e .if1 .left)) (s .switch-in .result) (s .switch-in .ensures) (s .before .if2 .left) _ _ (c .attempt-change .ensures)

@@ -12,11 +12,11 @@ use Rattle.batch.proofs.attempt_lines.Statement.{statement}
 use Rattle.batch.proofs.attempt_lines.Tie as tie
 
 abbrev Inv-loop : tie.InvT-loop
-Inv-loop alone only lines size targets₀ starts₀ words₀ room end at₀ position₀ targets starts words at position =
-    Walked (numbersIn alone only lines) size room (arraysOf targets₀ starts₀ words₀) at position (arraysOf targets starts words)
+Inv-loop alone only lines size targets₀ starts₀ words₀ indegree₀ room end at₀ position₀ targets starts words indegree at position =
+    Walked (numbersIn alone only lines) size room (arraysOf targets₀ starts₀ words₀ indegree₀) at position (arraysOf targets starts words indegree)
 
 abbrev μ-loop : tie.MeasureT-loop
-μ-loop alone only lines size targets₀ starts₀ words₀ room end at₀ position₀ targets starts words at position = end - at
+μ-loop alone only lines size targets₀ starts₀ words₀ indegree₀ room end at₀ position₀ targets starts words indegree at position = end - at
 
 lines-end-requires : tie.Need-lines-end-requires Inv-loop μ-loop
 lines-end-requires c κs = search needs
@@ -33,7 +33,7 @@ line-at-requires c κs =
     )
 
 attempt-line-requires : tie.Need-attempt-line-requires Inv-loop μ-loop
-attempt-line-requires c κs = c .before .before .before .before .before .loop .inv .tabled
+attempt-line-requires c κs = c .before .before .before .before .before .before .loop .inv .sized
 
 is-refused-requires : tie.Need-is-refused-requires Inv-loop μ-loop
 is-refused-requires c κs = search needs
@@ -44,7 +44,7 @@ ended-requires c κs = search needs
 returns : tie.Need-returns Inv-loop μ-loop
 returns c =
     let t = c .before .before .before in
-    let p = t .before .before .before .before in
+    let p = t .before .before .before .before .before in
     let k = p .before in
     walk-stopped _ _ _ _ _ _ _ (k .before .loop .inv) (line-at-requires k (p .line-at .lifetimes) .0) (p .line-at .result) (p .line-at .ensures) (t .attempt-line .result) _ (t .attempt-line .ensures)
     _ _ (c .ended .ensures) (sym (c .before .before .is-refused .ensures) ∙ c .before .if1 .taken)
@@ -61,7 +61,7 @@ loop-less c = omega arith
 loop-again : tie.Need-loop-again Inv-loop μ-loop
 loop-again c =
     let t = c .before .before in
-    let p = t .before .before .before .before in
+    let p = t .before .before .before .before .before in
     let k = p .before in
     walk-on _ _ _ _ _ _ _ (k .before .loop .inv) (line-at-requires k (p .line-at .lifetimes) .0) (p .line-at .result) (p .line-at .ensures) (t .attempt-line .result) _ (t .attempt-line .ensures)
     (sym (c .before .is-refused .ensures) ∙ c .if1 .left)

@@ -28,7 +28,7 @@ file-one-requires c κs = search needs
 
 returns-2 : tie.Need-returns-2
 returns-2 c =
-    let e = c .before .before .before .before in
+    let e = c .before .before .before .before .before in
     record {
       trial-is = sym (e .enum-told .given .1) ∙ e .before .before .change-trial .ensures;
       filed = λ z. c .file-one .ensures;
