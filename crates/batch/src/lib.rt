@@ -147,7 +147,15 @@ fn attempt_line(
     if CHANGES < position {
         return Trial::Refused(15);
     }
-    table::attempt_change(switch_in(line), size, targets, starts, words, indegree, room)
+    table::attempt_change(
+        switch_in(line),
+        size,
+        targets,
+        starts,
+        words,
+        indegree,
+        room,
+    )
 }
 
 fn is_refused(trial: Trial) -> bool
@@ -239,13 +247,33 @@ pub fn attempt_call(
         return ended(alone, ahead, 0);
     }
     if alone {
-        return attempt_lines(alone, only, lines, size, targets, starts, words, indegree, room);
+        return attempt_lines(
+            alone,
+            only,
+            lines,
+            size,
+            targets,
+            starts,
+            words,
+            indegree,
+            room,
+        );
     }
     let old_targets = *targets;
     let old_starts = *starts;
     let old_words = *words;
     let old_indegree = *indegree;
-    let r = attempt_lines(alone, only, lines, size, targets, starts, words, indegree, room);
+    let r = attempt_lines(
+        alone,
+        only,
+        lines,
+        size,
+        targets,
+        starts,
+        words,
+        indegree,
+        room,
+    );
     let trial = r.trial;
     if is_refused(trial) {
         *targets = old_targets;
