@@ -9,7 +9,7 @@ use lib.ListN.{length, getD}
 use borrow.Author.Tests.{le-leb, lt-leb}
 use Rattle.plain.specs.Table.{Table}
 use Rattle.plain.specs.Refusals.{Trial, accepted, refused, firstHeld, beyond}
-use Rattle.plain.specs.Questions.{Question as PlainQuestion, ways, outDegree, questionTrial, questionReply, replyTo}
+use Rattle.plain.specs.Questions.{Question as PlainQuestion, ways, outDegree, Reply as PlainReply, noReply, degrees, questionTrial, questionReply, replyTo, replyLine}
 use Rattle.plain.proofs.Tests.{either}
 use Rattle.plain.proofs.Degrees.{out-row}
 use Rattle.rows.specs.Rows.{degreeAt}
@@ -21,7 +21,7 @@ use Rattle.question.specs.declared.Topic.the-variants.{Ways}
 use Rattle.question.specs.declared.Question.{Question}
 use Rattle.question.specs.declared.Reply.{Reply}
 use Rattle.question.specs.declared.Reply.the-variants.{Refused, Degrees}
-use Rattle.question.specs.Replies.{topicOf, questionOf, replied, waysIn, replyAt, replyIn}
+use Rattle.question.specs.Replies.{topicOf, questionOf, replied, replyShown, waysIn, replyAt, replyIn}
 
 -- ---- any arrays
 
@@ -67,3 +67,9 @@ module _ (t : Table) (a : Arrays) (f : Stored t a) where
     where
       by-topic : (topic : Topic) (n : ℕ) → replyAt topic n (t .size) (a .rows .starts) (a .indegree) ≡ replied (replyTo (topicOf topic n) t)
       by-topic Ways n = ways-same n
+
+-- the line that tells a reply is the plain table's
+pub reply-shown : (r : PlainReply) → replyShown (replied r) ≡ replyLine r
+unfolding replyLine
+reply-shown (noReply n) = refl
+reply-shown (degrees s leaving entering) = refl

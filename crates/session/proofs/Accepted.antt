@@ -268,6 +268,7 @@ same-session s h = λ i. record {
   words = s .words;
   targets = s .targets;
   starts = s .starts;
+  indegree = s .indegree;
   number = s .number;
   parent = s .parent;
   index = s .index;

@@ -13,12 +13,11 @@ use Rattle.verdict.specs.Answers.{refusing}
 use Rattle.session.specs.declared.Resumption.{Resumption}
 use Rattle.session.specs.declared.Settled.{Settled}
 use Rattle.session.specs.declared.Verdict.{Verdict}
-use Rattle.table.specs.Trials.{Arrays}
+use Rattle.table.specs.Trials.{Arrays, Sized}
 use Rattle.batch.specs.Batches.{linesIn, TriedIn, callTriedIn, AttemptedCall}
 use Rattle.session.specs.Model.{Records, gameIn, resumptionOf, Settles, UpdatedIn}
-use Rattle.rows.specs.Rows.{Tabled}
 use Rattle.table.proofs.Trying.{tried-accepted, tried-refused}
-use Rattle.batch.proofs.Batches.{tried-tabled}
+use Rattle.batch.proofs.Batches.{tried-sized}
 
 same-number : {m n : ℕ} → refused m ≡ refused n → m ≡ n
 same-number e = cc
@@ -49,8 +48,7 @@ module _ (alone : Bool) (ns : List ℕ) (size start : ℕ) (old : Verdict) (b : 
     on-acceptance = λ z. (w .filed e, subst (λ (x : Resumption). Settles (gameIn b′) size start x old a lent r a′ lent′) g k);
   }
 
--- the rows of an accepted call keep their sizes
-pub accepted-tabled : (alone : Bool) (ns : List ℕ) (size room : ℕ) (b : Arrays) (x : Attempt) (b′ : Arrays) → AttemptedCall alone (callTriedIn alone (linesIn ns) size b room) b x b′
-    → x .trial ≡ Accepted → Tabled (b .rows .targets) (b .rows .starts) → Tabled (b′ .rows .targets) (b′ .rows .starts)
-accepted-tabled alone ns size room b x b′ w e l =
-    subst⁻¹ (λ (y : Arrays). Tabled (y .rows .targets) (y .rows .starts)) (w .filed e) (tried-tabled alone (linesIn ns) size b room l)
+-- the arrays of an accepted call keep their sizes
+pub accepted-sized : (alone : Bool) (ns : List ℕ) (size room : ℕ) (b : Arrays) (x : Attempt) (b′ : Arrays) → AttemptedCall alone (callTriedIn alone (linesIn ns) size b room) b x b′
+    → x .trial ≡ Accepted → Sized b → Sized b′
+accepted-sized alone ns size room b x b′ w e l = subst⁻¹ Sized (w .filed e) (tried-sized alone (linesIn ns) size b room l)

@@ -1,4 +1,4 @@
--- DEMAND 3: for every list of calls, of any length, accepted and refused in any order, from an accepted load on; and with it demand 2 of every answer.
+-- DEMAND 3: for every list of calls and questions, of any length, accepted and refused in any order, from an accepted load on; and with it demand 2 of every answer.
 -- Assumes nothing.
 use mathlib.Core.Path.{_≡_, refl, sym, ap, subst, subst⁻¹, _∙_}
 use Prim.Native.Nat.{ℕ}
@@ -7,14 +7,19 @@ use lib.ListN.{length}
 use Rattle.plain.specs.Table.{Table}
 use Rattle.plain.specs.Refusals.{Trial, Load, accepted, refused, loadTrial}
 use Rattle.plain.specs.Machine.{Change, BatchLine, makes, changesIn, Update, single, batch, Call, callFor, trialOf, Answer as PlainAnswer, tableOf, loadAnswer, answerTo, tableAfter, answers, Line, answerLine, answerLines}
-use Rattle.plain.proofs.Answers.{load-told, call-told}
+use Rattle.plain.specs.Claims.{LineTrue}
+use Rattle.plain.specs.Questions.{Question, replyTo, tableNext, told, toldAll}
+use Rattle.plain.proofs.Answers.{load-told, call-told, reply-told}
 use Rattle.plain.proofs.Calls.{answer-refused}
 use Rattle.plain.proofs.OneByOne.{one-by-one, as-one}
 use Rattle.plain.proofs.Loops.{loop-told}
 use Rattle.verdict.specs.declared.Answer.{Answer}
+use Rattle.question.specs.declared.Reply.{Reply}
+use Rattle.question.specs.Replies.{replyShown}
+use Rattle.question.proofs.Replies.{reply-shown}
 use Rattle.session.specs.declared.Session.{Session}
 use Rattle.session.specs.declared.Outcome.{Outcome}
-use Rattle.session.specs.Promises.{callOf, callIn, lineIn, Holds, Loads, Updates, Exchange, Served, done, call, CallRight, EachCall, AllRight, Demand3, LoopsTold, SameCall, SameEnd}
+use Rattle.session.specs.Promises.{callOf, callIn, lineIn, Holds, Loads, Updates, Replies, Exchange, Event, made, posed, operationIn, lineOf, Served, done, call, ask, CallRight, QuestionRight, Right, EachEvent, AllRight, Demand3, LoopsTold, SameCall, SameEnd}
 use Rattle.verdict.proofs.Told.{shown-refused, told-refused, answered-once}
 use Rattle.verdict.specs.Answers.{shown, NoRefusal, Answered}
 
@@ -25,20 +30,43 @@ call-right x s t r h c e =
     let w = call-told (callIn x) t (lineIn x) (h .arises) (a .line) in
     record { answers = a; counts = w .counts; truth = w .truth }
 
--- every call of a list, from a session that holds a table
-pub all-right : (s : Session) (t : Table) (xs : List Exchange) → Holds s t → Served s xs → AllRight xs t
+-- one question, by its contract alone
+question-right : (q : Question) (s : Session) (t : Table) (r : Reply) → Holds s t → Replies q s r → QuestionRight q r t
+question-right q s t r h c =
+    let e = c .replies t h in
+    record { replies = e; truth = subst⁻¹ (λ (y : Reply). LineTrue (replyShown y) t) e (subst⁻¹ (λ (l : Line). LineTrue l t) (reply-shown (replyTo q t)) (reply-told q t)) }
+
+-- every call and question of a list, from a session that holds a table
+pub all-right : (s : Session) (t : Table) (xs : List Event) → Holds s t → Served s xs → AllRight xs t
+unfolding tableNext
 all-right s t xs h done = tt
 all-right s t xs h (call u lent r lent′ ys c rest) =
     let x : Exchange = record { asked = u; lent = lent; answered = r .answer; after = lent′ } in
     (call-right x s t r h c refl, all-right (r .session) (tableAfter (callIn x) t) ys (c .holds t h) rest)
+all-right s t xs h (ask q r ys c rest) = (question-right q s t r h c, all-right s t ys h rest)
 
--- so the answers, one behind the other, are the plain table's
-same-lines : (xs : List Exchange) (t : Table) → AllRight xs t → map lineIn xs ≡ answerLines (answers (map callIn xs) t)
-unfolding answers answerLines
+-- so what is told, one behind the other, is the plain table's
+told-right : (x : Event) (t : Table) → Right x t → told (operationIn x) t ≡ lineOf x ∷ []
+unfolding told
+told-right (made x) t a = a .answers .line
+told-right (posed q r) t a = ap (λ (l : Line). l ∷ []) (sym (reply-shown (replyTo q t)) ∙ ap replyShown (sym (a .replies)))
+
+same-lines : (xs : List Event) (t : Table) → AllRight xs t → map lineOf xs ≡ toldAll (map operationIn xs) t
+unfolding toldAll
 same-lines [] t a = refl
 same-lines (x ∷ xs) t a =
-    ap (λ (ls : List Line). lineIn x ∷ ls) (same-lines xs (tableAfter (callIn x) t) (a .1))
-    ∙ ap (λ (ls : List Line). ls ++ answerLines (answers (map callIn xs) (tableAfter (callIn x) t))) (sym (a .0 .answers .line))
+    let t′ = tableNext (operationIn x) t in
+    ap (λ (ls : List Line). lineOf x ∷ ls) (same-lines xs t′ (a .1)) ∙ ap (λ (ls : List Line). ls ++ toldAll (map operationIn xs) t′) (sym (told-right x t (a .0)))
+
+-- of calls alone
+calls-told : (xs : List Exchange) (t : Table) → toldAll (map operationIn (map made xs)) t ≡ answerLines (answers (map callIn xs) t)
+unfolding toldAll told tableNext answers answerLines
+calls-told [] t = refl
+calls-told (x ∷ xs) t = ap (λ (ls : List Line). answerLine (answerTo (callIn x) t) ++ ls) (calls-told xs (tableAfter (callIn x) t))
+
+calls-lines : (xs : List Exchange) → map lineOf (map made xs) ≡ map lineIn xs
+calls-lines [] = refl
+calls-lines (x ∷ xs) = ap (λ (ls : List Line). lineIn x ∷ ls) (calls-lines xs)
 
 -- an answer that is no refusal is that of an accepted load
 pub load-accepted : (l : Load) (lent : List ℕ) (r : Outcome) (lent′ : List ℕ) → Loads l lent r lent′ → NoRefusal (r .answer) → loadTrial l (length lent) ≡ accepted
@@ -51,31 +79,36 @@ load-accepted l lent r lent′ a y = by-trial (loadTrial l (length lent)) (r .an
 
 -- DEMAND 3
 pub demand-3 : (l : Load) (lent : List ℕ) (r : Outcome) (lent′ : List ℕ) → Loads l lent r lent′ → NoRefusal (r .answer)
-    → (xs : List Exchange) → Served (r .session) xs → Demand3 l lent r lent′ xs
+    → (xs : List Event) → Served (r .session) xs → Demand3 l lent r lent′ xs
 demand-3 l lent r lent′ a y xs w =
     let e = load-accepted l lent r lent′ a y in
     let told : Answered (loadAnswer accepted (tableOf l)) lent (r .answer) lent′ = subst (λ (x : Trial). Answered (loadAnswer x (tableOf l)) lent (r .answer) lent′) e (a .answers) in
-    let calls = all-right (r .session) (tableOf l) xs (a .holds e) w in
+    let right = all-right (r .session) (tableOf l) xs (a .holds e) w in
     record {
       load-answers = told;
       load-truth = load-told l (length lent) (shown (r .answer) lent′) e (told .line);
-      same-answers = same-lines xs (tableOf l) calls;
-      calls = calls;
+      same-told = same-lines xs (tableOf l) right;
+      all-right = right;
     }
 
--- what follows for one call follows for each
-each-call : (P Q : Exchange → Table → Type 0) → ((x : Exchange) (t : Table) → P x t → Q x t) → (xs : List Exchange) (t : Table) → EachCall P xs t → EachCall Q xs t
-each-call P Q f [] t h = tt
-each-call P Q f (x ∷ xs) t h = (f x t (h .0), each-call P Q f xs (tableAfter (callIn x) t) (h .1))
+-- what follows for one follows for each
+each-event : (P Q : Event → Table → Type 0) → ((x : Event) (t : Table) → P x t → Q x t) → (xs : List Event) (t : Table) → EachEvent P xs t → EachEvent Q xs t
+each-event P Q f [] t h = tt
+each-event P Q f (x ∷ xs) t h = (f x t (h .0), each-event P Q f xs (tableNext (operationIn x) t) (h .1))
+
+right-true : (x : Event) (t : Table) → Right x t → LineTrue (lineOf x) (tableNext (operationIn x) t)
+unfolding tableNext
+right-true (made x) t a = a .truth
+right-true (posed q r) t a = a .truth
 
 -- Ticket 1: it follows from what is told being true
 pub loops-told : (l : Load) (lent : List ℕ) (r : Outcome) (lent′ : List ℕ) → Loads l lent r lent′ → NoRefusal (r .answer)
-    → (xs : List Exchange) → Served (r .session) xs → LoopsTold l r lent′ xs
+    → (xs : List Event) → Served (r .session) xs → LoopsTold l r lent′ xs
 loops-told l lent r lent′ a y xs w =
     let d = demand-3 l lent r lent′ a y xs w in
     record {
       load = loop-told (shown (r .answer) lent′) (tableOf l) (d .load-truth);
-      calls = each-call CallRight _ (λ x t c. loop-told (lineIn x) (tableAfter (callIn x) t) (c .truth)) xs (tableOf l) (d .calls);
+      calls = each-event Right _ (λ x t c. loop-told (lineOf x) (tableNext (operationIn x) t) (right-true x t c)) xs (tableOf l) (d .all-right);
     }
 
 -- ---- ticket 5
@@ -111,10 +144,10 @@ batch-of-one c s t h lent r r₂ lent′ lent₂ w v y =
 
 -- an accepted batch and its changes one by one
 pub batch-one-by-one : (xs : List BatchLine) (s : Session) (t : Table) → Holds s t → (lent : List ℕ) (r : Outcome) (lent′ : List ℕ) → Updates (batch xs) s lent r lent′ → NoRefusal (r .answer)
-    → (ys : List Exchange) → Served s ys → map callIn ys ≡ map (callFor (length lent)) (changesIn xs) → SameEnd xs lent t r lent′ ys
+    → (ys : List Exchange) → Served s (map made ys) → map callIn ys ≡ map (callFor (length lent)) (changesIn xs) → SameEnd xs lent t r lent′ ys
 batch-one-by-one xs s t h lent r lent′ w y ys v e = record {
   plain = one-by-one xs t (length lent) (h .arises) (call-accepted (batch xs) s t lent r lent′ h w y);
   batch-tells = w .answers t h .line;
   batch-holds = w .holds t h;
-  changes-tell = same-lines ys t (all-right s t ys h v) ∙ ap (λ (cs : List Call). answerLines (answers cs t)) e;
+  changes-tell = sym (calls-lines ys) ∙ same-lines (map made ys) t (all-right s t (map made ys) h v) ∙ calls-told ys t ∙ ap (λ (cs : List Call). answerLines (answers cs t)) e;
 }

@@ -1,5 +1,5 @@
 -- A load: the session of an accepted one holds its table, and the answer and the walk are the plain table's. Assumes nothing.
-use mathlib.Core.Path.{_≡_, refl, sym, ap, subst, _∙_}
+use mathlib.Core.Path.{_≡_, refl, sym, ap, subst, subst⁻¹, _∙_}
 use mathlib.Core.List.{List}
 use Prim.Native.Nat.{ℕ, zero, _+_}
 use native.Mathlib.Omega.{arith}
@@ -25,10 +25,11 @@ use Rattle.session.specs.declared.Settled.{Settled}
 use Rattle.session.specs.declared.Resumption.{Resumption}
 use Rattle.session.specs.declared.Resumption.the-variants.{At}
 use Rattle.table.specs.Trials.{Arrays, tried}
-use Rattle.table.specs.Filing.{Filed, Stored}
+use Rattle.table.specs.Filing.{Filed, Counted, Stored, countedAll}
 use Rattle.session.specs.Model.{Records, recordsOf, gameIn, recordsIn, backAt, verdictOf, noVerdict, sessionOf, noGame, Settles}
 use Rattle.session.specs.Promises.{Holds, Loads}
 use Rattle.table.proofs.Trying.{tried-refused}
+use Rattle.table.proofs.Counting.{counted-load}
 use Rattle.verdict.proofs.Told.{told}
 use Rattle.verdict.proofs.Loads.{room-enough, load-refused as refused-answer, load-accepted as accepted-answer}
 use Rattle.verdict.specs.Answers.{refusing, WalkOf, Answered}
@@ -66,9 +67,10 @@ settles-fresh {g = g} {size = size} {start = start} {from = from} {walk = walk} 
     subst (λ (x : Verdict × Records). Settles g size start from (x .0) (x .1) lent r a lent′)
     (λ i. (e i, recordsOf (f .number-is i) (f .parent-is i) (f .index-is i) (f .probes-is i) (f .stamp-is i) walk)) w
 
-module _ (l : Load) (lent lent′ : List ℕ) (rows : Rows) (a : Records) (r : Settled) (blank-walk : List ℕ)
-    (yes-it-is : loadTrial l (length lent) ≡ accepted) (filed : Filed (l .size) (pairs (l .numbers)) rows) (blank-size : length blank-walk ≡ 512)
-    (settles : Settles (gameIn (record { rows = rows; words = l .words })) (l .size) (l .start) (At (l .start)) noVerdict (freshFrom (l .start) blank-walk) lent r a lent′) where
+module _ (l : Load) (lent lent′ : List ℕ) (rows : Rows) (indegree : List ℕ) (a : Records) (r : Settled) (blank-walk : List ℕ)
+    (yes-it-is : loadTrial l (length lent) ≡ accepted) (filed : Filed (l .size) (pairs (l .numbers)) rows)
+    (counts : indegree ≡ countedAll (pairs (l .numbers)) (replicate 512 0)) (blank-size : length blank-walk ≡ 512)
+    (settles : Settles (gameIn (record { rows = rows; words = l .words; indegree = indegree })) (l .size) (l .start) (At (l .start)) noVerdict (freshFrom (l .start) blank-walk) lent r a lent′) where
   abbrev t : Table
   t = tableOf l
 
@@ -82,11 +84,15 @@ module _ (l : Load) (lent lent′ : List ℕ) (rows : Rows) (a : Records) (r : S
   ok = valid t arises
 
   abbrev b : Arrays
-  b = record { rows = rows; words = l .words }
+  b = record { rows = rows; words = l .words; indegree = indegree }
 
   stored : Stored t b
   unfolding tableOf
-  stored = record { filed = filed; words-are = refl }
+  stored = record {
+    filed = filed;
+    words-are = refl;
+    counted = subst⁻¹ (Counted (pairs (l .numbers))) counts (counted-load (l .size) (pairs (l .numbers)) (filed .compressed .states) (ok .inside) (omega (arith, filed .compressed .within, filed .count-is)));
+  }
 
   -- what the search has come to
   begun : (c : Result) × Reached t 0 c × (v ≡ verdictOf (c .walker) (c .spent)) × (a ≡ recordsIn c)

@@ -50,6 +50,7 @@ sessionOf size start b a v total = record {
   words = b .words;
   targets = b .rows .targets;
   starts = b .rows .starts;
+  indegree = b .indegree;
   number = a .number;
   parent = a .parent;
   index = a .index;
@@ -64,7 +65,7 @@ sessionOf size start b a v total = record {
 
 -- the arrays of the table that a session holds
 abbrev pub arraysHeld : Session → Arrays
-arraysHeld s = arraysOf (s .targets) (s .starts) (s .words)
+arraysHeld s = arraysOf (s .targets) (s .starts) (s .words) (s .indegree)
 
 -- the game that is searched
 abbrev pub gameIn : Arrays → Game
@@ -78,6 +79,7 @@ noGame = record {
   words = replicate 8 0;
   targets = replicate 2048 0;
   starts = replicate 513 0;
+  indegree = replicate 512 0;
   number = replicate 512 0;
   parent = replicate 512 0;
   index = replicate 512 0;

@@ -1,5 +1,5 @@
--- What load and the calls behind it promise, in terms of the plain table. Assumes nothing.
-use Prim.Native.Nat.{ℕ, suc}
+-- What load, the calls behind it and questions promise, in terms of the plain table. Assumes nothing.
+use Prim.Native.Nat.{ℕ, suc, _≤_}
 use mathlib.Core.Path.{_≡_}
 use mathlib.Core.Logic.{_≢_}
 use mathlib.Core.List.{List, [], _∷_, map}
@@ -8,10 +8,14 @@ use Rattle.plain.specs.Search.{Config, outer, nested, exhausted, found, unfinis
 use Rattle.plain.specs.Table.{Table, searched, final}
 use Rattle.plain.specs.Refusals.{Load, accepted, refused, loadTrial}
 use Rattle.plain.specs.Machine.{BatchLine, changesIn, callFor, batchCall, Update as PlainUpdate, single, batch, loadAnswer, tableOf, Call, answerTo, tableAfter, answers, Line, answerLine, answerLines}
+use Rattle.plain.specs.Questions.{Question, ways, replyTo, Operation, call as calling, question, tableNext, toldAll}
 use Rattle.plain.specs.Claims.{Arises, OneByOne, LineTrue, LineCounted, LoopTold}
 use Rattle.search.specs.Archive.{Archived}
 use Rattle.verdict.specs.declared.Answer.{Answer}
 use Rattle.verdict.specs.declared.Answer.the-variants.{Refused}
+use Rattle.question.specs.declared.Reply.{Reply}
+use Rattle.question.specs.declared.Reply.the-variants as Reply
+use Rattle.question.specs.Replies.{replied, replyShown}
 use Rattle.verdict.specs.Answers.{shown, WalkOf, Answered, LoadAnswered}
 use Rattle.table.specs.declared.Refusal.{Refusal}
 use Rattle.table.specs.declared.Position.{Position}
@@ -46,7 +50,7 @@ heightOf (nested s p q d k l) = suc (length p)
 heightOf (exhausted d k l) = 0
 heightOf (found h p q d k l) = length p
 
--- The session holds the plain table t: its rows and its words are the table's, and its records are those of the plain search on it, at its end.
+-- The session holds the plain table t: its rows, its words and its counts are the table's, and its records are those of the plain search on it, at its end.
 pub record Holds (s : Session) (t : Table) : Type 0 where
   pub arises : Arises t
   pub size-is : s .size ≡ t .size
@@ -75,7 +79,14 @@ pub record Updates (u : PlainUpdate) (s : Session) (lent : List ℕ) (r : Outcom
   pub refused : (n : Refusal) → r .answer ≡ Refused n → (r .session ≡ s) × (lent′ ≡ lent)
   pub no-game : s .size ≡ 0 → r .answer ≡ Refused (withoutGame u)
 
--- ---- a list of calls
+-- A QUESTION. For every plain table that the session holds, the reply is the plain table's. For every session, forged too: a state that is not below its count of states is
+-- refused with 6, so every state where there is no game. The counts replied of any other state of a forged session are left open. The operation takes the session and the question
+-- and gives back the reply alone: it lends no list, and the session is as it was.
+pub record Replies (q : Question) (s : Session) (r : Reply) : Type 0 where
+  pub replies : (t : Table) → Holds s t → r ≡ replied (replyTo q t)
+  pub outside : (state : ℕ) → q ≡ ways state → s .size ≤ state → r ≡ Reply.Refused 6
+
+-- ---- a list of calls and questions
 
 -- one call as it was made: what it was given, what it answered, and what the lent list then held
 pub record Exchange : Type 0 where
@@ -91,12 +102,27 @@ callIn x = callOf (x .asked) (x .lent)
 abbrev pub lineIn : Exchange → Line
 lineIn x = shown (x .answered) (x .after)
 
--- calls on a session, single changes and batches in any order, each given the session that the call before it returned; each is known by its contract alone
-pub data Served : Session → List Exchange → Type 0 where
+-- what was asked of a session, and what came of it: a call, or a question
+pub data Event : Type 0 where
+  made : Exchange → Event
+  posed : Question → Reply → Event
+
+-- the operation on the plain table, and the line by which its answer or its reply is told
+abbrev pub operationIn : Event → Operation
+operationIn (made x) = calling (callIn x)
+operationIn (posed q r) = question q
+
+abbrev pub lineOf : Event → Line
+lineOf (made x) = lineIn x
+lineOf (posed q r) = replyShown r
+
+-- calls on a session and questions, in any order: each call is given the session that the call before it returned, and so is a question. Each is known by its contract alone.
+pub data Served : Session → List Event → Type 0 where
   done : {s : Session} → Served s []
-  call : {s : Session} (u : PlainUpdate) (lent : List ℕ) (r : Outcome) (lent′ : List ℕ) (xs : List Exchange)
+  call : {s : Session} (u : PlainUpdate) (lent : List ℕ) (r : Outcome) (lent′ : List ℕ) (xs : List Event)
       → Updates u s lent r lent′ → Served (r .session) xs
-      → Served s (record { asked = u; lent = lent; answered = r .answer; after = lent′ } ∷ xs)
+      → Served s (made (record { asked = u; lent = lent; answered = r .answer; after = lent′ }) ∷ xs)
+  ask : {s : Session} (q : Question) (r : Reply) (xs : List Event) → Replies q s r → Served s xs → Served s (posed q r ∷ xs)
 
 -- ---- demand 3
 
@@ -107,27 +133,36 @@ pub record CallRight (x : Exchange) (t : Table) : Type 0 where
   pub counts : LineCounted (lineIn x) (x .asked) t
   pub truth : LineTrue (lineIn x) (tableAfter (callIn x) t)
 
--- something of each call, on the table that those before it leave
-abbrev pub EachCall : (Exchange → Table → Type 0) → List Exchange → Table → Type 0
-EachCall P [] t = Unit {0}
-EachCall P (x ∷ xs) t = P x t × EachCall P xs (tableAfter (callIn x) t)
+-- One question on a session that holds t: it is replied as the plain table replies, and what is told is true of it (document 02, ticket 8).
+pub record QuestionRight (q : Question) (r : Reply) (t : Table) : Type 0 where
+  pub replies : r ≡ replied (replyTo q t)
+  pub truth : LineTrue (replyShown r) t
 
-abbrev pub AllRight : List Exchange → Table → Type 0
-AllRight = EachCall CallRight
+abbrev pub Right : Event → Table → Type 0
+Right (made x) t = CallRight x t
+Right (posed q r) t = QuestionRight q r t
 
--- DEMAND 3, "a single claim about the whole list": of a load that was accepted, and of every list of calls from its session on.
-pub record Demand3 (l : Load) (lent : List ℕ) (r : Outcome) (lent′ : List ℕ) (xs : List Exchange) : Type 0 where
+-- something of each call and question, on the table that those before it leave
+abbrev pub EachEvent : (Event → Table → Type 0) → List Event → Table → Type 0
+EachEvent P [] t = Unit {0}
+EachEvent P (x ∷ xs) t = P x t × EachEvent P xs (tableNext (operationIn x) t)
+
+abbrev pub AllRight : List Event → Table → Type 0
+AllRight = EachEvent Right
+
+-- DEMAND 3, "a single claim about the whole list": of a load that was accepted, and of every list of calls from its session on, with questions between them.
+pub record Demand3 (l : Load) (lent : List ℕ) (r : Outcome) (lent′ : List ℕ) (xs : List Event) : Type 0 where
   pub load-answers : Answered (loadAnswer accepted (tableOf l)) lent (r .answer) lent′
   pub load-truth : LineTrue (shown (r .answer) lent′) (tableOf l)
-  -- the answers, one behind the other, are those of the plain table run on the same calls
-  pub same-answers : map lineIn xs ≡ answerLines (answers (map callIn xs) (tableOf l))
-  pub calls : AllRight xs (tableOf l)
+  -- what is told, one behind the other, is what the plain table tells of the same calls and questions
+  pub same-told : map lineOf xs ≡ toldAll (map operationIn xs) (tableOf l)
+  pub all-right : AllRight xs (tableOf l)
 
 -- Document 02, ticket 1, of the same load and calls: where the table that is then present has a paying state with a move to itself, and it can be reached, no
 -- answer is "none".
-pub record LoopsTold (l : Load) (r : Outcome) (lent′ : List ℕ) (xs : List Exchange) : Type 0 where
+pub record LoopsTold (l : Load) (r : Outcome) (lent′ : List ℕ) (xs : List Event) : Type 0 where
   pub load : LoopTold (shown (r .answer) lent′) (tableOf l)
-  pub calls : EachCall (λ x t. LoopTold (lineIn x) (tableAfter (callIn x) t)) xs (tableOf l)
+  pub calls : EachEvent (λ x t. LoopTold (lineOf x) (tableNext (operationIn x) t)) xs (tableOf l)
 
 -- ---- document 02, ticket 5, on the contracts
 

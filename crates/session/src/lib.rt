@@ -1,6 +1,8 @@
 // One session: the game's table and the records of its search. It is made by a load and by nothing else.
 use batch::BatchLine;
 use batch::Update;
+use question::Question;
+use question::Reply;
 use rows::wide;
 use table::Position;
 use table::Refusal;
@@ -16,9 +18,10 @@ ghost use Rattle.rows.specs.Change.{rowsOf};
 ghost use Rattle.look.specs.Numbers.{plus};
 ghost use Rattle.search.specs.Core.{gameOf, Lengths};
 ghost use Rattle.table.specs.Trials.{arraysOf};
+ghost use Rattle.question.specs.Replies.{questionOf};
 ghost use Rattle.batch.specs.Batches.{lineIn, linesIn, statesIn, numbersIn};
 ghost use Rattle.session.specs.Model.{unexploredEdge, passedOverIn, allPassedOver, namedMost, earliestOf, resumptionOf, isFound, verdictOf, noVerdict, recordsOf, Sought, isAlone, onlyLine, noGame, Settles, UpdatedIn};
-ghost use Rattle.session.specs.Promises.{updateOf, Loads, Updates};
+ghost use Rattle.session.specs.Promises.{updateOf, Loads, Updates, Replies};
 
 // What a search has come to: the lengths of stem and walk (0: no walk), the height of the open path, and the probes.
 struct Verdict {
@@ -41,28 +44,31 @@ enum Resumption {
     At(u16),
 }
 
-// The numbers stand between the arrays: so the compiler takes the struct apart, which saves a copy of it and 5,000 bytes of stack.
+// stem and length are those of the last walk (0: none), height that of the open path at the search's end, total counts its probes.
+// The numbers stand between the arrays, and the longest array last: so the compiler takes the struct apart, which saves copies and stack (docs/DECISIONS.md, 106).
 pub struct Session {
     words: [u64; 8],
     size: u16,
-    // the moves as compressed rows
-    targets: [u16; 2048],
-    start: u16,
+    // where the row of each state starts
     starts: [u16; 513],
-    // the lengths of the last walk's stem and of the walk (0: none), the height of the open path at the search's end, and its probes
+    start: u16,
+    // by state: how many moves enter it
+    indegree: [u16; 512],
     stem: u16,
-    length: u16,
     // by state: discovery number, parent, index of the edge in the parent's row, probes by then
     number: [u16; 512],
     parent: [u16; 512],
-    height: u16,
-    total: u16,
+    length: u16,
     index: [u16; 512],
     probes: [u16; 512],
+    height: u16,
     // by state: how many states were discovered when it was marked
     stamp: [u16; 512],
+    total: u16,
     // the open path at the search's end, and behind it the rest of the walk
     walk: [u16; 512],
+    // the moves as compressed rows
+    targets: [u16; 2048],
 }
 
 pub struct Outcome {
@@ -324,6 +330,7 @@ fn no_game() -> Session
         words: [0; 8],
         targets: [0; 2048],
         starts: [0; 513],
+        indegree: [0; 512],
         number: [0; 512],
         parent: [0; 512],
         index: [0; 512],
@@ -419,6 +426,8 @@ pub fn load(size: u16, start: u16, words: [u64; 8], numbers: &[u16], lent: &mut 
             session: no_game(),
         };
     }
+    let mut indegree: [u16; 512] = [0; 512];
+    table::count_edges(numbers, &mut indegree);
     let mut number: [u16; 512] = [0; 512];
     let mut parent: [u16; 512] = [0; 512];
     let mut index: [u16; 512] = [0; 512];
@@ -459,6 +468,7 @@ pub fn load(size: u16, start: u16, words: [u64; 8], numbers: &[u16], lent: &mut 
             words,
             targets,
             starts,
+            indegree,
             number,
             parent,
             index,
@@ -481,6 +491,7 @@ fn update_in(
     targets: &mut [u16; 2048],
     starts: &mut [u16; 513],
     words: &mut [u64; 8],
+    indegree: &mut [u16; 512],
     number: &mut [u16; 512],
     parent: &mut [u16; 512],
     index: &mut [u16; 512],
@@ -492,8 +503,8 @@ fn update_in(
     old: Verdict,
     lent: &mut [u16],
 ) -> Settled
-    requires { ⌜ Tabled (now targets) (now starts) × Lengths (now number) (now parent) (now index) (now probes) (now stamp) (now walk) ⌝ }
-    ensures { λ r. ⌜ UpdatedIn alone (numbersIn alone only (now (lines .entry))) size start old (arraysOf (now (targets .entry)) (now (starts .entry)) (now (words .entry))) (recordsOf (now (number .entry)) (now (parent .entry)) (now (index .entry)) (now (probes .entry)) (now (stamp .entry)) (now (walk .entry))) (now (lent .entry)) r (arraysOf (now (targets .exit)) (now (starts .exit)) (now (words .exit))) (recordsOf (now (number .exit)) (now (parent .exit)) (now (index .exit)) (now (probes .exit)) (now (stamp .exit)) (now (walk .exit))) (now (lent .exit)) ⌝ }
+    requires { ⌜ Tabled (now targets) (now starts) × (length (now indegree) ≡ 512) × Lengths (now number) (now parent) (now index) (now probes) (now stamp) (now walk) ⌝ }
+    ensures { λ r. ⌜ UpdatedIn alone (numbersIn alone only (now (lines .entry))) size start old (arraysOf (now (targets .entry)) (now (starts .entry)) (now (words .entry)) (now (indegree .entry))) (recordsOf (now (number .entry)) (now (parent .entry)) (now (index .entry)) (now (probes .entry)) (now (stamp .entry)) (now (walk .entry))) (now (lent .entry)) r (arraysOf (now (targets .exit)) (now (starts .exit)) (now (words .exit)) (now (indegree .exit))) (recordsOf (now (number .exit)) (now (parent .exit)) (now (index .exit)) (now (probes .exit)) (now (stamp .exit)) (now (walk .exit))) (now (lent .exit)) ⌝ }
 {
     let from = where_to_resume(
         alone,
@@ -506,7 +517,17 @@ fn update_in(
         walk,
         old.height,
     );
-    let attempt = batch::attempt_call(alone, only, lines, size, targets, starts, words, lent.len());
+    let attempt = batch::attempt_call(
+        alone,
+        only,
+        lines,
+        size,
+        targets,
+        starts,
+        words,
+        indegree,
+        lent.len(),
+    );
     let trial = attempt.trial;
     if let Trial::Refused(n) = trial {
         let position = attempt.position;
@@ -567,6 +588,7 @@ pub fn update(s: Session, asked: Update, lines: &[u16], lent: &mut [u16]) -> Out
     let mut words = s.words;
     let mut targets = s.targets;
     let mut starts = s.starts;
+    let mut indegree = s.indegree;
     let mut number = s.number;
     let mut parent = s.parent;
     let mut index = s.index;
@@ -587,6 +609,7 @@ pub fn update(s: Session, asked: Update, lines: &[u16], lent: &mut [u16]) -> Out
         &mut targets,
         &mut starts,
         &mut words,
+        &mut indegree,
         &mut number,
         &mut parent,
         &mut index,
@@ -608,6 +631,7 @@ pub fn update(s: Session, asked: Update, lines: &[u16], lent: &mut [u16]) -> Out
             words,
             targets,
             starts,
+            indegree,
             number,
             parent,
             index,
@@ -620,4 +644,13 @@ pub fn update(s: Session, asked: Update, lines: &[u16], lent: &mut [u16]) -> Out
             total: total_of(v),
         },
     }
+}
+
+// A question on a session. It changes nothing and lends no list. The two arrays are taken out of the session, so that the rest of it is not copied.
+pub fn ask(s: Session, question: Question) -> Reply
+    ensures { λ r. ⌜ Replies (questionOf question) s r ⌝ }
+{
+    let starts = s.starts;
+    let indegree = s.indegree;
+    question::reply_to(question, s.size, &starts, &indegree)
 }

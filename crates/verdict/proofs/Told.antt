@@ -9,7 +9,7 @@ use lib.ListN.{length, take, drop, length-append}
 use lib.Seq.{take-at, take-append-seam}
 use borrow.Author.Tests.{eq-eqb, ne-eqb}
 use Rattle.plain.specs.Search.{Verdict, none, lasso, unfinished}
-use Rattle.plain.specs.Machine.{alone, Refusal as PlainRefusal, Answer as PlainAnswer, answer, numbered, written, Line, gameLine, roundLine, noneLine, noLine, answerLine}
+use Rattle.plain.specs.Machine.{alone, Refusal as PlainRefusal, Answer as PlainAnswer, answer, numbered, written, Line, gameLine, roundLine, noneLine, noLine, waysLine, answerLine}
 use Rattle.plain.proofs.Answers.{first-line}
 use Rattle.table.specs.declared.Refusal.{Refusal}
 use Rattle.table.specs.declared.Position.{Position}
@@ -86,6 +86,7 @@ told-refusal (gameLine size moves paying) = numbered 0
 told-refusal (roundLine spent kept stem cycle walk) = numbered 0
 told-refusal (noneLine spent kept) = numbered 0
 told-refusal (noLine r) = r
+told-refusal (waysLine s leaving entering) = numbered 0
 
 position-alone : (p : Position) → positionOf p ≡ alone → p ≡ Position.Alone
 position-alone Position.Alone e = refl

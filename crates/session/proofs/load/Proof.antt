@@ -34,6 +34,9 @@ returns c =
 enum-told : tie.Need-enum-told
 enum-told c = search needs
 
+count-edges-requires : tie.Need-count-edges-requires
+count-edges-requires c κs = search needs
+
 begin-requires : tie.Need-begin-requires
 begin-requires c κs = search needs
 
@@ -44,8 +47,11 @@ no-verdict-requires c κs = search needs
 abbrev fresh : tie.After-settle-arg → tie.After-begin
 fresh c = c .before .before .before .before .before .before .before .before .before .before .before
 
+abbrev counted : tie.After-settle-arg → tie.After-count-edges
+counted c = fresh c .before .before .before .before .before .before
+
 abbrev tried-at : tie.After-settle-arg → tie.After-enum-told
-tried-at c = fresh c .before .before .before .before .before .before
+tried-at c = counted c .before .before
 
 abbrev begun : tie.After-settle-arg → tie.Start
 begun c = tried-at c .before .before .before .before .before .before .before .before
@@ -67,8 +73,8 @@ returns-2 c =
     let n = e .before .before .load-trial in
     let a = begun g .args in
     let l : Load = record { size = a .size; start = a .start; words = a .t3; numbers = now (a .numbers) } in
-    load-accepted l (now (a .lent)) _ _ _ (w .settle .result) (replicate 512 zero)
-    (tried-accepted (loadTrial l (length (now (a .lent)))) (sym (n .ensures .trial-is) ∙ e .enum-told .given .1)) (n .ensures .filed (e .enum-told .given .1)) (length-replicate 512 zero)
+    load-accepted l (now (a .lent)) _ _ _ _ (w .settle .result) (replicate 512 zero)
+    (tried-accepted (loadTrial l (length (now (a .lent)))) (sym (n .ensures .trial-is) ∙ e .enum-told .given .1)) (n .ensures .filed (e .enum-told .given .1)) (counted g .count-edges .ensures) (length-replicate 512 zero)
     (settles-fresh (fresh g .begin .ensures) (g .before .no-verdict .ensures) (w .settle .ensures)) (c .total-of .result) (c .total-of .ensures)
 
 pub load-spec : {M : Type 1} → statement M
@@ -81,6 +87,7 @@ load-spec =
     no-game-requires
     returns
     enum-told
+    count-edges-requires
     begin-requires
     no-verdict-requires
     settle-requires

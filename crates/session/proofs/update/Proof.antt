@@ -1,6 +1,8 @@
 -- `update` meets its contract: what the call leaves in the arrays is put back into the session. Assumes nothing.
 use Prim.Native.Nat.{_<_}
+use mathlib.Core.Path.{_≡_}
 use native.Mathlib.Omega.{arith}
+use lib.ListN.{length}
 use denote.Ref.{now}
 use Rattle.rows.specs.Rows.{Tabled}
 use Rattle.search.specs.Core.{Lengths}
@@ -10,7 +12,7 @@ use Rattle.session.proofs.update.Statement.{statement}
 use Rattle.session.proofs.update.Tie as tie
 
 abbrev lined : tie.After-update-in-arg → tie.After-only-line
-lined c = c .before .before .before .before .before .before .before .before .before .before .before .before .before .before .before .before .before .before .before
+lined c = c .before .before .before .before .before .before .before .before .before .before .before .before .before .before .before .before .before .before .before .before .before
 
 abbrev begun : tie.After-update-in-arg → tie.Start
 begun c = lined c .before .before .before .before
@@ -29,6 +31,9 @@ sizes b = record {
 tabled : (b : tie.Start) → Tabled (b .args .s .targets) (b .args .s .starts)
 tabled b = record { targets-size = search needs; starts-size = search needs }
 
+counts : (b : tie.Start) → length (b .args .s .indegree) ≡ 512
+counts b = search needs
+
 range : (b : tie.Start) → b .args .s .total < 65536
 range b = search needs
 
@@ -39,7 +44,7 @@ only-line-requires : tie.Need-only-line-requires
 only-line-requires c κs = search needs
 
 update-in-requires : tie.Need-update-in-requires
-update-in-requires c κs = (tabled (begun c), sizes (begun c))
+update-in-requires c κs = (tabled (begun c), counts (begun c), sizes (begun c))
 
 total-of-requires : tie.Need-total-of-requires
 total-of-requires c κs = search needs

@@ -1,6 +1,6 @@
 -- `update_in` meets its contract: a refusal, or the table's arrays changed and the search settled. Assumes nothing.
 use borrow.Author.Needs.{needs}
-use Rattle.session.proofs.Changing.{updated-refused, updated-accepted, accepted-tabled}
+use Rattle.session.proofs.Changing.{updated-refused, updated-accepted, accepted-sized}
 use Rattle.session.proofs.update_in.Statement.{statement}
 use Rattle.session.proofs.update_in.Tie as tie
 
@@ -33,14 +33,14 @@ abbrev attempted : tie.After-settle-arg10 → tie.After-attempt-call
 attempted c = tried-at c .before .before
 
 abbrev resumed : tie.After-settle-arg10 → tie.After-where-to-resume
-resumed c = attempted c .before .before .before .before
+resumed c = attempted c .before .before .before .before .before
 
 abbrev begun : tie.After-settle-arg10 → tie.Start
 begun c = resumed c .before .before .before .before .before .before .before .before
 
 settle-requires : tie.Need-settle-requires
 settle-requires c κs =
-    (accepted-tabled _ _ _ _ _ (attempted c .attempt-call .result) _ (attempted c .attempt-call .ensures) (tried-at c .enum-told .given .1) (begun c .pre .0), begun c .pre .1)
+    (accepted-sized _ _ _ _ _ (attempted c .attempt-call .result) _ (attempted c .attempt-call .ensures) (tried-at c .enum-told .given .1) (begun c .pre .0, begun c .pre .1) .0, begun c .pre .2)
 
 same-length : tie.Need-same-length
 same-length c = search needs
