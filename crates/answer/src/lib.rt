@@ -2,11 +2,11 @@
 ghost use mathlib.Core.List.{_∷_, [], _++_};
 ghost use Prim.Native.Nat.{_+_, _≤_, _<_};
 ghost use lib.ListN.{length};
-ghost use Rattle.plain.specs.Machine.{numbered, atLine, gameLine, roundLine, noneLine, noLine};
+ghost use Rattle.plain.specs.Machine.{numbered, atLine, gameLine, roundLine, noneLine, noLine, waysLine};
 ghost use Rattle.answer.specs.Bytes.{Put};
 ghost use Rattle.answer.specs.Rendering.{decimal, fieldOf, fieldsOf, lineOf, render};
 
-// The words of the output lines, beside `game`.
+// The words of the output lines, beside `game` and `ways`.
 const ROUND_WORD: [u8; 5] = *b"round";
 
 const NONE_WORD: [u8; 4] = *b"none";
@@ -117,6 +117,15 @@ pub fn put_none(out: &mut [u8], at: usize, spent: u16, kept: u16) -> usize
 {
     let head: [u16; 2] = [spent, kept];
     put_line(out, at, &NONE_WORD, &head, &EMPTY)
+}
+
+// The counts of moves that leave and enter a state.
+pub fn put_ways(out: &mut [u8], at: usize, state: u16, leaving: u16, entering: u16) -> usize
+    requires { ⌜ at + length (render (waysLine state leaving entering)) ≤ length (now out) ⌝ }
+    ensures { λ r. ⌜ Put (now (out .entry)) at (render (waysLine state leaving entering)) (now (out .exit)) r ⌝ }
+{
+    let head: [u16; 3] = [state, leaving, entering];
+    put_line(out, at, &line::WAYS, &head, &EMPTY)
 }
 
 // A refusal.

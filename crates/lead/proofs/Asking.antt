@@ -93,10 +93,11 @@ module _ (x y : Request) {b : Bool} {q : Request} where
   request-behind e h = rw e at h
 
 -- a line that requests no change: the tags of the others
-pub no-change : (q : Request) → OneOf (1 ∷ 2 ∷ 3 ∷ []) (tagOf the-type q) → lineFor 0 0 0 ≡ lineFrom q
-no-change (R.Change op) o = absurd (⊎-elim (λ z. omega arith) (⊎-elim (λ z. omega arith) (λ z. omega arith)) o)
+pub no-change : (q : Request) → OneOf (1 ∷ 2 ∷ 3 ∷ 4 ∷ []) (tagOf the-type q) → lineFor 0 0 0 ≡ lineFrom q
+no-change (R.Change op) o = absurd (⊎-elim (λ z. omega arith) (⊎-elim (λ z. omega arith) (⊎-elim (λ z. omega arith) (λ z. omega arith))) o)
 no-change R.Begin o = refl
 no-change R.End o = refl
+no-change (R.Question q) o = refl
 no-change R.Unknown o = refl
 
 -- ---- inside a batch

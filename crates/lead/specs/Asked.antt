@@ -17,13 +17,15 @@ use Rattle.batch.specs.declared.Update.the-variants.{Change, Batch}
 use Rattle.table.specs.declared.Position.the-variants.{Alone}
 use Rattle.batch.specs.declared.BatchLine.{BatchLine}
 use Rattle.batch.specs.Batches.{lineFor, lineTo}
+use Rattle.question.specs.declared.Question.{Question}
+use Rattle.question.specs.declared.Topic.the-variants.{Ways}
 use Rattle.lead.specs.declared.Stage.{Stage}
 use Rattle.lead.specs.declared.Stage.the-variants.{Waiting, Gathering, Playing, Batching, Over}
 use Rattle.lead.specs.declared.Lead.{Lead}
 use Rattle.lead.specs.declared.Ask.the-variants.{Load as AskLoad, Update as AskUpdate}
 use Rattle.lead.specs.declared.Request.{Request}
 use Rattle.lead.specs.declared.Request.the-variants as R
-use Rattle.lead.specs.declared.Task.the-variants.{Nothing, Refuse, Ask as Asks}
+use Rattle.lead.specs.declared.Task.the-variants.{Nothing, Refuse, Ask as Asks, Question as Questions}
 use Rattle.lead.specs.declared.Plan.{Plan}
 
 -- what is held before the first line
@@ -51,6 +53,10 @@ loading l = record { lead = l; task = Asks AskLoad }
 -- a change is asked of the session
 abbrev pub changing : Op → Lead → Plan
 changing op l = record { lead = l; task = Asks (AskUpdate (Change op)) }
+
+-- a question is
+abbrev pub questioning : Question → Lead → Plan
+questioning q l = record { lead = l; task = Questions q }
 
 -- the batch that is held is asked of it
 abbrev pub ending : Lead → Plan
@@ -88,7 +94,7 @@ askedBefore l r =
     (cond (isWord (r .word) Go) (loading l)
     (refusing Over l 1)))
 
--- ".. then `add` and `cut`"; ticket 2: "Lines `mark` and `unmark` name a state"; ticket 5: `begin` and `end`
+-- ".. then `add` and `cut`"; ticket 2: "Lines `mark` and `unmark` name a state"; ticket 5: `begin` and `end`; ticket 8: `ways`
 unfoldable pub requestOf : Record → Request
 requestOf r =
     cond (isWord (r .word) Word.Add) (R.Change (Add (r .first) (r .second)))
@@ -97,13 +103,15 @@ requestOf r =
     (cond (isWord (r .word) Word.Unmark) (R.Change (Unmark (r .first)))
     (cond (isWord (r .word) Word.Begin) R.Begin
     (cond (isWord (r .word) Word.End) R.End
-    R.Unknown)))))
+    (cond (isWord (r .word) Word.Ways) (R.Question (record { topic = Ways; number = r .first }))
+    R.Unknown))))))
 
 -- outside a batch an `end` is misplaced
 abbrev pub planFor : Request → Lead → Plan
 planFor (R.Change op) l = changing op l
 planFor R.Begin l = noTask (batching l 0)
 planFor R.End l = refusing Playing l 1
+planFor (R.Question q) l = questioning q l
 planFor R.Unknown l = refusing Playing l 1
 
 unfoldable pub askedAfter : Lead → Record → Plan
@@ -169,6 +177,7 @@ abbrev pub lineFrom : Request → BatchLine
 lineFrom (R.Change op) = lineTo op
 lineFrom R.Begin = lineFor 0 0 0
 lineFrom R.End = lineFor 0 0 0
+lineFrom (R.Question q) = lineFor 0 0 0
 lineFrom R.Unknown = lineFor 0 0 0
 
 unfoldable pub lineRead : Record → BatchLine

@@ -4,13 +4,15 @@ use batch::Update;
 use line::Record;
 use line::Word;
 use line::is_word;
+use question::Question;
+use question::Topic;
 use rows::wide;
 use table::Op;
 use table::Position;
 use table::Refusal;
 ghost use mathlib.Core.Path.{_≡_};
 ghost use Rattle.line.specs.Records.{recordOf};
-ghost use Rattle.lead.specs.Asked.{firstLead, staged as Asked·staged, noTask, refusing as Asked·refusing, changing as Asked·changing, batching as Asked·batching, holding as Asked·holding, isFull, askedFirst, askedMove, askedBefore, requestOf, askedAfter, askedInside, asked, takesMove, filedMove, takesLine, lineRead, filedLine, filed, isOver};
+ghost use Rattle.lead.specs.Asked.{firstLead, staged as Asked·staged, noTask, refusing as Asked·refusing, changing as Asked·changing, questioning as Asked·questioning, batching as Asked·batching, holding as Asked·holding, isFull, askedFirst, askedMove, askedBefore, requestOf, askedAfter, askedInside, asked, takesMove, filedMove, takesLine, lineRead, filedLine, filed, isOver};
 
 // How far the lead has come: no line yet, before `go`, after it, inside a batch, or past a refusal that ends the run.
 pub enum Stage {
@@ -31,11 +33,12 @@ pub struct Lead {
     pub count: u16,
 }
 
-// What a line after `go` requests: a change, the begin or the end of a batch, or nothing that is known there.
+// What a line after `go` requests: a change, the begin or the end of a batch, a question's reply, or nothing that is known there.
 pub enum Request {
     Change(Op),
     Begin,
     End,
+    Question(Question),
     Unknown,
 }
 
@@ -45,11 +48,12 @@ pub enum Ask {
     Update(Update),
 }
 
-// What is to be done for a line. Only what asks something reaches the session.
+// What is to be done for a line. Only what asks something reaches the session, and only a load or a call may change it.
 pub enum Task {
     Nothing,
     Refuse(Refusal),
     Ask(Ask),
+    Question(Question),
 }
 
 // What is held behind a line, unless the load refuses, and what is to be done.
@@ -192,7 +196,17 @@ fn changing(lead: Lead, op: Op) -> Plan
     }
 }
 
-// After `go`: `add` and `cut`, `mark` and `unmark`, `begin` and `end`.
+// A question is asked of the session.
+fn questioning(lead: Lead, question: Question) -> Plan
+    ensures { λ p. ⌜ p ≡ Asked·questioning question lead ⌝ }
+{
+    Plan {
+        lead,
+        task: Task::Question(question),
+    }
+}
+
+// After `go`: `add` and `cut`, `mark` and `unmark`, `begin` and `end`, `ways`.
 fn request_of(r: Record) -> Request
     ensures { λ q. ⌜ q ≡ requestOf r ⌝ }
 {
@@ -216,6 +230,12 @@ fn request_of(r: Record) -> Request
     }
     if is_word(word, Word::End) {
         return Request::End;
+    }
+    if is_word(word, Word::Ways) {
+        return Request::Question(Question {
+            topic: Topic::Ways,
+            number: from,
+        });
     }
     Request::Unknown
 }
@@ -243,6 +263,7 @@ fn ask_after(lead: Lead, r: Record) -> Plan
         Request::Change(op) => changing(lead, op),
         Request::Begin => no_task(batching(lead, 0)),
         Request::End => refusing(Stage::Playing, lead, 1),
+        Request::Question(question) => questioning(lead, question),
         Request::Unknown => refusing(Stage::Playing, lead, 1),
     }
 }

@@ -19,7 +19,7 @@ use Rattle.line.specs.declared.Item.{Item}
 use Rattle.line.specs.declared.Item.the-variants as I
 use Rattle.line.specs.declared.Number.the-variants as N
 use Rattle.line.specs.declared.Word.{Word}
-use Rattle.line.specs.declared.Word.the-variants.{Game, Pay, Move, Go, Add, Cut, Mark, Unmark, Begin, End, Unreadable}
+use Rattle.line.specs.declared.Word.the-variants.{Game, Pay, Move, Go, Add, Cut, Mark, Unmark, Begin, End, Ways, Unreadable}
 use Rattle.line.proofs.Fields.{behind-none, fieldsBehind, field-within, fields-at, behind-field}
 
 -- ---- what stands behind a field
@@ -82,6 +82,7 @@ two-at-most Mark = omega arith
 two-at-most Unmark = omega arith
 two-at-most Begin = omega arith
 two-at-most End = omega arith
+two-at-most Ways = omega arith
 two-at-most Unreadable = omega arith
 
 worded-many : (w : Word) (fs : List (List ℕ)) → 2 < length fs → unreadable ≡ worded w fs

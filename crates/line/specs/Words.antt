@@ -3,7 +3,7 @@ use Prim.Native.Nat.{ℕ}
 use mathlib.Core.Bool.{Bool}
 use lib.Dec.{eqb}
 use Rattle.line.specs.declared.Word.{Word}
-use Rattle.line.specs.declared.Word.the-variants.{Game, Pay, Move, Go, Add, Cut, Mark, Unmark, Begin, End, Unreadable}
+use Rattle.line.specs.declared.Word.the-variants.{Game, Pay, Move, Go, Add, Cut, Mark, Unmark, Begin, End, Ways, Unreadable}
 use Rattle.line.specs.declared.Form.{Form}
 
 abbrev pub form : ℕ → ℕ → ℕ → Form
@@ -11,7 +11,7 @@ form tag count limit = record { tag = tag; count = count; limit = limit }
 
 -- "`game` (N, start), `pay` (state), `move` (from, to), `go`, `add` (from, to) and `cut` (from, to)": a number for each word, how many numbers follow it, and
 -- the largest that each may be: "at most 65,535; in `pay` at most 511". `mark` (state) and `unmark` (state) come with document 02, ticket 2, `begin`
--- and `end` with ticket 5.
+-- and `end` with ticket 5, `ways` (state) with ticket 8.
 abbrev pub formOf : Word → Form
 formOf Game = form 0 2 65535
 formOf Pay = form 1 1 511
@@ -23,7 +23,8 @@ formOf Mark = form 6 1 65535
 formOf Unmark = form 7 1 65535
 formOf Begin = form 8 0 65535
 formOf End = form 9 0 65535
-formOf Unreadable = form 10 0 65535
+formOf Ways = form 10 1 65535
+formOf Unreadable = form 11 0 65535
 
 abbrev pub countOf : Word → ℕ
 countOf w = formOf w .count

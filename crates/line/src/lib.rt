@@ -29,6 +29,8 @@ pub const BEGIN: [u8; 5] = *b"begin";
 
 pub const END: [u8; 3] = *b"end";
 
+pub const WAYS: [u8; 4] = *b"ways";
+
 pub const TAB: u8 = 9;
 
 pub const NEWLINE: u8 = 10;
@@ -51,6 +53,7 @@ pub enum Word {
     Unmark,
     Begin,
     End,
+    Ways,
     Unreadable,
 }
 
@@ -184,6 +187,9 @@ fn read_word(s: &[u8]) -> Word
     if same(s, &END) {
         return Word::End;
     }
+    if same(s, &WAYS) {
+        return Word::Ways;
+    }
     Word::Unreadable
 }
 
@@ -208,7 +214,8 @@ fn form_of(word: Word) -> Form
         Word::Unmark => row(7, 1, 65535),
         Word::Begin => row(8, 0, 65535),
         Word::End => row(9, 0, 65535),
-        Word::Unreadable => row(10, 0, 65535),
+        Word::Ways => row(10, 1, 65535),
+        Word::Unreadable => row(11, 0, 65535),
     }
 }
 

@@ -30,6 +30,12 @@ enum-told-2 c = search needs
 refusing-requires : tie.Need-refusing-requires
 refusing-requires c κs = search needs
 
+enum-known-request-2 : tie.Need-enum-known-request-2
+enum-known-request-2 c = search needs
+
+questioning-requires : tie.Need-questioning-requires
+questioning-requires c κs = search needs
+
 enum-told-3 : tie.Need-enum-told-3
 enum-told-3 c = search needs
 
@@ -55,7 +61,12 @@ returns-3 : tie.Need-returns-3
 returns-3 c = c .refusing .ensures ∙ plan-is (c .before .before .before) (c .before .enum-told2 .given .1)
 
 returns-4 : tie.Need-returns-4
-returns-4 c = c .refusing2 .ensures ∙ plan-is (c .before .before .before) (c .before .enum-told3 .given .1)
+returns-4 c =
+    let q = c .before .before in
+    c .questioning .ensures ∙ plan-is (q .before .before) (q .request2 .given .1)
+
+returns-5 : tie.Need-returns-5
+returns-5 c = c .refusing2 .ensures ∙ plan-is (c .before .before .before) (c .before .enum-told3 .given .1)
 
 pub ask-after-spec : {M : Type 1} → statement M
 ask-after-spec =
@@ -69,9 +80,12 @@ ask-after-spec =
     no-task-requires
     enum-told-2
     refusing-requires
+    enum-known-request-2
+    questioning-requires
     enum-told-3
     refusing-requires-2
     returns
     returns-2
     returns-3
-    returns-4)
+    returns-4
+    returns-5)

@@ -6,6 +6,7 @@ use Rattle.line.specs.Words.{isWord}
 use Rattle.line.specs.declared.Word.the-variants as Word
 use Rattle.line.specs.declared.Record.{Record}
 use Rattle.table.specs.declared.Op.the-variants.{Cut, Mark, Unmark}
+use Rattle.question.specs.declared.Topic.the-variants.{Ways}
 use Rattle.lead.specs.declared.Request.{Request}
 use Rattle.lead.specs.declared.Request.the-variants as R
 use Rattle.lead.specs.Asked.{requestOf}
@@ -14,8 +15,11 @@ use Rattle.lead.proofs.request_of.Statement.{statement}
 use Rattle.lead.proofs.request_of.Tie as tie
 
 -- what is requested by the words from one on
+abbrev from-ways : Record → Request
+from-ways r = cond (isWord (r .word) Word.Ways) (R.Question (record { topic = Ways; number = r .first })) R.Unknown
+
 abbrev from-end : Record → Request
-from-end r = cond (isWord (r .word) Word.End) R.End R.Unknown
+from-end r = cond (isWord (r .word) Word.End) R.End (from-ways r)
 
 abbrev from-begin : Record → Request
 from-begin r = cond (isWord (r .word) Word.Begin) R.Begin (from-end r)
@@ -46,8 +50,11 @@ past-unmark c = request-behind _ _ (sym (c .before .is-word4 .ensures) ∙ c .if
 past-begin : (c : tie.Else5) → from-end (c .before .before .before .before .before .before .before .before .before .before .args .r) ≡ requestOf (c .before .before .before .before .before .before .before .before .before .before .args .r)
 past-begin c = request-behind _ _ (sym (c .before .is-word5 .ensures) ∙ c .if5 .left) (past-unmark (c .before .before))
 
-past-end : (c : tie.Else6) → R.Unknown ≡ requestOf (c .before .before .before .before .before .before .before .before .before .before .before .before .args .r)
+past-end : (c : tie.Else6) → from-ways (c .before .before .before .before .before .before .before .before .before .before .before .before .args .r) ≡ requestOf (c .before .before .before .before .before .before .before .before .before .before .before .before .args .r)
 past-end c = request-behind _ _ (sym (c .before .is-word6 .ensures) ∙ c .if6 .left) (past-begin (c .before .before))
+
+past-ways : (c : tie.Else7) → R.Unknown ≡ requestOf (c .before .before .before .before .before .before .before .before .before .before .before .before .before .before .args .r)
+past-ways c = request-behind _ _ (sym (c .before .is-word7 .ensures) ∙ c .if7 .left) (past-end (c .before .before))
 
 is-word-requires : tie.Need-is-word-requires
 is-word-requires c κs = search needs
@@ -86,8 +93,14 @@ is-word-requires-6 c κs = search needs
 returns-6 : tie.Need-returns-6
 returns-6 c = request-is _ _ (sym (c .before .is-word6 .ensures) ∙ c .if6 .taken) (past-begin (c .before .before))
 
+is-word-requires-7 : tie.Need-is-word-requires-7
+is-word-requires-7 c κs = search needs
+
 returns-7 : tie.Need-returns-7
-returns-7 c = past-end c
+returns-7 c = request-is _ _ (sym (c .before .is-word7 .ensures) ∙ c .if7 .taken) (past-end (c .before .before))
+
+returns-8 : tie.Need-returns-8
+returns-8 c = past-ways c
 
 pub request-of-spec : {M : Type 1} → statement M
 request-of-spec =
@@ -105,4 +118,6 @@ request-of-spec =
     returns-5
     is-word-requires-6
     returns-6
-    returns-7)
+    is-word-requires-7
+    returns-7
+    returns-8)

@@ -87,6 +87,13 @@ past-end : (c : tie.Else10) → Past 10 (start-end c)
 unfolding bytes words
 past-end c = row-miss _ _ _ (c .before .same10 .ensures) (c .if10 .left) (past-begin (c .before .before .before))
 
+abbrev start-ways : tie.Else11 → tie.Start
+start-ways c = start-end (c .before .before .before)
+
+past-ways : (c : tie.Else11) → Past 11 (start-ways c)
+unfolding bytes words
+past-ways c = row-miss _ _ _ (c .before .same11 .ensures) (c .if11 .left) (past-end (c .before .before .before))
+
 -- for each row what `same` asks, and the word returned; then the word of no row
 pub read-word-spec : {M : Type 1} → statement M
 unfolding bytes words
@@ -123,4 +130,7 @@ read-word-spec =
     (λ c. search needs)
     (λ c κs. search needs)
     (λ c. row-hit _ _ _ (c .before .same10 .ensures) (c .if10 .taken) (past-begin (c .before .before .before)))
-    (λ c. no-rows _ (past-end c)))
+    (λ c. search needs)
+    (λ c κs. search needs)
+    (λ c. row-hit _ _ _ (c .before .same11 .ensures) (c .if11 .taken) (past-end (c .before .before .before)))
+    (λ c. no-rows _ (past-ways c)))
