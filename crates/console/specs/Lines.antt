@@ -9,6 +9,7 @@ use Rattle.line.specs.Fields.{newline}
 use Rattle.line.specs.Records.{recordOf}
 use Rattle.answer.specs.Rendering.{rendered}
 use Rattle.verdict.specs.declared.Answer.{Answer}
+use Rattle.question.specs.declared.Reply.{Reply}
 use Rattle.lead.specs.declared.Lead.{Lead}
 use Rattle.lead.specs.Asked.{asked}
 use Rattle.watch.specs.Model.{linesMost, linesTold}
@@ -102,9 +103,9 @@ endOf r = cond (eqb (r .len) 0)
 
 -- ---- what is written
 
--- the bytes of the lines told for what a line asks of a lead, with an answer and the list of the walk, in the box's buffer
-unfoldable pub bytesTold : List ℕ → Lead → Answer → List ℕ → List ℕ
-bytesTold line lead answer walk = rendered (linesTold (asked lead (recordOf line)) answer walk linesMost)
+-- the bytes of the lines told for what a line asks of a lead, with an answer, a reply and the list of the walk, in the box's buffer
+unfoldable pub bytesTold : List ℕ → Lead → Answer → Reply → List ℕ → List ℕ
+bytesTold line lead answer reply walk = rendered (linesTold (asked lead (recordOf line)) answer reply walk linesMost)
 
 -- The bytes are what the plain definition prints for this line of what was read, behind some earlier lines: only the history of the reads holds these.
 pub record Printed (line bytes : List ℕ) : Type 0 where

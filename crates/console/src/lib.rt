@@ -2,6 +2,7 @@
 use lead::Lead;
 use libc::STDIN_FILENO;
 use libc::STDOUT_FILENO;
+use question::Reply;
 use verdict::Answer;
 ghost use mathlib.Core.Path.{_≡_};
 ghost use lib.ListN.{length};
@@ -125,10 +126,17 @@ pub fn next_line(buf: &mut [u8; CHUNK], held: &mut [u8; HELD], r: Reader) -> Rea
 }
 
 // Writes the lines that answer a line, as often as it takes: false where a write takes nothing or fails. Only this function writes. Its parameters fix what it
-// writes: the line that was read, what was held before it, the answer and the walk. That the plain definition prints these bytes for this line is true behind
+// writes: the line that was read, what was held before it, the answer, the reply and the walk. That the plain definition prints these bytes for this line is true behind
 // some earlier lines, which only the history of the reads holds. No contract says that a write happened: only the tests see that.
-pub fn print(line: &[u8], lead: Lead, answer: Answer, walk: &[u16], bytes: &[u8]) -> bool
-    requires { ⌜ (now bytes ≡ bytesTold (now line) lead answer (now walk)) × Printed (now line) (now bytes) ⌝ }
+pub fn print(
+    line: &[u8],
+    lead: Lead,
+    answer: Answer,
+    reply: Reply,
+    walk: &[u16],
+    bytes: &[u8],
+) -> bool
+    requires { ⌜ (now bytes ≡ bytesTold (now line) lead answer reply (now walk)) × Printed (now line) (now bytes) ⌝ }
 {
     let mut at: usize = 0;
     while at < bytes.len() {

@@ -2,6 +2,7 @@
 use lead::Lead;
 use lead::Stage;
 use lead::Task;
+use question::Reply;
 use rows::wide;
 use table::Position;
 use verdict::Answer;
@@ -33,7 +34,7 @@ fn search(lead: Lead, numbers: &[u16], walk: &mut [u16]) -> Answer
     textbook::search(lead.size, lead.start, words, &numbers[..n], walk)
 }
 
-// Until `go` no line asks for an answer: the one held before it is never told.
+// Until `go` no line asks for an answer, and none for a reply: those held before it are never told.
 fn main() {
     let mut numbers: [u16; table::NUMBERS] = [0; table::NUMBERS];
     let mut walk: [u16; watch::WALK] = [0; watch::WALK];
@@ -54,9 +55,10 @@ fn main() {
         if let Task::Ask(ask) = task {
             answer = search(lead, &numbers, &mut walk);
         }
-        let w = watch::write(plan, answer, &walk, &mut lines);
+        let reply = Reply::Refused(0);
+        let w = watch::write(plan, answer, reply, &walk, &mut lines);
         let n = w.len;
-        if !console::print(&held[..len], lead, answer, &walk, &lines[..n]) {
+        if !console::print(&held[..len], lead, answer, reply, &walk, &lines[..n]) {
             return;
         }
         lead = w.lead;

@@ -22,9 +22,10 @@ fn main() {
             c = watch::serve(c.session, lead, ask, &numbers, &mut walk);
         }
         let answer = c.answer;
-        let w = watch::write(plan, answer, &walk, &mut lines);
+        let reply = watch::reply_to(c.session, task);
+        let w = watch::write(plan, answer, reply, &walk, &mut lines);
         let n = w.len;
-        if !console::print(&held[..len], lead, answer, &walk, &lines[..n]) {
+        if !console::print(&held[..len], lead, answer, reply, &walk, &lines[..n]) {
             return;
         }
         lead = w.lead;

@@ -13,7 +13,8 @@ use lib.Seq.{take-all, take-append-le, length-take-le}
 use Rattle.plain.specs.Search.{Edge, Verdict, none, lasso, unfinished, verdict, count}
 use Rattle.plain.specs.Table.{final, withMark, acceptingCount}
 use Rattle.plain.specs.Refusals.{Trial, accepted, refused, flat, loadTrial, full}
-use Rattle.plain.specs.Machine.{BatchLine, makes, other, single, batch, Answer as PlainAnswer, answer, loadAnswer, tableOf, answerTo, Line, gameLine, roundLine, noneLine, noLine, answerLine}
+use Rattle.plain.specs.Machine.{BatchLine, makes, other, single, batch, Answer as PlainAnswer, answer, loadAnswer, tableOf, answerTo, Line, gameLine, roundLine, noneLine, noLine, waysLine, answerLine}
+use Rattle.plain.specs.Questions.{replyTo}
 use Rattle.plain.proofs.Tests.{either, and-true}
 use Rattle.plain.proofs.OneByOne.{held-call}
 use Rattle.line.specs.Words.{isWord}
@@ -25,6 +26,10 @@ use Rattle.table.specs.declared.Op.{Op}
 use Rattle.verdict.specs.declared.Answer.{Answer}
 use Rattle.verdict.specs.declared.Answer.the-variants.{Refused, Clear, Round}
 use Rattle.verdict.specs.Answers.{LoadAnswered, isRefused, shown}
+use Rattle.question.specs.declared.Question.{Question}
+use Rattle.question.specs.declared.Reply.{Reply}
+use Rattle.question.specs.Replies.{questionOf, replyShown}
+use Rattle.question.proofs.Replies.{reply-shown}
 use Rattle.session.specs.declared.Session.{Session}
 use Rattle.session.specs.declared.Outcome.{Outcome}
 use Rattle.batch.specs.declared.BatchLine.{BatchLine as CodedLine}
@@ -37,15 +42,15 @@ use Rattle.lead.specs.declared.Stage.the-variants.{Waiting, Gathering, Playing,
 use Rattle.lead.specs.declared.Lead.{Lead}
 use Rattle.lead.specs.declared.Ask.the-variants.{Load as AskLoad}
 use Rattle.lead.specs.declared.Task.{Task}
-use Rattle.lead.specs.declared.Task.the-variants.{Nothing, Refuse, Ask as Asks}
+use Rattle.lead.specs.declared.Task.the-variants.{Nothing, Refuse, Ask as Asks, Question as Questions}
 use Rattle.lead.specs.declared.Plan.{Plan}
 use Rattle.lead.specs.declared.Request.{Request as LeadRequest}
 use Rattle.lead.specs.declared.Request.the-variants as R
-use Rattle.lead.specs.Asked.{numbersMost, staged, noTask, refusing, loading, changing, ending as endingPlan, batching as leadBatching, isFull, askedFirst, askedMove, askedBefore, requestOf as leadRequest, planFor, askedAfter, heldMost, holding, askedInside, askedAt, asked, gathersMove, takesMove, insideLine, takesLine, lineFrom, lineRead, numbersOf, filed}
+use Rattle.lead.specs.Asked.{numbersMost, staged, noTask, refusing, loading, changing, questioning as leadQuestioning, ending as endingPlan, batching as leadBatching, isFull, askedFirst, askedMove, askedBefore, requestOf as leadRequest, planFor, askedAfter, heldMost, holding, askedInside, askedAt, asked, gathersMove, takesMove, insideLine, takesLine, lineFrom, lineRead, numbersOf, filed}
 use Rattle.lead.proofs.Asking.{taken-at, held, not-held}
 use Rattle.lead.proofs.Filing.{numbers-kept, move-put, line-put}
-use Rattle.watch.specs.Text.{Draft, Play, Held, waiting, gathering, playing, batching, ended, Step, quiet, noStep, empty, room, loadStep, loadOf, draftOf, withPay, withMove, updateStep, Request, changing as changes, beginning, ending, unknown, requestOf, playStep, batchStep, inBatch, atFirst, beforeGo, afterGo, step}
-use Rattle.watch.specs.Model.{gathered, Serves, linesFor, leadFor}
+use Rattle.watch.specs.Text.{Draft, Play, Held, waiting, gathering, playing, batching, ended, Step, quiet, noStep, empty, room, loadStep, loadOf, draftOf, withPay, withMove, updateStep, questionStep, Request, changing as changes, beginning, ending, questioning, unknown, requestOf, playStep, batchStep, inBatch, atFirst, beforeGo, afterGo, step}
+use Rattle.watch.specs.Model.{gathered, Serves, Replied, linesFor, leadFor}
 
 -- the lead and the list of numbers stand for what is gathered
 pub record Gathers (l : Lead) (ns : List ℕ) (d : Draft) : Type 0 where
@@ -79,6 +84,7 @@ abbrev pub Follows : Task → Lead → List ℕ → Session → List ℕ → Out
 Follows Nothing l ns s walk c walk′ = c .session ≡ s
 Follows (Refuse n) l ns s walk c walk′ = c .session ≡ s
 Follows (Asks ask) l ns s walk c walk′ = Serves ask l ns s walk c walk′
+Follows (Questions q) l ns s walk c walk′ = c .session ≡ s
 
 -- ---- an answer and its line
 
@@ -89,6 +95,7 @@ tellsNo (gameLine size moves paying ∷ ls) = false
 tellsNo (roundLine spent kept stem cycle walk ∷ ls) = false
 tellsNo (noneLine spent kept ∷ ls) = false
 tellsNo (noLine r ∷ ls) = true
+tellsNo (waysLine s leaving entering ∷ ls) = false
 
 shown-no : (a : Answer) (walk : List ℕ) → isRefused a ≡ tellsNo (shown a walk ∷ [])
 unfolding shown tellsNo
@@ -152,10 +159,10 @@ abbrev isNo : Trial → Bool
 isNo accepted = false
 isNo (refused n) = true
 
-pub load-lines : (x : Trial) (l : Lead) (ns : List ℕ) (d : Draft) (walk : List ℕ) (a : Answer) (walk′ : List ℕ) → loadTrial (loadOf d) (length walk) ≡ x → Gathers l ns d
-    → LoadAnswered (loadOf d) walk a walk′ → (isRefused a ≡ isNo x) × (linesFor (Asks AskLoad) l a walk′ ≡ loadStep x d .lines)
+pub load-lines : (x : Trial) (l : Lead) (ns : List ℕ) (d : Draft) (walk : List ℕ) (a : Answer) (reply : Reply) (walk′ : List ℕ) → loadTrial (loadOf d) (length walk) ≡ x → Gathers l ns d
+    → LoadAnswered (loadOf d) walk a walk′ → (isRefused a ≡ isNo x) × (linesFor (Asks AskLoad) l a reply walk′ ≡ loadStep x d .lines)
 unfolding loadAnswer answerLine tellsNo
-load-lines accepted l ns d walk a walk′ k g lo =
+load-lines accepted l ns d walk a reply walk′ k g lo =
     let t = tableOf (loadOf d) in
     let told : answerLine (loadAnswer accepted t) ≡ shown a walk′ ∷ [] = rw k at (lo .line) in
     let yes : isRefused a ≡ false = refused-as (loadAnswer accepted t) a walk′ told ∙ verdict-yes (verdict (final t)) (count (final t)) 0 in
@@ -164,7 +171,7 @@ load-lines accepted l ns d walk a walk′ k g lo =
       ap (λ (b : Bool). cond b (shown a walk′ ∷ []) (gameLine (l .size) (l .count / 2) (acceptingCount (l .words)) ∷ shown a walk′ ∷ [])) yes
           ∙ rw (g .size, g .words, half) (ap (λ (ls : List Line). gameLine (d .size) (length (d .moves)) (acceptingCount (d .marks)) ∷ ls) (sym told)),
     )
-load-lines (refused n) l ns d walk a walk′ k g lo =
+load-lines (refused n) l ns d walk a reply walk′ k g lo =
     let told : answerLine (loadAnswer (refused n) (tableOf (loadOf d))) ≡ shown a walk′ ∷ [] = rw k at (lo .line) in
     let no : isRefused a ≡ true = refused-as (loadAnswer (refused n) (tableOf (loadOf d))) a walk′ told in
     (no, ap (λ (b : Bool). cond b (shown a walk′ ∷ []) (gameLine (l .size) (l .count / 2) (acceptingCount (l .words)) ∷ shown a walk′ ∷ [])) no ∙ sym told)
@@ -176,6 +183,7 @@ abbrev requested : LeadRequest → Request
 requested (R.Change op) = changes (changeOf op)
 requested R.Begin = beginning
 requested R.End = ending
+requested (R.Question q) = questioning (questionOf q)
 requested R.Unknown = unknown
 
 requested-cond : (b : Bool) (x y : LeadRequest) (z : Request) → requested y ≡ z → requested (cond b x y) ≡ cond b (requested x) z
@@ -190,6 +198,7 @@ abbrev batchLine : Request → BatchLine
 batchLine (changes c) = makes c
 batchLine beginning = other
 batchLine ending = other
+batchLine (questioning q) = other
 batchLine unknown = other
 
 same-request : (r : Record) → requested (leadRequest r) ≡ requestOf r
@@ -200,7 +209,8 @@ same-request r =
     (requested-cond (isWord (r .word) W.Mark) _ _ _
     (requested-cond (isWord (r .word) W.Unmark) _ _ _
     (requested-cond (isWord (r .word) W.Begin) _ _ _
-    (requested-cond (isWord (r .word) W.End) _ _ _ refl)))))
+    (requested-cond (isWord (r .word) W.End) _ _ _
+    (requested-cond (isWord (r .word) W.Ways) _ _ _ refl))))))
 
 -- ---- a line inside a batch
 
@@ -210,6 +220,7 @@ unfolding lineIn
 held-line (R.Change op) = line-makes op
 held-line R.Begin = refl
 held-line R.End = refl
+held-line (R.Question q) = refl
 held-line R.Unknown = refl
 
 -- it is `end`, or it is held
@@ -229,6 +240,7 @@ inside W.Mark a b = record { ends = λ e. no-word e; stays = λ e p xs. refl }
 inside W.Unmark a b = record { ends = λ e. no-word e; stays = λ e p xs. refl }
 inside W.Begin a b = record { ends = λ e. no-word e; stays = λ e p xs. refl }
 inside W.End a b = record { ends = λ e. refl; stays = λ e. no-word (sym e) }
+inside W.Ways a b = record { ends = λ e. no-word e; stays = λ e p xs. refl }
 inside W.Unreadable a b = record { ends = λ e. no-word e; stays = λ e p xs. refl }
 
 -- three numbers more are a line more
@@ -243,50 +255,56 @@ lines-append (suc n) (a ∷ b ∷ c ∷ ns) l e = ap (λ (xs : List BatchLine). 
 -- ---- one line
 
 -- what comes of a plan is the step: what is held then, and the lines
-module _ (ns walk : List ℕ) (s : Session) (c : Outcome) (walk′ : List ℕ) where
+module _ (ns walk : List ℕ) (s : Session) (c : Outcome) (reply : Reply) (walk′ : List ℕ) where
   abbrev Comes : Lead → Plan → Step → Type 0
-  Comes l₀ p u = Follows (p .task) l₀ ns s walk c walk′
-      → Tracks (leadFor (p .task) (p .lead) (c .answer)) ns (c .session) (u .next) × (linesFor (p .task) (p .lead) (c .answer) walk′ ≡ u .lines)
+  Comes l₀ p u = Follows (p .task) l₀ ns s walk c walk′ → Replied (p .task) (c .session) reply
+      → Tracks (leadFor (p .task) (p .lead) (c .answer)) ns (c .session) (u .next) × (linesFor (p .task) (p .lead) (c .answer) reply walk′ ≡ u .lines)
 
   comes-cond : (l₀ : Lead) (b : Bool) (p q : Plan) (u v : Step) → (b ≡ true → Comes l₀ p u) → (b ≡ false → Comes l₀ q v) → Comes l₀ (cond b p q) (cond b u v)
   comes-cond l₀ true p q u v h k = h refl
   comes-cond l₀ false p q u v h k = k refl
 
   comes-quiet : (l₀ l : Lead) (q : Held) → Tracks l ns s q → Comes l₀ (noTask l) (quiet q)
-  comes-quiet l₀ l q h w = (rw w h, refl)
+  comes-quiet l₀ l q h w v = (rw w h, refl)
 
   comes-refusing : (l₀ : Lead) (stage : Stage) (l : Lead) (n : ℕ) (q : Held) → Tracks (staged stage l) ns s q → Comes l₀ (refusing stage l n) (noStep n q)
   unfolding shown
-  comes-refusing l₀ stage l n q h w = (rw w h, refl)
+  comes-refusing l₀ stage l n q h w v = (rw w h, refl)
 
   comes-change : (op : Op) (l : Lead) (p : Play) → l .stage ≡ Playing → Holds s (p .table) → length walk ≡ room → Comes l (changing op l) (updateStep (single (changeOf op)) p)
-  comes-change op l p h k e w = (
+  comes-change op l p h k e w v = (
     (h, rw e at (w .holds (p .table) k)),
     sym (w .answers (p .table) k .line) ∙ ap (λ (n : ℕ). answerLine (answerTo (record { update = single (changeOf op); room = n }) (p .table))) e,
   )
 
   -- the batch that is held is answered as the whole one
   comes-batch : (l : Lead) (xs : List BatchLine) (p : Play) → Collects l ns xs → Holds s (p .table) → length walk ≡ room → Comes l (endingPlan l) (updateStep (batch xs) p)
-  comes-batch l xs p g k e w =
+  comes-batch l xs p g k e w v =
       let first = take linesHeld xs in
-      let v : Updates (batch first) s walk c walk′ = subst (λ (ys : List BatchLine). Updates (batch ys) s walk c walk′) (g .lines) w in
+      let u : Updates (batch first) s walk c walk′ = subst (λ (ys : List BatchLine). Updates (batch ys) s walk c walk′) (g .lines) w in
       let whole = held-call xs (p .table) room in (
-        (refl, rw (whole .1) at (rw e at (v .holds (p .table) k))),
-        sym (v .answers (p .table) k .line) ∙ ap (λ (n : ℕ). answerLine (answerTo (record { update = batch first; room = n }) (p .table))) e ∙ ap answerLine (whole .0),
+        (refl, rw (whole .1) at (rw e at (u .holds (p .table) k))),
+        sym (u .answers (p .table) k .line) ∙ ap (λ (n : ℕ). answerLine (answerTo (record { update = batch first; room = n }) (p .table))) e ∙ ap answerLine (whole .0),
       )
+
+  -- a question is replied as the plain table replies, and all is as it was
+  comes-question : (q : Question) (l : Lead) (p : Play) → l .stage ≡ Playing → Holds s (p .table) → Comes l (leadQuestioning q l) (questionStep (questionOf q) p)
+  comes-question q l p h k w v =
+      let held = subst⁻¹ (λ (x : Session). Holds x (p .table)) w k in
+      ((h, held), ap (λ (x : Line). x ∷ []) (ap replyShown (v .replies (p .table) held) ∙ reply-shown (replyTo (questionOf q) (p .table))))
 
   -- a load, by what trying it gives
   load-by : (x : Trial) (l : Lead) (d : Draft) → loadTrial (loadOf d) (length walk) ≡ x → Gathers l ns d → Loads (loadOf d) walk c walk′
-      → Tracks (leadFor (Asks AskLoad) l (c .answer)) ns (c .session) (loadStep x d .next) × (linesFor (Asks AskLoad) l (c .answer) walk′ ≡ loadStep x d .lines)
+      → Tracks (leadFor (Asks AskLoad) l (c .answer)) ns (c .session) (loadStep x d .next) × (linesFor (Asks AskLoad) l (c .answer) reply walk′ ≡ loadStep x d .lines)
   load-by accepted l d k g lo =
-      let w = load-lines accepted l ns d walk (c .answer) walk′ k g (lo .answers) in
+      let w = load-lines accepted l ns d walk (c .answer) reply walk′ k g (lo .answers) in
       ((ap (λ (b : Bool). cond b Over Playing) (w .0), lo .holds k), w .1)
   load-by (refused n) l d k g lo =
-      let w = load-lines (refused n) l ns d walk (c .answer) walk′ k g (lo .answers) in
+      let w = load-lines (refused n) l ns d walk (c .answer) reply walk′ k g (lo .answers) in
       (ap (λ (b : Bool). cond b Over Playing) (w .0), w .1)
 
   comes-load : (l : Lead) (d : Draft) → Gathers l ns d → length walk ≡ room → Comes l (loading l) (loadStep (loadTrial (loadOf d) room) d)
-  comes-load l d g e w =
+  comes-load l d g e w v =
       load-by (loadTrial (loadOf d) room) l d (ap (loadTrial (loadOf d)) e) g (rw (gathered-is l ns d g) at w)
 
   -- ---- by what is held
@@ -302,6 +320,7 @@ module _ (ns walk : List ℕ) (s : Session) (c : Outcome) (walk′ : List ℕ) w
   comes-requested (R.Change op) l p h e = comes-change op l p (h .0) (h .1) e
   comes-requested R.Begin l p h e = comes-quiet l _ (batching p []) (record { stage = refl; count = refl; lines = refl }, h .1)
   comes-requested R.End l p h e = comes-refusing l Playing l 1 (playing p) (refl, h .1)
+  comes-requested (R.Question q) l p h e = comes-question q l p (h .0) (h .1)
   comes-requested R.Unknown l p h e = comes-refusing l Playing l 1 (playing p) (refl, h .1)
 
   line-after-go : (l : Lead) (r : Record) (p : Play) → Tracks l ns s (playing p) → length walk ≡ room → Comes l (askedAfter l r) (afterGo p r)
@@ -396,21 +415,21 @@ module _ (ns walk : List ℕ) (s : Session) (c : Outcome) (walk′ : List ℕ) w
             let goal : batchStep (requestOf r) p xs ≡ quiet (batching p (xs ++ (new ∷ []))) = i .stays b p xs ∙ ap (λ (x : BatchLine). quiet (batching p (xs ++ (x ∷ [])))) (sym line) in
             subst⁻¹ (λ (x : Bool × Step). Comes l (cond (x .0) (endingPlan l) (holding l)) (x .1)) (λ j. (b j, goal j)) (comes-held k b)
 
-by-stage : (l : Lead) (r : Record) (ns : List ℕ) (s : Session) (walk : List ℕ) (c : Outcome) (walk′ : List ℕ) (g : Stage) (u : Step) → l .stage ≡ g
-    → Comes ns walk s c walk′ l (askedAt g l r) u → Comes ns walk s c walk′ l (asked l r) u
+by-stage : (l : Lead) (r : Record) (ns : List ℕ) (s : Session) (walk : List ℕ) (c : Outcome) (reply : Reply) (walk′ : List ℕ) (g : Stage) (u : Step) → l .stage ≡ g
+    → Comes ns walk s c reply walk′ l (askedAt g l r) u → Comes ns walk s c reply walk′ l (asked l r) u
 unfolding asked
-by-stage l r ns s walk c walk′ g u h k = subst⁻¹ (λ (x : Stage). Comes ns walk s c walk′ l (askedAt x l r) u) h k
+by-stage l r ns s walk c reply walk′ g u h k = subst⁻¹ (λ (x : Stage). Comes ns walk s c reply walk′ l (askedAt x l r) u) h k
 
 -- One line: where the lead, the list and the session stand for what is held, they do so behind the line, and the lines told are the step's.
-pub stepped : (l : Lead) (ns : List ℕ) (s : Session) (p : Held) (walk : List ℕ) (r : Record) (ns′ : List ℕ) (c : Outcome) (walk′ : List ℕ)
-    → length ns ≡ numbersMost → length walk ≡ room → Tracks l ns s p → ns′ ≡ filed l r ns → Follows (asked l r .task) l ns′ s walk c walk′
+pub stepped : (l : Lead) (ns : List ℕ) (s : Session) (p : Held) (walk : List ℕ) (r : Record) (ns′ : List ℕ) (c : Outcome) (reply : Reply) (walk′ : List ℕ)
+    → length ns ≡ numbersMost → length walk ≡ room → Tracks l ns s p → ns′ ≡ filed l r ns → Follows (asked l r .task) l ns′ s walk c walk′ → Replied (asked l r .task) (c .session) reply
     → Tracks (leadFor (asked l r .task) (asked l r .lead) (c .answer)) ns′ (c .session) (step p r .next)
-    × (linesFor (asked l r .task) (asked l r .lead) (c .answer) walk′ ≡ step p r .lines)
+    × (linesFor (asked l r .task) (asked l r .lead) (c .answer) reply walk′ ≡ step p r .lines)
 unfolding asked step
-stepped l ns s waiting walk r ns′ c walk′ n e h f w = by-stage l r ns′ s walk c walk′ Waiting (step waiting r) h (first-line ns′ walk s c walk′ l r) w
-stepped l ns s (gathering d) walk r ns′ c walk′ n e h f w =
-    by-stage l r ns′ s walk c walk′ Gathering (step (gathering d) r) (h .stage) (line-before-go ns′ walk s c walk′ ns l r d h f n e) w
-stepped l ns s (playing p) walk r ns′ c walk′ n e h f w = by-stage l r ns′ s walk c walk′ Playing (step (playing p) r) (h .0) (line-after-go ns′ walk s c walk′ l r p h e) w
-stepped l ns s (batching p xs) walk r ns′ c walk′ n e h f w =
-    by-stage l r ns′ s walk c walk′ Batching (step (batching p xs) r) (h .0 .stage) (line-inside ns′ walk s c walk′ ns l r p xs (h .0) f n (h .1) e) w
-stepped l ns s ended walk r ns′ c walk′ n e h f w = by-stage l r ns′ s walk c walk′ Over (step ended r) h (comes-quiet ns′ walk s c walk′ l l ended h) w
+stepped l ns s waiting walk r ns′ c reply walk′ n e h f w v = by-stage l r ns′ s walk c reply walk′ Waiting (step waiting r) h (first-line ns′ walk s c reply walk′ l r) w v
+stepped l ns s (gathering d) walk r ns′ c reply walk′ n e h f w v =
+    by-stage l r ns′ s walk c reply walk′ Gathering (step (gathering d) r) (h .stage) (line-before-go ns′ walk s c reply walk′ ns l r d h f n e) w v
+stepped l ns s (playing p) walk r ns′ c reply walk′ n e h f w v = by-stage l r ns′ s walk c reply walk′ Playing (step (playing p) r) (h .0) (line-after-go ns′ walk s c reply walk′ l r p h e) w v
+stepped l ns s (batching p xs) walk r ns′ c reply walk′ n e h f w v =
+    by-stage l r ns′ s walk c reply walk′ Batching (step (batching p xs) r) (h .0 .stage) (line-inside ns′ walk s c reply walk′ ns l r p xs (h .0) f n (h .1) e) w v
+stepped l ns s ended walk r ns′ c reply walk′ n e h f w v = by-stage l r ns′ s walk c reply walk′ Over (step ended r) h (comes-quiet ns′ walk s c reply walk′ l l ended h) w v

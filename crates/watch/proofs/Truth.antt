@@ -8,18 +8,18 @@ use native.Mathlib.Omega.{arith}
 use Rattle.plain.specs.Search.{none, lasso, unfinished}
 use Rattle.plain.specs.Table.{Table}
 use Rattle.plain.specs.Refusals.{Trial, accepted, refused, loadTrial, full}
-use Rattle.plain.specs.Machine.{BatchLine, Update, single, batch, applied, Answer, refusal, answer, answerLine, loadAnswer, tableOf, Call, trialOf, answerTo, tableAfter, after, Line, gameLine, roundLine, noneLine, noLine}
+use Rattle.plain.specs.Machine.{BatchLine, Update, single, batch, applied, Answer, refusal, answer, answerLine, loadAnswer, tableOf, Call, trialOf, answerTo, tableAfter, after, Line, gameLine, roundLine, noneLine, noLine, waysLine}
 use Rattle.plain.specs.Claims.{Arises, loaded, LineTrue, NotNone}
 use Rattle.plain.proofs.Trials.{load-never-7}
 use Rattle.plain.proofs.Batches.{update-arises}
-use Rattle.plain.proofs.Answers.{load-told, call-told}
+use Rattle.plain.proofs.Answers.{load-told, call-told, reply-told}
 use Rattle.plain.proofs.Loops.{loop-told}
 use Rattle.line.specs.Fields.{linesOf}
 use Rattle.line.specs.Records.{recordOf}
 use Rattle.line.specs.Words.{isWord}
 use Rattle.line.specs.declared.Word.the-variants.{Game, Pay, Move, Go}
 use Rattle.line.specs.declared.Record.{Record}
-use Rattle.watch.specs.Text.{Draft, Play, playOf, Held, waiting, gathering, playing, batching, ended, Step, stop, empty, room, loadStep, loadOf, callOn, updateStep, Request, changing, beginning, ending, unknown, requestOf, playStep, batchStep, atFirst, beforeGo, afterGo, inBatch, step, counted}
+use Rattle.watch.specs.Text.{Draft, Play, playOf, Held, waiting, gathering, playing, batching, ended, Step, stop, empty, room, loadStep, loadOf, callOn, updateStep, Request, changing, beginning, ending, questioning, unknown, requestOf, playStep, batchStep, atFirst, beforeGo, afterGo, inBatch, step, counted}
 use Rattle.watch.specs.Truth.{Verdictless, Says, SaysLoop, All, EachLine, True}
 
 -- the table that is held is one that a session can hold
@@ -74,12 +74,14 @@ play-right : (q : Request) (p : Play) → Arises (p .table) → Right (playStep 
 play-right (changing c) p a = update-right (single c) p a
 play-right beginning p a = (tt, a)
 play-right ending p a = ((early 1 (omega arith), tt), a)
+play-right (questioning q) p a = ((reply-told q (p .table), tt), a)
 play-right unknown p a = ((early 1 (omega arith), tt), a)
 
 batch-right : (q : Request) (p : Play) (xs : List BatchLine) → Arises (p .table) → Right (batchStep q p xs)
 batch-right (changing c) p xs a = (tt, a)
 batch-right beginning p xs a = (tt, a)
 batch-right ending p xs a = update-right (batch xs) p a
+batch-right (questioning q) p xs a = (tt, a)
 batch-right unknown p xs a = (tt, a)
 
 -- ---- one line
@@ -112,6 +114,7 @@ no-verdict (gameLine size moves paying) h = tt
 no-verdict (roundLine spent kept stem cycle walk) h = tt
 no-verdict (noneLine spent kept) h = h
 no-verdict (noLine r) h = tt
+no-verdict (waysLine s leaving entering) h = tt
 
 says-loop : (l : Line) (p : Held) → Says l p → SaysLoop l p
 says-loop l waiting h = no-verdict l h

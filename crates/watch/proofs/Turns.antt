@@ -16,19 +16,20 @@ use Rattle.line.proofs.Fields.{lines-at, lines-none}
 use Rattle.answer.specs.Rendering.{render}
 use Rattle.verdict.specs.declared.Answer.{Answer}
 use Rattle.verdict.specs.Answers.{isRefused}
+use Rattle.question.specs.declared.Reply.{Reply}
 use Rattle.session.specs.declared.Session.{Session}
 use Rattle.session.specs.declared.Outcome.{Outcome}
 use Rattle.lead.specs.declared.Lead.{Lead}
 use Rattle.lead.specs.declared.Task.{Task}
 use Rattle.lead.specs.declared.Ask.{Ask}
 use Rattle.lead.specs.declared.Ask.the-variants.{Load as AskLoad, Update as AskUpdate}
-use Rattle.lead.specs.declared.Task.the-variants.{Nothing, Refuse, Ask as Asks}
+use Rattle.lead.specs.declared.Task.the-variants.{Nothing, Refuse, Ask as Asks, Question as Questions}
 use Rattle.lead.specs.declared.Plan.{Plan}
 use Rattle.lead.specs.Asked.{numbersMost, asked, filed, isOver}
 use Rattle.lead.proofs.Task.{the-type}
 use Rattle.watch.specs.Text.{Held, waiting, gathering, playing, batching, ended, room, step, printed}
 use Rattle.watch.specs.declared.Written.{Written}
-use Rattle.watch.specs.Model.{Serves, linesMost, linesFor, linesTold, Laid, Writes}
+use Rattle.watch.specs.Model.{Serves, Replied, linesMost, linesFor, linesTold, Laid, Writes}
 use Rattle.watch.proofs.Output.{AtMostTwo}
 use Rattle.watch.proofs.Steps.{Tracks, Follows, stepped}
 use Rattle.watch.proofs.Writing.{told-lines}
@@ -73,11 +74,12 @@ short-cond : (b : Bool) (x y z : Line) → AtMostTwo (cond b (x ∷ []) (y ∷ z
 short-cond true x y z = tt
 short-cond false x y z = tt
 
-pub short : (task : Task) (l : Lead) (answer : Answer) (walk : List ℕ) → AtMostTwo (linesFor task l answer walk)
-short Nothing l answer walk = tt
-short (Refuse n) l answer walk = tt
-short (Asks AskLoad) l answer walk = short-cond (isRefused answer) _ _ _
-short (Asks (AskUpdate asked)) l answer walk = tt
+pub short : (task : Task) (l : Lead) (answer : Answer) (reply : Reply) (walk : List ℕ) → AtMostTwo (linesFor task l answer reply walk)
+short Nothing l answer reply walk = tt
+short (Refuse n) l answer reply walk = tt
+short (Asks AskLoad) l answer reply walk = short-cond (isRefused answer) _ _ _
+short (Asks (AskUpdate asked)) l answer reply walk = tt
+short (Questions q) l answer reply walk = tt
 
 -- ---- what is asked of the session
 
@@ -91,11 +93,12 @@ module _ (l : Lead) (ns walk : List ℕ) (k : length walk ≡ room) (c : Outcome
       → Serves ask l ns s walk r w → Done task l ns s walk c walk′
   done-asked task ask s r w e f g h v = rw (e, f, g) (record { follows = v; size = h ∙ k })
 
-  -- the tags of the tasks that ask nothing
-  pub done-not : (task : Task) (c₀ : Outcome) → OneOf (0 ∷ 1 ∷ []) (tagOf the-type task) → walk′ ≡ walk → c ≡ c₀ → Done task l ns (c₀ .session) walk c walk′
+  -- the tags of the tasks that ask for no load and no call
+  pub done-not : (task : Task) (c₀ : Outcome) → OneOf (0 ∷ 1 ∷ 3 ∷ []) (tagOf the-type task) → walk′ ≡ walk → c ≡ c₀ → Done task l ns (c₀ .session) walk c walk′
   done-not Nothing c₀ o f g = record { follows = ap (λ (x : Outcome). x .session) g; size = ap length f ∙ k }
   done-not (Refuse n) c₀ o f g = record { follows = ap (λ (x : Outcome). x .session) g; size = ap length f ∙ k }
-  done-not (Asks ask) c₀ o f g = absurd (⊎-elim (λ z. omega arith) (λ z. omega arith) o)
+  done-not (Asks ask) c₀ o f g = absurd (⊎-elim (λ z. omega arith) (⊎-elim (λ z. omega arith) (λ z. omega arith)) o)
+  done-not (Questions q) c₀ o f g = record { follows = ap (λ (x : Outcome). x .session) g; size = ap length f ∙ k }
 
 -- ---- behind one line
 
@@ -105,20 +108,21 @@ pub record Behind (p : Held) (r : Record) (ns : List ℕ) (s : Session) (d d′ 
   pub laid : Laid (step p r .lines) d d′ (w .first) (w .len)
   pub few : AtMostTwo (step p r .lines)
 
--- the three functions of a line, one after the other
-module _ (l : Lead) (ns : List ℕ) (s : Session) (p : Held) (walk : List ℕ) (r : Record) (ns′ : List ℕ) (c : Outcome) (walk′ d d′ : List ℕ) (w : Written)
+-- the functions of a line, one after the other
+module _ (l : Lead) (ns : List ℕ) (s : Session) (p : Held) (walk : List ℕ) (r : Record) (ns′ : List ℕ) (c : Outcome) (reply : Reply) (walk′ d d′ : List ℕ) (w : Written)
     (n : length ns ≡ numbersMost) (k : length walk ≡ room) (b : length d ≡ linesMost) (h : Tracks l ns s p) (f : ns′ ≡ filed l r ns) where
-  behind-asked : Done (asked l r .task) l ns′ s walk c walk′ → Writes (asked l r) (c .answer) walk′ d d′ w → Behind p r ns′ (c .session) d d′ w
-  behind-asked v t =
+  behind-asked : Done (asked l r .task) l ns′ s walk c walk′ → Replied (asked l r .task) (c .session) reply → Writes (asked l r) (c .answer) reply walk′ d d′ w → Behind p r ns′ (c .session) d d′ w
+  behind-asked v x t =
       let q = asked l r in
-      let m = stepped l ns s p walk r ns′ c walk′ n k h f (v .follows) in
+      let m = stepped l ns s p walk r ns′ c reply walk′ n k h f (v .follows) x in
       let k′ = v .size in
-      let lines : linesTold q (c .answer) walk′ (length d) ≡ step p r .lines = sym (told-lines q (c .answer) walk′ (length d) (omega arith) (omega arith)) ∙ m .1 in
+      let lines : linesTold q (c .answer) reply walk′ (length d) ≡ step p r .lines = sym (told-lines q (c .answer) reply walk′ (length d) (omega arith) (omega arith)) ∙ m .1 in
       record {
         tracks = subst⁻¹ (λ (x : Lead). Tracks x ns′ (c .session) (step p r .next)) (t .goes) (m .0);
         laid = subst (λ (x : List Line). Laid x d d′ (w .first) (w .len)) lines (t .laid);
-        few = subst AtMostTwo (m .1) (short (q .task) (q .lead) (c .answer) walk′);
+        few = subst AtMostTwo (m .1) (short (q .task) (q .lead) (c .answer) reply walk′);
       }
 
-  pub behind : (plan : Plan) → plan ≡ asked l r → Done (plan .task) l ns′ s walk c walk′ → Writes plan (c .answer) walk′ d d′ w → Behind p r ns′ (c .session) d d′ w
-  behind plan e v t = behind-asked (subst (λ (x : Plan). Done (x .task) l ns′ s walk c walk′) e v) (subst (λ (x : Plan). Writes x (c .answer) walk′ d d′ w) e t)
+  pub behind : (plan : Plan) → plan ≡ asked l r → Done (plan .task) l ns′ s walk c walk′ → Replied (plan .task) (c .session) reply → Writes plan (c .answer) reply walk′ d d′ w → Behind p r ns′ (c .session) d d′ w
+  behind plan e v u t =
+      behind-asked (subst (λ (x : Plan). Done (x .task) l ns′ s walk c walk′) e v) (subst (λ (x : Plan). Replied (x .task) (c .session) reply) e u) (subst (λ (x : Plan). Writes x (c .answer) reply walk′ d d′ w) e t)

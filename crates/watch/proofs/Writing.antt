@@ -11,7 +11,7 @@ use lib.Dec.{leb}
 use lib.ListN.{length, getD, take}
 use lib.Seq.{length-take-le, take-all}
 use Rattle.plain.specs.Table.{accepts, acceptingCount}
-use Rattle.plain.specs.Machine.{atLine, numbered, Line as OutputLine, roundLine, noneLine, noLine}
+use Rattle.plain.specs.Machine.{atLine, numbered, Line as OutputLine, roundLine, noneLine, noLine, waysLine}
 use Rattle.marks.proofs.Counts.{count-le}
 use Rattle.answer.specs.Bytes.{overwritten, Put}
 use Rattle.answer.specs.Rendering.{render, rendered}
@@ -19,6 +19,9 @@ use Rattle.answer.proofs.Laws.{put-then, put-none, length-round}
 use Rattle.verdict.specs.declared.Answer.{Answer}
 use Rattle.verdict.specs.declared.Answer.the-variants.{Refused, Clear, Round}
 use Rattle.verdict.specs.Answers.{positionOf, refusalOf, shown}
+use Rattle.question.specs.declared.Reply.{Reply}
+use Rattle.question.specs.declared.Reply.the-variants as Reply
+use Rattle.question.specs.Replies.{replyShown}
 use Rattle.table.specs.declared.Refusal.{Refusal}
 use Rattle.table.specs.declared.Position.{Position}
 use Rattle.table.specs.declared.Position.the-variants.{Alone, Line}
@@ -91,6 +94,13 @@ unfolding shown
 said-round answer s k st c n m walk e f g =
     rw (e, f) (ap (roundLine s k st c) (take-least m walk ∙ ap (λ (j : ℕ). take j walk) g))
 
+-- the line of a reply
+pub replied-no : (reply : Reply) (n : ℕ) → reply ≡ Reply.Refused n → noLine (numbered n) ≡ replyShown reply
+replied-no reply n e = ap replyShown (sym e)
+
+pub replied-ways : (reply : Reply) (s leaving entering : ℕ) → reply ≡ Reply.Degrees s leaving entering → waysLine s leaving entering ≡ replyShown reply
+replied-ways reply s leaving entering e = ap replyShown (sym e)
+
 -- ---- where the lines lie
 
 pub no-lines : (d : List ℕ) → Laid [] d d 0 0
@@ -122,15 +132,15 @@ few-paying words = count-le 512 (accepts words)
 
 -- ---- by whether there is room
 
-module _ (p : Plan) (answer : Answer) (walk : List ℕ) (size : ℕ) where
-  pub told-lines : length walk ≤ room → linesMost ≤ size → linesFor (p .task) (p .lead) answer walk ≡ linesTold p answer walk size
+module _ (p : Plan) (answer : Answer) (reply : Reply) (walk : List ℕ) (size : ℕ) where
+  pub told-lines : length walk ≤ room → linesMost ≤ size → linesFor (p .task) (p .lead) answer reply walk ≡ linesTold p answer reply walk size
   unfolding linesTold
   told-lines h k = rw (le-leb (length walk) room h, le-leb linesMost size k)
 
-  pub long-walk : room < length walk → [] ≡ linesTold p answer walk size
+  pub long-walk : room < length walk → [] ≡ linesTold p answer reply walk size
   unfolding linesTold
   long-walk h = rw (lt-leb (length walk) room h)
 
-  pub short-buffer : size < linesMost → [] ≡ linesTold p answer walk size
+  pub short-buffer : size < linesMost → [] ≡ linesTold p answer reply walk size
   unfolding linesTold
   short-buffer h = rw (lt-leb linesMost size h, and-false (leb (length walk) room))

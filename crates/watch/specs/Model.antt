@@ -14,15 +14,18 @@ use Rattle.answer.specs.Rendering.{render, rendered}
 use Rattle.verdict.specs.declared.Answer.{Answer}
 use Rattle.verdict.specs.declared.Answer.the-variants.{Refused}
 use Rattle.verdict.specs.Answers.{isRefused, shown}
+use Rattle.question.specs.declared.Reply.{Reply}
+use Rattle.question.specs.declared.Reply.the-variants as Reply
+use Rattle.question.specs.Replies.{questionOf, replyShown}
 use Rattle.session.specs.declared.Session.{Session}
 use Rattle.session.specs.declared.Outcome.{Outcome}
-use Rattle.session.specs.Promises.{updateOf, Loads, Updates}
+use Rattle.session.specs.Promises.{updateOf, Loads, Updates, Replies}
 use Rattle.lead.specs.declared.Stage.the-variants.{Playing, Over}
 use Rattle.lead.specs.declared.Lead.{Lead}
 use Rattle.lead.specs.declared.Ask.{Ask}
 use Rattle.lead.specs.declared.Ask.the-variants.{Load as AskLoad, Update as AskUpdate}
 use Rattle.lead.specs.declared.Task.{Task}
-use Rattle.lead.specs.declared.Task.the-variants.{Nothing, Refuse, Ask as Asks}
+use Rattle.lead.specs.declared.Task.the-variants.{Nothing, Refuse, Ask as Asks, Question as Questions}
 use Rattle.lead.specs.declared.Plan.{Plan}
 use Rattle.lead.specs.Asked.{staged}
 use Rattle.watch.specs.declared.Written.{Written}
@@ -43,6 +46,13 @@ abbrev pub Serves : Ask → Lead → List ℕ → Session → List ℕ → Outco
 Serves AskLoad l ns s walk r walk′ = Loads (gathered l ns) walk r walk′
 Serves (AskUpdate asked) l ns s walk r walk′ = Updates (updateOf asked (numbersHeld l ns)) s walk r walk′
 
+-- By what is to be done, what is replied: to a question what the session promises of it; elsewhere nothing, and the 0 that stands for it is not told.
+abbrev pub Replied : Task → Session → Reply → Type 0
+Replied Nothing s r = r ≡ Reply.Refused 0
+Replied (Refuse refusal) s r = r ≡ Reply.Refused 0
+Replied (Asks ask) s r = r ≡ Reply.Refused 0
+Replied (Questions q) s r = Replies (questionOf q) s r
+
 -- ---- the lines that tell it
 
 -- the lines that tell an answer have no more bytes
@@ -59,16 +69,17 @@ linesOfLoad l answer walk = cond (isRefused answer) (shown answer walk ∷ [])
     (gameLine (l .size) (l .count / 2) (acceptingCount (l .words)) ∷ shown answer walk ∷ [])
 
 -- a line that is refused as it is read is told by its plan alone
-abbrev pub linesFor : Task → Lead → Answer → List ℕ → List Line
-linesFor Nothing l answer walk = []
-linesFor (Refuse refusal) l answer walk = shown (Refused refusal) walk ∷ []
-linesFor (Asks AskLoad) l answer walk = linesOfLoad l answer walk
-linesFor (Asks (AskUpdate asked)) l answer walk = shown answer walk ∷ []
+abbrev pub linesFor : Task → Lead → Answer → Reply → List ℕ → List Line
+linesFor Nothing l answer reply walk = []
+linesFor (Refuse refusal) l answer reply walk = shown (Refused refusal) walk ∷ []
+linesFor (Asks AskLoad) l answer reply walk = linesOfLoad l answer walk
+linesFor (Asks (AskUpdate asked)) l answer reply walk = shown answer walk ∷ []
+linesFor (Questions q) l answer reply walk = replyShown reply ∷ []
 
--- The lines told of a plan and an answer, with the list of the walk, in a buffer of so many bytes. Where that list is longer than the box's own, or the
+-- The lines told of a plan, an answer and a reply, with the list of the walk, in a buffer of so many bytes. Where that list is longer than the box's own, or the
 -- buffer too short for some answer, none is told.
-unfoldable pub linesTold : Plan → Answer → List ℕ → ℕ → List Line
-linesTold p answer walk size = cond (leb (length walk) room && leb linesMost size) (linesFor (p .task) (p .lead) answer walk) []
+unfoldable pub linesTold : Plan → Answer → Reply → List ℕ → ℕ → List Line
+linesTold p answer reply walk size = cond (leb (length walk) room && leb linesMost size) (linesFor (p .task) (p .lead) answer reply walk) []
 
 -- "A refusal up to and with `go` .. ends the program"
 abbrev pub leadLoaded : Lead → Answer → Lead
@@ -79,6 +90,7 @@ leadFor Nothing l answer = l
 leadFor (Refuse refusal) l answer = l
 leadFor (Asks AskLoad) l answer = leadLoaded l answer
 leadFor (Asks (AskUpdate asked)) l answer = l
+leadFor (Questions q) l answer = l
 
 -- the first line's bytes
 abbrev pub firstOf : List Line → List ℕ
@@ -92,9 +104,9 @@ pub record Laid (ls : List Line) (out out′ : List ℕ) (first len : ℕ) : Typ
   pub ends : len ≡ length (rendered ls)
 
 -- what `write` does: the lines told, and what is held behind the line
-pub record Writes (p : Plan) (answer : Answer) (walk out out′ : List ℕ) (r : Written) : Type 0 where
+pub record Writes (p : Plan) (answer : Answer) (reply : Reply) (walk out out′ : List ℕ) (r : Written) : Type 0 where
   pub goes : r .lead ≡ leadFor (p .task) (p .lead) answer
-  pub laid : Laid (linesTold p answer walk (length out)) out out′ (r .first) (r .len)
+  pub laid : Laid (linesTold p answer reply walk (length out)) out out′ (r .first) (r .len)
 
 -- how many bytes of at most two lines fit whole
 unfoldable pub fits : ℕ → ℕ → ℕ → ℕ

@@ -10,10 +10,11 @@ use Rattle.plain.specs.Search.{Edge}
 use Rattle.plain.specs.Table.{Table, withMark, acceptingCount}
 use Rattle.plain.specs.Refusals.{Trial, accepted, refused, flat, Load, loadTrial, full}
 use Rattle.plain.specs.Machine.{Change, add, cut, mark, unmark, BatchLine, makes, other, Update, single, batch, Call, numbered, tableOf, loadAnswer, answerTo, tableAfter, Line, gameLine, noLine, answerLine}
+use Rattle.plain.specs.Questions.{Question, ways, replyTo, replyLine}
 use Rattle.line.specs.Fields.{newline, linesOf}
 use Rattle.line.specs.Words.{isWord}
 use Rattle.line.specs.Records.{recordOf}
-use Rattle.line.specs.declared.Word.the-variants.{Game, Pay, Move, Go, Add, Cut, Mark, Unmark, Begin, End}
+use Rattle.line.specs.declared.Word.the-variants.{Game, Pay, Move, Go, Add, Cut, Mark, Unmark, Begin, End, Ways}
 use Rattle.line.specs.declared.Record.{Record}
 use Rattle.answer.specs.Bytes.{overwritten}
 use Rattle.answer.specs.Rendering.{render}
@@ -111,14 +112,20 @@ callOn u = record { update = u; room = room }
 abbrev pub updateStep : Update → Play → Step
 updateStep u p = record { lines = answerLine (answerTo (callOn u) (p .table)); next = playing (playOf (tableAfter (callOn u) (p .table))) }
 
--- What a line after `go` requests: a change, the begin or the end of a batch, or nothing that is known there. Tickets of document 02 add to it.
+-- document 02, ticket 8: one line for each question, which leaves all as it is
+abbrev pub questionStep : Question → Play → Step
+questionStep q p = record { lines = replyLine (replyTo q (p .table)) ∷ []; next = playing p }
+
+-- What a line after `go` requests: a change, the begin or the end of a batch, a question's reply, or nothing that is known there. Tickets of document 02 add to it.
 pub data Request : Type 0 where
   changing : Change → Request
   beginning : Request
   ending : Request
+  questioning : Question → Request
   unknown : Request
 
--- ".. then `add` and `cut`", "(from, to)"; document 02, ticket 2: "Lines `mark` and `unmark` name a state"; ticket 5: `begin` and `end`
+-- ".. then `add` and `cut`", "(from, to)"; document 02, ticket 2: "Lines `mark` and `unmark` name a state"; ticket 5: `begin` and `end`; ticket 8: "A line `ways` with a
+-- state"
 unfoldable pub requestOf : Record → Request
 requestOf r =
     cond (isWord (r .word) Add) (changing (add (r .first, r .second)))
@@ -127,13 +134,15 @@ requestOf r =
     (cond (isWord (r .word) Unmark) (changing (unmark (r .first)))
     (cond (isWord (r .word) Begin) beginning
     (cond (isWord (r .word) End) ending
-    unknown)))))
+    (cond (isWord (r .word) Ways) (questioning (ways (r .first)))
+    unknown))))))
 
 -- "after `go` the next line is read": an `end` outside a batch is misplaced
 abbrev pub playStep : Request → Play → Step
 playStep (changing c) p = updateStep (single c) p
 playStep beginning p = quiet (batching p [])
 playStep ending p = noStep 1 (playing p)
+playStep (questioning q) p = questionStep q p
 playStep unknown p = noStep 1 (playing p)
 
 unfoldable pub afterGo : Play → Record → Step
@@ -145,6 +154,7 @@ abbrev pub batchStep : Request → Play → List BatchLine → Step
 batchStep (changing c) p xs = quiet (batching p (xs ++ (makes c ∷ [])))
 batchStep beginning p xs = quiet (batching p (xs ++ (other ∷ [])))
 batchStep ending p xs = updateStep (batch xs) p
+batchStep (questioning q) p xs = quiet (batching p (xs ++ (other ∷ [])))
 batchStep unknown p xs = quiet (batching p (xs ++ (other ∷ [])))
 
 unfoldable pub inBatch : Play → List BatchLine → Record → Step

@@ -5,6 +5,7 @@ use lead::Plan;
 use lead::Stage;
 use lead::Task;
 use lead::staged;
+use question::Reply;
 use rows::wide;
 use session::Outcome;
 use session::Session;
@@ -20,7 +21,8 @@ ghost use Rattle.answer.specs.Rendering.{render};
 ghost use Rattle.plain.specs.Machine.{noLine};
 ghost use Rattle.verdict.specs.Answers.{shown, refusalOf};
 ghost use Rattle.session.specs.Model.{noGame};
-ghost use Rattle.watch.specs.Model.{Serves, gameMost, linesMost, linesFor, linesOfLoad, leadLoaded, leadFor, Laid, Writes, fits};
+ghost use Rattle.question.specs.Replies.{replyShown};
+ghost use Rattle.watch.specs.Model.{Serves, Replied, gameMost, linesMost, linesFor, linesOfLoad, leadLoaded, leadFor, Laid, Writes, fits};
 ghost use Rattle.watch.specs.Text.{room, counted, outputOf, outputMost, Fitted, Watched};
 
 // "An input of more than 4,294,967,295 bytes counts as ending behind the last newline among these."
@@ -77,6 +79,16 @@ pub fn serve(s: Session, lead: Lead, ask: Ask, numbers: &[u16], walk: &mut [u16]
     }
 }
 
+// What the session replies, where a question is asked of it.
+pub fn reply_to(s: Session, task: Task) -> Reply
+    ensures { λ r. ⌜ Replied task s r ⌝ }
+{
+    if let Task::Question(question) = task {
+        return session::ask(s, question);
+    }
+    Reply::Refused(0)
+}
+
 // Puts the line of a refusal at a place.
 fn put_refusal(out: &mut [u8], at: usize, refusal: Refusal) -> usize
     requires { ⌜ (at ≤ gameMost) × (linesMost ≤ length (now out)) ⌝ }
@@ -118,6 +130,21 @@ fn put_one(answer: Answer, walk: &[u16], out: &mut [u8]) -> LineLengths
     LineLengths { first: n, len: n }
 }
 
+// Puts the line of a reply at the head of a buffer.
+fn put_reply(out: &mut [u8], reply: Reply) -> usize
+    requires { ⌜ linesMost ≤ length (now out) ⌝ }
+    ensures { λ r. ⌜ Put (now (out .entry)) 0 (render (replyShown reply)) (now (out .exit)) r ⌝ }
+{
+    match reply {
+        Reply::Refused(number) => answer::put_no(out, 0, number),
+        Reply::Degrees {
+            state,
+            leaving,
+            entering,
+        } => answer::put_ways(out, 0, state, leaving, entering),
+    }
+}
+
 // The lines of a load: `game` and the answer, or the refusal.
 fn put_load(lead: Lead, answer: Answer, walk: &[u16], out: &mut [u8]) -> LineLengths
     requires { ⌜ (length (now walk) ≤ room) × (linesMost ≤ length (now out)) ⌝ }
@@ -134,9 +161,9 @@ fn put_load(lead: Lead, answer: Answer, walk: &[u16], out: &mut [u8]) -> LineLen
 }
 
 // The lines that tell what came of a line.
-fn put_lines(plan: Plan, answer: Answer, walk: &[u16], out: &mut [u8]) -> LineLengths
+fn put_lines(plan: Plan, answer: Answer, reply: Reply, walk: &[u16], out: &mut [u8]) -> LineLengths
     requires { ⌜ (length (now walk) ≤ room) × (linesMost ≤ length (now out)) ⌝ }
-    ensures { λ r. ⌜ Laid (linesFor (plan .task) (plan .lead) answer (now (walk .entry))) (now (out .entry)) (now (out .exit)) (r .first) (r .len) ⌝ }
+    ensures { λ r. ⌜ Laid (linesFor (plan .task) (plan .lead) answer reply (now (walk .entry))) (now (out .entry)) (now (out .exit)) (r .first) (r .len) ⌝ }
 {
     let lead = plan.lead;
     let task = plan.task;
@@ -147,6 +174,10 @@ fn put_lines(plan: Plan, answer: Answer, walk: &[u16], out: &mut [u8]) -> LineLe
             Ask::Load => put_load(lead, answer, walk, out),
             Ask::Update(asked) => put_one(answer, walk, out),
         },
+        Task::Question(question) => {
+            let n = put_reply(out, reply);
+            LineLengths { first: n, len: n }
+        }
     }
 }
 
@@ -173,18 +204,19 @@ fn lead_behind(plan: Plan, answer: Answer) -> Lead
             Ask::Load => lead_loaded(lead, answer),
             Ask::Update(asked) => lead,
         },
+        Task::Question(question) => lead,
     }
 }
 
 // The lines that tell what came of a line, at the head of a buffer, and what is held behind it. Where the buffer is shorter than LINES bytes, or the walk
 // longer than WALK entries, no line is told.
-pub fn write(plan: Plan, answer: Answer, walk: &[u16], out: &mut [u8]) -> Written
-    ensures { λ r. ⌜ Writes plan answer (now (walk .entry)) (now (out .entry)) (now (out .exit)) r ⌝ }
+pub fn write(plan: Plan, answer: Answer, reply: Reply, walk: &[u16], out: &mut [u8]) -> Written
+    ensures { λ r. ⌜ Writes plan answer reply (now (walk .entry)) (now (out .entry)) (now (out .exit)) r ⌝ }
 {
     let mut n = LineLengths { first: 0, len: 0 };
     if walk.len() <= WALK {
         if LINES <= out.len() {
-            n = put_lines(plan, answer, walk, out);
+            n = put_lines(plan, answer, reply, walk, out);
         }
     }
     Written {
@@ -227,7 +259,8 @@ fn watch_text(text: &[u8], out: &mut [u8], space: usize) -> u64
             c = serve(c.session, lead, ask, &numbers, &mut walk);
         }
         let answer = c.answer;
-        let w = write(plan, answer, &walk, &mut lines);
+        let reply = reply_to(c.session, task);
+        let w = write(plan, answer, reply, &walk, &mut lines);
         let len = w.len;
         let n = fitting(space - at, w.first, len);
         at = answer::put(out, at, &lines[..n]);
