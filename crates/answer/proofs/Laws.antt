@@ -12,7 +12,7 @@ use lib.Dec.{ltb}
 use lib.ListN.{length, getD, take, drop, set, length-append, length-drop, take-append-drop}
 use lib.Seq.{length-take-le, take-append-seam, drop-append-add, drop-drop, take-length, set-split, paste}
 use Rattle.plain.proofs.Tests.{and-true}
-use Rattle.plain.specs.Machine.{numbered, atLine, gameLine, roundLine, noneLine, noLine}
+use Rattle.plain.specs.Machine.{numbered, atLine, gameLine, roundLine, noneLine, noLine, waysLine}
 use Rattle.line.specs.Fields.{bytes, newline}
 use Rattle.line.specs.Numbers.{all, isDigit, valueFrom, value, leadingZero, isNumber}
 use Rattle.answer.specs.Bytes.{overwritten, Put}
@@ -269,3 +269,7 @@ length-no n p = length-line (bytes "no") (n ∷ []) (short-cons p short-nil .bel
 pub length-no-at : (n i : ℕ) → n < 65536 → i < 65536 → length (render (noLine (record { number = n; position = atLine i }))) ≤ 15
 unfolding render bytes
 length-no-at n i p q = length-line (bytes "no") (n ∷ i ∷ []) (short-cons p (short-cons q short-nil) .below)
+
+pub length-ways : (s leaving entering : ℕ) → s < 65536 → leaving < 65536 → entering < 65536 → length (render (waysLine s leaving entering)) ≤ 23
+unfolding render bytes
+length-ways s leaving entering p q r = length-line (bytes "ways") (s ∷ leaving ∷ entering ∷ []) (short-cons p (short-cons q (short-cons r short-nil)) .below)

@@ -47,27 +47,26 @@ enum Resumption {
 // stem and length are those of the last walk (0: none), height that of the open path at the search's end, total counts its probes.
 // The numbers stand between the arrays, and the longest array last: so the compiler takes the struct apart, which saves copies and stack (docs/DECISIONS.md, 106).
 pub struct Session {
-    words: [u64; 8],
     size: u16,
-    // where the row of each state starts
-    starts: [u16; 513],
-    start: u16,
-    // by state: how many moves enter it
-    indegree: [u16; 512],
-    stem: u16,
     // by state: discovery number, parent, index of the edge in the parent's row, probes by then
     number: [u16; 512],
     parent: [u16; 512],
-    length: u16,
+    start: u16,
     index: [u16; 512],
     probes: [u16; 512],
-    height: u16,
     // by state: how many states were discovered when it was marked
     stamp: [u16; 512],
-    total: u16,
+    stem: u16,
     // the open path at the search's end, and behind it the rest of the walk
     walk: [u16; 512],
+    length: u16,
+    words: [u64; 8],
+    height: u16,
+    // by state: how many moves enter it
+    indegree: [u16; 512],
     // the moves as compressed rows
+    starts: [u16; 513],
+    total: u16,
     targets: [u16; 2048],
 }
 

@@ -21,6 +21,9 @@ lead-loaded-requires c κs = search needs
 enum-known-ask : tie.Need-enum-known-ask
 enum-known-ask c = search needs
 
+enum-known-task-3 : tie.Need-enum-known-task-3
+enum-known-task-3 c = search needs
+
 returns : tie.Need-returns
 returns c = search needs
 
@@ -34,6 +37,9 @@ returns-3 c = let t = c .before in
 returns-4 : tie.Need-returns-4
 returns-4 c = search needs
 
+returns-5 : tie.Need-returns-5
+returns-5 c = search needs
+
 pub lead-behind-spec : {M : Type 1} → statement M
 lead-behind-spec =
     tie.close
@@ -44,7 +50,9 @@ lead-behind-spec =
     enum-told-2
     lead-loaded-requires
     enum-known-ask
+    enum-known-task-3
     returns
     returns-2
     returns-3
-    returns-4)
+    returns-4
+    returns-5)

@@ -1,42 +1,51 @@
+-- `watch::put_reply`: the line of a reply.
+use Prim.Native.Nat.{_≤_}
+use native.Mathlib.Omega.{arith}
 use borrow.Author.Needs.{needs}
+use lib.ListN.{length}
+use Rattle.plain.specs.Machine.{numbered, noLine, waysLine}
+use Rattle.answer.specs.Rendering.{render}
+use Rattle.answer.proofs.Laws.{length-no, length-ways}
+use Rattle.watch.proofs.Writing.{put-as, replied-no, replied-ways}
 use Rattle.watch.proofs.put_reply.Statement.{statement}
 use Rattle.watch.proofs.put_reply.Tie as tie
-use Rattle.watch.proofs.put_reply.Reads as reads
-use Rattle.watch.proofs.put_reply.Lts as lts
-use Rattle.answer.proofs.put_no.Reads as put-no-reads
-use Rattle.answer.proofs.put_ways.Reads as put-ways-reads
 
--- src/lib.rt:139:24
 enum-known-reply : tie.Need-enum-known-reply
 enum-known-reply c = search needs
 
--- src/lib.rt:139:35
-put-no-requires : tie.Need-put-no-requires
-put-no-requires c κs = ?
+-- the bounds on the line
+no-short : (c : tie.After-put-no-arg) → length (render (noLine (numbered (c .before .before .reply .given .0 .0)))) ≤ 9
+no-short c = length-no (c .before .before .reply .given .0 .0) (search needs)
 
--- src/lib.rt:141:13
+put-no-requires : tie.Need-put-no-requires
+put-no-requires c κs = omega (arith, c .before .before .before .before .before .pre, no-short c)
+
 enum-known-reply-2 : tie.Need-enum-known-reply-2
 enum-known-reply-2 c = search needs
 
--- src/lib.rt:144:14
-put-ways-requires : tie.Need-put-ways-requires
-put-ways-requires c κs = ?
+ways-short : (c : tie.After-put-ways-arg) → let g = c .before .before .reply2 .given .0 in length (render (waysLine (g .0) (g .1 .0) (g .1 .1 .0))) ≤ 23
+ways-short c = let g = c .before .before .reply2 .given .0 in length-ways (g .0) (g .1 .0) (g .1 .1 .0) (search needs) (search needs) (search needs)
 
--- src/lib.rt:134:1
+put-ways-requires : tie.Need-put-ways-requires
+put-ways-requires c κs = omega (arith, c .before .before .before .before .before .pre, ways-short c)
+
 same-length : tie.Need-same-length
 same-length c = search needs
 
--- src/lib.rt:134:1
 returns : tie.Need-returns
-returns c = ?
+returns c =
+    let p = c .before .before in
+    let t = p .before .before .before in
+    put-as _ _ _ _ _ _ (replied-no (t .before .before .before .args .reply) _ (t .reply .given .1)) (p .put-no .ensures)
 
--- src/lib.rt:134:1
 same-length-2 : tie.Need-same-length-2
 same-length-2 c = search needs
 
--- src/lib.rt:134:1
 returns-2 : tie.Need-returns-2
-returns-2 c = ?
+returns-2 c =
+    let p = c .before .before in
+    let t = p .before .before .before in
+    put-as _ _ _ _ _ _ (replied-ways (t .before .before .before .args .reply) _ _ _ (t .reply2 .given .1)) (p .put-ways .ensures)
 
 pub put-reply-spec : {M : Type 1} → statement M
 put-reply-spec =

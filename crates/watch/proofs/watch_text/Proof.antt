@@ -12,9 +12,10 @@ use Rattle.line.specs.declared.Record.{Record}
 use Rattle.line.proofs.Fields.{end-within}
 use Rattle.answer.specs.Rendering.{render}
 use Rattle.lead.specs.declared.Lead.{Lead}
+use Rattle.lead.specs.declared.Task.{Task}
 use Rattle.lead.specs.Asked.{numbersMost}
 use Rattle.watch.specs.Text.{Held, waiting, room, step, outputOf}
-use Rattle.watch.specs.Model.{linesMost}
+use Rattle.watch.specs.Model.{Replied, linesMost}
 use Rattle.watch.proofs.Steps.{Tracks}
 use Rattle.watch.proofs.Output.{Rest, rest-start, rest-end, all-put, not-put, fits-within, laid-within, laid-first}
 use Rattle.watch.proofs.Turns.{toTell, turn, told-all, over-told, Done, done-asked, done-not, Behind, behind}
@@ -34,7 +35,7 @@ the-start l = l .before .before .before .before .before
 
 -- the places before a line's answer is written
 abbrev served : tie.After-write Inv-loop μ-loop → tie.At-match-came Inv-loop μ-loop
-served c = c .before .before .before
+served c = c .before .before .before .before
 
 abbrev reading : tie.After-write Inv-loop μ-loop → tie.After-read Inv-loop μ-loop
 reading c = served c .before .before
@@ -105,8 +106,15 @@ served-by c =
     (λ w. done-not (l .loop .lead) _ _ (l .loop .inv .3) _ _ (r .read .result .task) (l .loop .c) (w .0 .keys2) (w .1) (w .2))
     (c .match .came)
 
+-- and the task is what it was
+same-task : (c : tie.At-match-came Inv-loop μ-loop) → c .match .task ≡ c .before .before .read .result .task
+same-task c = ⊎-elim {C = c .match .task ≡ c .before .before .read .result .task} (λ w. w .9 ∙ sym (w .1 .given .1)) (λ w. w .3) (c .match .came)
+
+reply-to-requires : tie.Need-reply-to-requires Inv-loop μ-loop
+reply-to-requires c κs = search needs
+
 slice-aggregate-write : tie.Need-slice-aggregate-write Inv-loop μ-loop
-slice-aggregate-write c = sym (served-by (c .before) .size)
+slice-aggregate-write c = sym (served-by (c .before .before) .size)
 
 slice-aggregate-write-2 : tie.Need-slice-aggregate-write-2 Inv-loop μ-loop
 slice-aggregate-write-2 c = search needs
@@ -122,10 +130,10 @@ abbrev line-in : tie.After-write Inv-loop μ-loop → Record
 line-in c = recordOf (take (ending c .end-of .result - at-loop c .loop .from) (drop (at-loop c .loop .from) (the-start (at-loop c) .args .text .now)))
 
 told : (c : tie.After-write Inv-loop μ-loop)
-    → Behind (was c) (line-in c) (reading c .read .last .1 .0) (served c .match .c .session) (at-loop c .loop .lines) (c .write .last .1 .1 .1 .0) (c .write .result)
+    → Behind (was c) (line-in c) (reading c .read .last .1 .0) (served c .match .c .session) (at-loop c .loop .lines) (c .write .last .1 .1 .1 .1 .0) (c .write .result)
 told c =
     let i = at-loop c .loop .inv in
-    behind (at-loop c .loop .lead) _ _ (was c) _ (line-in c) _ _ _ _ _ _ (i .2) (i .3) (i .4) (i .5 .1 .0) (reading c .read .ensures .1) _ (reading c .read .ensures .0) (served-by (served c)) (c .write .ensures)
+    behind (at-loop c .loop .lead) _ _ (was c) _ (line-in c) _ _ _ _ _ _ _ (i .2) (i .3) (i .4) (i .5 .1 .0) (reading c .read .ensures .1) _ (reading c .read .ensures .0) (served-by (served c)) (subst (λ (x : Task). Replied x (served c .match .c .session) (c .before .before .before .reply-to .result)) (same-task (served c)) (c .before .before .before .reply-to .ensures)) (c .write .ensures)
 
 sub-fitting : tie.Need-sub-fitting Inv-loop μ-loop
 sub-fitting c = omega (arith, at-loop (c .before) .loop .inv .0)
@@ -146,7 +154,7 @@ array-share-prefix-lines : tie.Need-array-share-prefix-lines Inv-loop μ-loop
 array-share-prefix-lines c = omega (arith, sizes (c .before) .1, sizes (c .before) .2)
 
 -- the buffer keeps its length
-buffer : (c : tie.After-lines3 Inv-loop μ-loop) → c .before .before .fitting .result ≤ length (c .before .before .before .before .write .last .1 .1 .1 .0)
+buffer : (c : tie.After-lines3 Inv-loop μ-loop) → c .before .before .fitting .result ≤ length (c .before .before .before .before .write .last .1 .1 .1 .1 .0)
 buffer c =
     let f = c .before .before in
     let w = f .before .before in
@@ -154,8 +162,8 @@ buffer c =
 
 -- what is put has as many bytes as fit
 part-length : (c : tie.After-lines3 Inv-loop μ-loop)
-    → length (take (c .before .before .fitting .result) (c .before .before .before .before .write .last .1 .1 .1 .0)) ≡ c .before .before .fitting .result
-part-length c = length-take-le (c .before .before .fitting .result) (c .before .before .before .before .write .last .1 .1 .1 .0) (buffer c)
+    → length (take (c .before .before .fitting .result) (c .before .before .before .before .write .last .1 .1 .1 .1 .0)) ≡ c .before .before .fitting .result
+part-length c = length-take-le (c .before .before .fitting .result) (c .before .before .before .before .write .last .1 .1 .1 .1 .0) (buffer c)
 
 slice-aggregate-put : tie.Need-slice-aggregate-put Inv-loop μ-loop
 slice-aggregate-put c = sym (part-length c)
@@ -296,6 +304,7 @@ watch-text-spec =
     slice-aggregate-serve
     slice-aggregate-serve-2
     serve-requires
+    reply-to-requires
     slice-aggregate-write
     slice-aggregate-write-2
     write-requires

@@ -16,7 +16,7 @@ lead-behind-requires : tie.Need-lead-behind-requires
 lead-behind-requires c κs = search needs
 
 same-length : tie.Need-same-length
-same-length c = ⊎-elim (λ w. ap length (w .6) ∙ w .3 .kept .1 .1 .1 .0) (λ o. ⊎-elim (λ w. ap length (w .2)) (λ w. ap length (w .1)) o) (c .before .if1 .came)
+same-length c = ⊎-elim (λ w. ap length (w .6) ∙ w .3 .kept .1 .1 .1 .1 .0) (λ o. ⊎-elim (λ w. ap length (w .2)) (λ w. ap length (w .1)) o) (c .before .if1 .came)
 
 -- the lengths where no line is told
 abbrev nothing : LineLengths
