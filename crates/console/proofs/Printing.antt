@@ -7,6 +7,7 @@ use mathlib.Core.List.{List, [], _∷_, _++_, map, map-append, append-nil, appen
 use lib.ListN.{length, take}
 use Rattle.line.specs.Records.{recordOf}
 use Rattle.verdict.specs.declared.Answer.{Answer}
+use Rattle.question.specs.declared.Reply.{Reply}
 use Rattle.lead.specs.declared.Lead.{Lead}
 use Rattle.lead.specs.declared.Plan.{Plan}
 use Rattle.lead.specs.Asked.{asked}
@@ -89,10 +90,10 @@ printed r′ held′ buf′ seen ls d d′ first len c l = record {
   lines = laid-bytes _ d d′ first len l;
 }
 
-pub told-bytes : (line : List ℕ) (lead : Lead) (plan : Plan) (answer : Answer) (walk d d′ : List ℕ) (w : Written) → length d ≡ linesMost → plan ≡ asked lead (recordOf line)
-    → Writes plan answer walk d d′ w → take (w .len) d′ ≡ bytesTold line lead answer walk
+pub told-bytes : (line : List ℕ) (lead : Lead) (plan : Plan) (answer : Answer) (reply : Reply) (walk d d′ : List ℕ) (w : Written) → length d ≡ linesMost → plan ≡ asked lead (recordOf line)
+    → Writes plan answer reply walk d d′ w → take (w .len) d′ ≡ bytesTold line lead answer reply walk
 unfolding bytesTold
-told-bytes line lead plan answer walk d d′ w e f t =
+told-bytes line lead plan answer reply walk d d′ w e f t =
     laid-bytes _ d d′ (w .first) (w .len) (t .laid) ∙ rw (e, f)
 
 pub one-behind : (ls : List (List ℕ)) (l : List ℕ) → step (heldBehind waiting (map recordOf ls)) (recordOf l) .next ≡ heldBehind waiting (map recordOf (ls ++ (l ∷ [])))

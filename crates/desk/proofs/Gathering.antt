@@ -15,7 +15,9 @@ use Rattle.plain.proofs.Tests.{contra}
 use Rattle.line.specs.Words.{isWord}
 use Rattle.line.specs.declared.Word.the-variants.{Game, Pay, Move, Go}
 use Rattle.line.specs.declared.Record.{Record}
-use Rattle.table.specs.declared.Refusal.{Refusal}
+use Rattle.question.specs.declared.Question.{Question}
+use Rattle.question.specs.declared.Reply.{Reply}
+use Rattle.question.specs.declared.Reply.the-variants as Reply
 use Rattle.verdict.specs.declared.Answer.{Answer}
 use Rattle.verdict.specs.Answers.{isRefused, LoadAnswered}
 use Rattle.session.specs.Model.{noGame}
@@ -23,13 +25,14 @@ use Rattle.lead.specs.declared.Stage.{Stage}
 use Rattle.lead.specs.declared.Stage.the-variants.{Playing, Over}
 use Rattle.lead.specs.declared.Lead.{Lead}
 use Rattle.lead.specs.declared.Ask.{Ask}
+use Rattle.lead.specs.declared.Ask.the-variants.{Load as AskLoad}
 use Rattle.lead.specs.declared.Task.{Task}
-use Rattle.lead.specs.declared.Task.the-variants.{Nothing, Refuse, Ask as Asks}
+use Rattle.lead.specs.declared.Task.the-variants.{Nothing, Refuse, Ask as Asks, Question as Questions}
 use Rattle.lead.specs.declared.Plan.{Plan}
 use Rattle.lead.specs.Asked.{numbersMost, noTask, refusing, loading, isFull, askedFirst, askedMove, askedBefore, askedAt, asked, filed}
 use Rattle.watch.specs.declared.Written.{Written}
 use Rattle.watch.specs.Text.{Draft, Held, waiting, gathering, playing, batching, ended, Step, room, empty, loadOf, loadStep, beforeGo, step}
-use Rattle.watch.specs.Model.{linesMost, gathered, linesFor, leadFor, linesTold, Laid, Writes}
+use Rattle.watch.specs.Model.{linesMost, gathered, Replied, linesFor, leadFor, linesTold, Laid, Writes}
 use Rattle.watch.proofs.Steps.{Gathers, Tracks, Follows, count-empty, count-full, gathered-is, still-gathers, load-lines, stepped}
 use Rattle.watch.proofs.Writing.{told-lines}
 use Rattle.watch.proofs.Serving.{same-numbers}
@@ -40,19 +43,21 @@ abbrev pub Searched : Task → Lead → List ℕ → List ℕ → Answer → Lis
 Searched Nothing l ns walk a walk′ = Unit {0}
 Searched (Refuse refusal) l ns walk a walk′ = Unit {0}
 Searched (Asks ask) l ns walk a walk′ = LoadAnswered (gathered l ns) walk a walk′
+Searched (Questions question) l ns walk a walk′ = Unit {0}
 
-no-ask : {A : Type 0} {ask : Ask} → Nothing ≡ Asks ask → A
-no-ask e = let z : _≡_ {A = ℕ} 0 1 = cc in absurd (omega arith)
-
-no-answer : {A : Type 0} {refusal : Refusal} {ask : Ask} → Refuse refusal ≡ Asks ask → A
-no-answer e = let z : _≡_ {A = ℕ} 0 1 = cc in absurd (omega arith)
+-- a task that asks something of a session
+abbrev Asking : Task → Type 0
+Asking Nothing = ⊥
+Asking (Refuse refusal) = ⊥
+Asking (Asks ask) = Unit {0}
+Asking (Questions question) = Unit {0}
 
 -- ---- up to `go`, what asks anything asks for the load of what is gathered
 
 module _ (l : Lead) (r : Record) where
   -- a plan that asks anything, and the step of its line: the load's
   abbrev Only : Draft → Plan → Step → Type 0
-  Only d p u = (ask : Ask) → p .task ≡ Asks ask → (p ≡ loading l) × (u ≡ loadStep (loadTrial (loadOf d) room) d)
+  Only d p u = Asking (p .task) → (p ≡ loading l) × (u ≡ loadStep (loadTrial (loadOf d) room) d)
 
   only-cond : (d : Draft) (b : Bool) (p q : Plan) (u v : Step) → Only d p u → Only d q v → Only d (cond b p q) (cond b u v)
   only-cond d true p q u v h k = h
@@ -61,14 +66,14 @@ module _ (l : Lead) (r : Record) where
   before-go : (ns : List ℕ) (d : Draft) → Gathers l ns d → Only d (askedBefore l r) (beforeGo d r)
   unfolding askedBefore askedMove beforeGo
   before-go ns d g = rw (count-empty (l .count) (d .moves) (g .count)) (only-cond d (isWord (r .word) Pay && empty (d .moves)) _ _ _ _
-      (λ ask e. no-ask e)
+      (λ w. absurd w)
       (only-cond d (isWord (r .word) Move) _ _ _ _
-      (rw (← count-full l (d .moves) (g .count)) (only-cond d (isFull l) _ _ _ _ (λ ask e. no-answer e) (λ ask e. no-ask e)))
-      (only-cond d (isWord (r .word) Go) _ _ _ _ (λ ask e. (refl, refl)) (λ ask e. no-answer e))))
+      (rw (← count-full l (d .moves) (g .count)) (only-cond d (isFull l) _ _ _ _ (λ w. absurd w) (λ w. absurd w)))
+      (only-cond d (isWord (r .word) Go) _ _ _ _ (λ w. (refl, refl)) (λ w. absurd w))))
 
-  at-first : (b : Bool) (p : Lead) (ask : Ask) → cond b (noTask p) (refusing Over l 1) .task ≡ Asks ask → ⊥
-  at-first true p ask e = no-ask e
-  at-first false p ask e = no-answer e
+  at-first : (b : Bool) (p : Lead) → Asking (cond b (noTask p) (refusing Over l 1) .task) → ⊥
+  at-first true p w = w
+  at-first false p w = w
 
   pub record Loading (ns : List ℕ) (p : Held) : Type 0 where
     pub draft : Draft
@@ -76,16 +81,16 @@ module _ (l : Lead) (r : Record) where
     pub plan-is : asked l r ≡ loading l
     pub step-is : step p r ≡ loadStep (loadTrial (loadOf draft) room) draft
 
-  loads : (ns : List ℕ) (p : Held) → Tracks l ns noGame p → isRead (l .stage) ≡ false → (ask : Ask) → asked l r .task ≡ Asks ask → Loading ns p
+  loads : (ns : List ℕ) (p : Held) → Tracks l ns noGame p → isRead (l .stage) ≡ false → Asking (asked l r .task) → Loading ns p
   unfolding asked askedFirst step
-  loads ns waiting h unread ask e = absurd (at-first (isWord (r .word) Game) _ ask (sym (ap (λ (x : Stage). askedAt x l r .task) h) ∙ e))
-  loads ns (gathering d) h unread ask e =
+  loads ns waiting h unread w = absurd (at-first (isWord (r .word) Game) _ (subst (λ (x : Stage). Asking (askedAt x l r .task)) h w))
+  loads ns (gathering d) h unread w =
       let is : asked l r ≡ askedBefore l r = ap (λ (x : Stage). askedAt x l r) (h .stage) in
-      let w = before-go ns d h ask (sym (ap (λ (x : Plan). x .task) is) ∙ e) in
-      record { draft = d; gathers = h; plan-is = is ∙ w .0; step-is = w .1 }
-  loads ns (playing p) h unread ask e = absurd (contra (ap isRead (h .0)) unread)
-  loads ns (batching p xs) h unread ask e = absurd (contra (ap isRead (h .0 .stage)) unread)
-  loads ns ended h unread ask e = absurd (contra (ap isRead h) unread)
+      let m = before-go ns d h (subst (λ (x : Plan). Asking (x .task)) is w) in
+      record { draft = d; gathers = h; plan-is = is ∙ m .0; step-is = m .1 }
+  loads ns (playing p) h unread w = absurd (contra (ap isRead (h .0)) unread)
+  loads ns (batching p xs) h unread w = absurd (contra (ap isRead (h .0 .stage)) unread)
+  loads ns ended h unread w = absurd (contra (ap isRead h) unread)
 
 -- ---- behind one line
 
@@ -94,7 +99,7 @@ pub record Behind (p : Held) (r : Record) (ns d d′ : List ℕ) (w : Written) :
   pub tracks : isRead (w .lead .stage) ≡ false → Tracks (w .lead) ns noGame (step p r .next)
   pub laid : Laid (step p r .lines) d d′ (w .first) (w .len)
 
-module _ (l : Lead) (ns : List ℕ) (p : Held) (walk : List ℕ) (r : Record) (ns′ : List ℕ) (a : Answer) (walk′ : List ℕ)
+module _ (l : Lead) (ns : List ℕ) (p : Held) (walk : List ℕ) (r : Record) (ns′ : List ℕ) (a : Answer) (reply : Reply) (walk′ : List ℕ) (none : reply ≡ Reply.Refused 0)
     (n : length ns ≡ numbersMost) (k : length walk ≡ room) (h : Tracks l ns noGame p) (unread : isRead (l .stage) ≡ false) (f : ns′ ≡ filed l r ns) where
   abbrev q : Plan
   q = asked l r
@@ -103,11 +108,18 @@ module _ (l : Lead) (ns : List ℕ) (p : Held) (walk : List ℕ) (r : Record) (n
   next = leadFor (q .task) (q .lead) a
 
   abbrev Comes : Type 0
-  Comes = (linesFor (q .task) (q .lead) a walk′ ≡ step p r .lines) × (isRead (next .stage) ≡ false → Tracks next ns′ noGame (step p r .next))
+  Comes = (linesFor (q .task) (q .lead) a reply walk′ ≡ step p r .lines) × (isRead (next .stage) ≡ false → Tracks next ns′ noGame (step p r .next))
 
   -- a line that asks nothing is the box's
-  quietly : Follows (q .task) l ns′ noGame walk (record { answer = a; session = noGame }) walk′ → Comes
-  quietly w = let m = stepped l ns noGame p walk r ns′ (record { answer = a; session = noGame }) walk′ n k h f w in (m .1, λ _. m .0)
+  quietly : Follows (q .task) l ns′ noGame walk (record { answer = a; session = noGame }) walk′ → Replied (q .task) noGame reply → Comes
+  quietly w v = let m = stepped l ns noGame p walk r ns′ (record { answer = a; session = noGame }) reply walk′ n k h f w v in (m .1, λ _. m .0)
+
+  -- no question is asked: its plan would be the load's
+  no-question : (question : Question) → q .task ≡ Questions question → ⊥
+  no-question question e =
+      let m = loads l r ns p h unread (subst⁻¹ Asking e tt) in
+      let z : Asks AskLoad ≡ Questions question = ap (λ (x : Plan). x .task) (sym (m .plan-is)) ∙ e in
+      let y : _≡_ {A = ℕ} 0 1 = cc in omega arith
 
   -- behind a load the game is read whole
   over : (b : Bool) → isRead (cond b Over Playing) ≡ true
@@ -115,23 +127,24 @@ module _ (l : Lead) (ns : List ℕ) (p : Held) (walk : List ℕ) (r : Record) (n
   over false = refl
 
   by-task : (task : Task) → q .task ≡ task → Searched task l ns′ walk a walk′ → Comes
-  by-task Nothing e w = quietly (subst⁻¹ (λ (x : Task). Follows x l ns′ noGame walk (record { answer = a; session = noGame }) walk′) e refl)
-  by-task (Refuse refusal) e w = quietly (subst⁻¹ (λ (x : Task). Follows x l ns′ noGame walk (record { answer = a; session = noGame }) walk′) e refl)
+  by-task Nothing e w = quietly (subst⁻¹ (λ (x : Task). Follows x l ns′ noGame walk (record { answer = a; session = noGame }) walk′) e refl) (subst⁻¹ (λ (x : Task). Replied x noGame reply) e none)
+  by-task (Refuse refusal) e w = quietly (subst⁻¹ (λ (x : Task). Follows x l ns′ noGame walk (record { answer = a; session = noGame }) walk′) e refl) (subst⁻¹ (λ (x : Task). Replied x noGame reply) e none)
+  by-task (Questions question) e w = absurd (no-question question e)
   by-task (Asks ask) e w =
-      let m = loads l r ns p h unread ask e in
+      let m = loads l r ns p h unread (subst⁻¹ Asking e tt) in
       let d = m .draft in
       let g = still-gathers l r ns ns′ d f (m .gathers) in
-      let told = load-lines (loadTrial (loadOf d) room) l ns′ d walk a walk′ (ap (loadTrial (loadOf d)) k) g (rw (gathered-is l ns′ d g) at w) in (
-        ap (λ (x : Plan). linesFor (x .task) (x .lead) a walk′) (m .plan-is) ∙ told .1 ∙ sym (ap (λ (u : Step). u .lines) (m .step-is)),
+      let told = load-lines (loadTrial (loadOf d) room) l ns′ d walk a reply walk′ (ap (loadTrial (loadOf d)) k) g (rw (gathered-is l ns′ d g) at w) in (
+        ap (λ (x : Plan). linesFor (x .task) (x .lead) a reply walk′) (m .plan-is) ∙ told .1 ∙ sym (ap (λ (u : Step). u .lines) (m .step-is)),
         λ y. absurd (contra (ap (λ (x : Plan). isRead (leadFor (x .task) (x .lead) a .stage)) (m .plan-is) ∙ over (isRefused a)) y),
       )
 
-  pub behind : (plan : Plan) → plan ≡ q → (d d′ : List ℕ) (w : Written) → Searched (plan .task) l ns′ walk a walk′ → length walk′ ≡ room → length d ≡ linesMost → Writes plan a walk′ d d′ w
+  pub behind : (plan : Plan) → plan ≡ q → (d d′ : List ℕ) (w : Written) → Searched (plan .task) l ns′ walk a walk′ → length walk′ ≡ room → length d ≡ linesMost → Writes plan a reply walk′ d d′ w
       → Behind p r ns′ d d′ w
   behind plan e d d′ w s k′ b t =
       let m = by-task (q .task) refl (subst (λ (x : Plan). Searched (x .task) l ns′ walk a walk′) e s) in
-      let t′ : Writes q a walk′ d d′ w = subst (λ (x : Plan). Writes x a walk′ d d′ w) e t in
-      let lines : linesTold q a walk′ (length d) ≡ step p r .lines = sym (told-lines q a walk′ (length d) (omega arith) (omega arith)) ∙ m .0 in
+      let t′ : Writes q a reply walk′ d d′ w = subst (λ (x : Plan). Writes x a reply walk′ d d′ w) e t in
+      let lines : linesTold q a reply walk′ (length d) ≡ step p r .lines = sym (told-lines q a reply walk′ (length d) (omega arith) (omega arith)) ∙ m .0 in
       record {
         tracks = subst⁻¹ (λ (x : Lead). isRead (x .stage) ≡ false → Tracks x ns′ noGame (step p r .next)) (t′ .goes) (m .1);
         laid = subst (λ (x : List Line). Laid x d d′ (w .first) (w .len)) lines (t′ .laid);
@@ -153,8 +166,9 @@ module _ (l : Lead) (ns walk : List ℕ) (k : length walk ≡ room) (a : Answer)
   pub done-asked : (task : Task) (ask : Ask) (b : Answer) (w : List ℕ) → task ≡ Asks ask → walk′ ≡ w → a ≡ b → length w ≡ length walk → LoadAnswered (gathered l ns) walk b w → Done task
   done-asked task ask b w e f g h v = rw (e, f, g) (record { searched = v; size = h ∙ k })
 
-  -- the tags of the tasks that ask nothing
-  pub done-not : (task : Task) → OneOf (0 ∷ 1 ∷ []) (tagOf the-type task) → walk′ ≡ walk → Done task
+  -- the tags of the tasks that ask for no load and no call
+  pub done-not : (task : Task) → OneOf (0 ∷ 1 ∷ 3 ∷ []) (tagOf the-type task) → walk′ ≡ walk → Done task
   done-not Nothing o f = record { searched = tt; size = ap length f ∙ k }
   done-not (Refuse refusal) o f = record { searched = tt; size = ap length f ∙ k }
-  done-not (Asks ask) o f = absurd (⊎-elim (λ z. omega arith) (λ z. omega arith) o)
+  done-not (Asks ask) o f = absurd (⊎-elim (λ z. omega arith) (⊎-elim (λ z. omega arith) (λ z. omega arith)) o)
+  done-not (Questions question) o f = record { searched = tt; size = ap length f ∙ k }

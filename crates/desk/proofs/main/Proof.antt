@@ -1,6 +1,6 @@
 -- `main` is safe and ends, and writes what the plain definition prints: behind the lines of what was read so far, the lead and the list of numbers stand for what is held
 -- behind their records, and the game is not read whole. The arrays keep their lengths, and each line takes off what may still come. Assumes nothing.
-use mathlib.Core.Path.{_≡_, sym, ap, subst, _∙_}
+use mathlib.Core.Path.{_≡_, refl, sym, ap, subst, _∙_}
 use mathlib.Core.List.{List, [], _∷_, _++_, map}
 use mathlib.Core.Bool.{true, false}
 use mathlib.Core.Logic.{⊎-elim}
@@ -11,6 +11,7 @@ use Prim.Native.Nat.{ℕ, _≤_}
 use lib.ListN.{length}
 use lib.Seq.{length-take-le}
 use Rattle.line.specs.Records.{recordOf}
+use Rattle.question.specs.declared.Reply.the-variants.{Refused}
 use Rattle.lead.specs.declared.Lead.{Lead}
 use Rattle.lead.specs.Asked.{numbersMost}
 use Rattle.session.specs.Model.{noGame}
@@ -136,11 +137,11 @@ abbrev line-in : tie.After-write Inv-loop μ-loop → List ℕ
 line-in w = heldIn (found w .next-line .result) (found w .next-line .last .1 .0)
 
 told : (w : tie.After-write Inv-loop μ-loop)
-    → Behind (heldBehind waiting (map recordOf (before-it w))) (recordOf (line-in w)) (reading w .read .last .1 .0) (at-loop w .loop .lines) (w .write .last .1 .1 .1 .0) (w .write .result)
+    → Behind (heldBehind waiting (map recordOf (before-it w))) (recordOf (line-in w)) (reading w .read .last .1 .0) (at-loop w .loop .lines) (w .write .last .1 .1 .1 .1 .0) (w .write .result)
 told w =
     let i = at-loop w .loop .inv in
     let d = served-by (served w) in
-    behind (at-loop w .loop .lead) _ (heldBehind waiting (map recordOf (before-it w))) _ (recordOf (line-in w)) _ _ _ (i .0) (i .1) (i .6 .1 .1 .1 .1) (i .6 .1 .1 .1 .0) (reading w .read .ensures .1) _ (reading w .read .ensures .0)
+    behind (at-loop w .loop .lead) _ (heldBehind waiting (map recordOf (before-it w))) _ (recordOf (line-in w)) _ _ (Refused 0) _ refl (i .0) (i .1) (i .6 .1 .1 .1 .1) (i .6 .1 .1 .1 .0) (reading w .read .ensures .1) _ (reading w .read .ensures .0)
     _ _ _ (d .searched) (d .size) (i .2) (w .write .ensures)
 
 -- what was read, the bytes that this line took included
@@ -158,7 +159,7 @@ came : (w : tie.After-write Inv-loop μ-loop)
 came w = come (at-loop w .loop .r) (at-loop w .loop .held) (at-loop w .loop .buf) _ _ _ _ _ (found w .next-line .ensures) (there w) (at-loop w .loop .inv .6 .1 .1 .0)
 
 -- the lines end within the buffer, and the first within both
-within : (w : tie.After-write Inv-loop μ-loop) → (w .write .result .len ≤ length (w .write .last .1 .1 .1 .0)) × (w .write .result .first ≤ w .write .result .len)
+within : (w : tie.After-write Inv-loop μ-loop) → (w .write .result .len ≤ length (w .write .last .1 .1 .1 .1 .0)) × (w .write .result .first ≤ w .write .result .len)
 within w = (laid-within _ _ _ _ _ (told w .laid), laid-first _ _ _ _ _ (told w .laid))
 
 array-share-prefix-held-2 : tie.Need-array-share-prefix-held-2 Inv-loop μ-loop
@@ -175,17 +176,17 @@ slice-aggregate-print-2 c = sym (served-by (served (c .before .before .before)) 
 array-share-prefix-lines : tie.Need-array-share-prefix-lines Inv-loop μ-loop
 array-share-prefix-lines c =
     let w = c .before .before .before in
-    omega (arith, within w, w .write .kept .1 .1 .1 .0, at-loop w .loop .inv .2)
+    omega (arith, within w, w .write .kept .1 .1 .1 .1 .0, at-loop w .loop .inv .2)
 
 slice-aggregate-print-3 : tie.Need-slice-aggregate-print-3 Inv-loop μ-loop
 slice-aggregate-print-3 c =
     let w = c .before .before .before .before in
-    sym (length-take-le _ (w .write .last .1 .1 .1 .0) (omega (arith, within w)))
+    sym (length-take-le _ (w .write .last .1 .1 .1 .1 .0) (omega (arith, within w)))
 
 print-requires : tie.Need-print-requires Inv-loop μ-loop
 print-requires c κs =
     let w = c .before .before .before .before in (
-      told-bytes (line-in w) _ _ _ _ _ _ _ (at-loop w .loop .inv .2) (reading w .read .ensures .0) (w .write .ensures),
+      told-bytes (line-in w) _ _ _ _ _ _ _ _ (at-loop w .loop .inv .2) (reading w .read .ensures .0) (w .write .ensures),
       printed _ _ _ _ _ _ _ _ _ (came w) (told w .laid),
     )
 
@@ -238,7 +239,7 @@ loop-again c =
     let e = found w .next-line .ensures in (
       reading w .read .kept .1 .0 ∙ i .0,
       served-by (served w) .size,
-      w .write .kept .1 .1 .1 .0 ∙ i .2,
+      w .write .kept .1 .1 .1 .1 .0 ∙ i .2,
       e .space,
       e .size,
       goes-on c .within,

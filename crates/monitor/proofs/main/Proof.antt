@@ -12,9 +12,10 @@ use lib.ListN.{length}
 use lib.Seq.{length-take-le}
 use Rattle.line.specs.Records.{recordOf}
 use Rattle.lead.specs.declared.Lead.{Lead}
+use Rattle.lead.specs.declared.Task.{Task}
 use Rattle.lead.specs.Asked.{numbersMost}
 use Rattle.watch.specs.Text.{waiting, room, heldBehind}
-use Rattle.watch.specs.Model.{linesMost}
+use Rattle.watch.specs.Model.{Replied, linesMost}
 use Rattle.watch.proofs.Steps.{Tracks}
 use Rattle.watch.proofs.Output.{laid-within, laid-first}
 use Rattle.watch.proofs.Turns.{Done, done-asked, done-not, Behind, behind}
@@ -104,18 +105,25 @@ served-by c =
     (λ w. done-not (l .loop .lead) _ _ (l .loop .inv .1) _ _ (r .read .result .task) (l .loop .c) (w .0 .keys2) (w .1) (w .2))
     (c .match .came)
 
+-- and the task is what it was
+same-task : (c : tie.At-match-came Inv-loop μ-loop) → c .match .task ≡ c .before .before .read .result .task
+same-task c = ⊎-elim {C = c .match .task ≡ c .before .before .read .result .task} (λ w. w .9 ∙ sym (w .1 .given .1)) (λ w. w .3) (c .match .came)
+
+reply-to-requires : tie.Need-reply-to-requires Inv-loop μ-loop
+reply-to-requires c κs = search needs
+
 slice-aggregate-write : tie.Need-slice-aggregate-write Inv-loop μ-loop
-slice-aggregate-write c = sym (served-by (c .before) .size)
+slice-aggregate-write c = sym (served-by (c .before .before) .size)
 
 slice-aggregate-write-2 : tie.Need-slice-aggregate-write-2 Inv-loop μ-loop
-slice-aggregate-write-2 c = sym (the-loop (c .before .before) .loop .inv .2)
+slice-aggregate-write-2 c = sym (the-loop (c .before .before .before) .loop .inv .2)
 
 write-requires : tie.Need-write-requires Inv-loop μ-loop
 write-requires c κs = search needs
 
 -- the places before a line's answer is written
 abbrev served : tie.After-write Inv-loop μ-loop → tie.At-match-came Inv-loop μ-loop
-served w = w .before .before .before
+served w = w .before .before .before .before
 
 abbrev reading : tie.After-write Inv-loop μ-loop → tie.After-read Inv-loop μ-loop
 reading w = served w .before .before
@@ -134,11 +142,11 @@ abbrev line-in : tie.After-write Inv-loop μ-loop → List ℕ
 line-in w = heldIn (found w .next-line .result) (found w .next-line .last .1 .0)
 
 told : (w : tie.After-write Inv-loop μ-loop)
-    → Behind (heldBehind waiting (map recordOf (before-it w))) (recordOf (line-in w)) (reading w .read .last .1 .0) (served w .match .c .session) (at-loop w .loop .lines) (w .write .last .1 .1 .1 .0) (w .write .result)
+    → Behind (heldBehind waiting (map recordOf (before-it w))) (recordOf (line-in w)) (reading w .read .last .1 .0) (served w .match .c .session) (at-loop w .loop .lines) (w .write .last .1 .1 .1 .1 .0) (w .write .result)
 told w =
     let i = at-loop w .loop .inv in
-    behind (at-loop w .loop .lead) _ _ (heldBehind waiting (map recordOf (before-it w))) _ (recordOf (line-in w)) _ _ _ _ _ _ (i .0) (i .1) (i .2) (i .6 .1 .1 .1) (reading w .read .ensures .1) _ (reading w .read .ensures .0)
-    (served-by (served w)) (w .write .ensures)
+    behind (at-loop w .loop .lead) _ _ (heldBehind waiting (map recordOf (before-it w))) _ (recordOf (line-in w)) _ _ _ _ _ _ _ (i .0) (i .1) (i .2) (i .6 .1 .1 .1) (reading w .read .ensures .1) _ (reading w .read .ensures .0)
+    (served-by (served w)) (subst (λ (x : Task). Replied x (served w .match .c .session) (w .before .before .before .reply-to .result)) (same-task (served w)) (w .before .before .before .reply-to .ensures)) (w .write .ensures)
 
 -- what was read, the bytes that this line took included
 abbrev seen-by : tie.After-write Inv-loop μ-loop → List ℕ
@@ -155,7 +163,7 @@ came : (w : tie.After-write Inv-loop μ-loop)
 came w = come (at-loop w .loop .r) (at-loop w .loop .held) (at-loop w .loop .buf) _ _ _ _ _ (found w .next-line .ensures) (there w) (at-loop w .loop .inv .6 .1 .1 .0)
 
 -- the lines end within the buffer, and the first within both
-within : (w : tie.After-write Inv-loop μ-loop) → (w .write .result .len ≤ length (w .write .last .1 .1 .1 .0)) × (w .write .result .first ≤ w .write .result .len)
+within : (w : tie.After-write Inv-loop μ-loop) → (w .write .result .len ≤ length (w .write .last .1 .1 .1 .1 .0)) × (w .write .result .first ≤ w .write .result .len)
 within w = (laid-within _ _ _ _ _ (told w .laid), laid-first _ _ _ _ _ (told w .laid))
 
 array-share-prefix-held-2 : tie.Need-array-share-prefix-held-2 Inv-loop μ-loop
@@ -172,17 +180,17 @@ slice-aggregate-print-2 c = sym (served-by (served (c .before .before .before)) 
 array-share-prefix-lines : tie.Need-array-share-prefix-lines Inv-loop μ-loop
 array-share-prefix-lines c =
     let w = c .before .before .before in
-    omega (arith, within w, w .write .kept .1 .1 .1 .0, at-loop w .loop .inv .2)
+    omega (arith, within w, w .write .kept .1 .1 .1 .1 .0, at-loop w .loop .inv .2)
 
 slice-aggregate-print-3 : tie.Need-slice-aggregate-print-3 Inv-loop μ-loop
 slice-aggregate-print-3 c =
     let w = c .before .before .before .before in
-    sym (length-take-le _ (w .write .last .1 .1 .1 .0) (omega (arith, within w)))
+    sym (length-take-le _ (w .write .last .1 .1 .1 .1 .0) (omega (arith, within w)))
 
 print-requires : tie.Need-print-requires Inv-loop μ-loop
 print-requires c κs =
     let w = c .before .before .before .before in (
-      told-bytes (line-in w) _ _ _ _ _ _ _ (at-loop w .loop .inv .2) (reading w .read .ensures .0) (w .write .ensures),
+      told-bytes (line-in w) _ _ _ _ _ _ _ _ (at-loop w .loop .inv .2) (reading w .read .ensures .0) (w .write .ensures),
       printed _ _ _ _ _ _ _ _ _ (came w) (told w .laid),
     )
 
@@ -229,7 +237,7 @@ loop-again c =
     let e = found w .next-line .ensures in (
       reading w .read .kept .1 .0 ∙ i .0,
       served-by (served w) .size,
-      w .write .kept .1 .1 .1 .0 ∙ i .2,
+      w .write .kept .1 .1 .1 .1 .0 ∙ i .2,
       e .space,
       e .size,
       goes-on c .within,
@@ -257,6 +265,7 @@ main-spec =
     slice-aggregate-serve
     slice-aggregate-serve-2
     serve-requires
+    reply-to-requires
     slice-aggregate-write
     slice-aggregate-write-2
     write-requires
