@@ -9,17 +9,18 @@ use Rattle.plain.specs.Search.{Verdict, none, lasso, unfinished, verdict, count
 use Rattle.plain.specs.Table.{Table, final}
 use Rattle.plain.specs.Refusals.{Trial, accepted, refused, loadTrial, full}
 use Rattle.plain.specs.Machine.{Change, add, cut, BatchLine, makes, other, changesIn, Update, single, batch, changesOf, applied, Answer, answer, answerLine, loadAnswer, tableOf, Call, callFor, trialOf, answerTo, tableAfter, Line, noLine, numbered}
+use Rattle.plain.specs.Questions.{Reply, noReply, degrees, replyTo, replyLine}
 use Rattle.plain.specs.Claims.{Arises, loaded, totalled, tableBehind}
 use Rattle.plain.specs.Orders.{SameView, Apart, changesAsked, EachAccepted, totalLine}
 use Rattle.plain.proofs.Demands.{demand-2}
 use Rattle.plain.proofs.Calls.{answer-accepted, table-accepted, answer-refused, table-refused, after-arises, after-reports, fresh-reports}
-use Rattle.plain.proofs.Views.{view-refl, same-call}
+use Rattle.plain.proofs.Views.{view-refl, same-call, same-reply}
 use Rattle.plain.proofs.Orders.{told-alike, same-views, brings-back, cut-follows}
 use Rattle.line.specs.Records.{recordOf}
 use Rattle.line.specs.Words.{isWord}
 use Rattle.line.specs.declared.Word.the-variants.{Game, Pay, Move, Go}
 use Rattle.line.specs.declared.Record.{Record}
-use Rattle.watch.specs.Text.{Draft, Play, playOf, Held, waiting, gathering, playing, batching, ended, Step, quiet, empty, room, loadStep, loadOf, callOn, updateStep, Request, changing, beginning, ending, unknown, requestOf, playStep, batchStep, atFirst, beforeGo, afterGo, inBatch, step, printed, heldBehind}
+use Rattle.watch.specs.Text.{Draft, Play, playOf, Held, waiting, gathering, playing, batching, ended, Step, quiet, empty, room, loadStep, loadOf, callOn, updateStep, Request, changing, beginning, ending, questioning, unknown, requestOf, playStep, batchStep, atFirst, beforeGo, afterGo, inBatch, step, printed, heldBehind}
 use Rattle.watch.specs.Truth.{All}
 use Rattle.watch.proofs.Records.{held-append, printed-append}
 use Rattle.watch.proofs.Truth.{Sound, right}
@@ -72,11 +73,18 @@ call-telling c t v a e = by-trial (trialOf c t) refl
 update-telling : (u : Update) (p : Play) (v : List Line) → Arises (p .table) → Tells (playing p) v → Telling v (updateStep u p)
 update-telling u p v a e = call-telling (callOn u) (p .table) v a e
 
+-- a reply tells no verdict
+reply-last : (v : List Line) (r : Reply) → newer v (replyLine r) ≡ v
+unfolding replyLine
+reply-last v (noReply n) = refl
+reply-last v (degrees s leaving entering) = refl
+
 play-telling : (q : Request) (p : Play) (v : List Line) → Arises (p .table) → Tells (playing p) v → Telling v (playStep q p)
 unfolding lastVerdict
 play-telling (changing c) p v a e = update-telling (single c) p v a e
 play-telling beginning p v a e = e
 play-telling ending p v a e = e
+play-telling (questioning q) p v a e = reply-last v (replyTo q (p .table)) ∙ e
 play-telling unknown p v a e = e
 
 batch-telling : (q : Request) (p : Play) (xs : List BatchLine) (v : List Line) → Arises (p .table) → Tells (playing p) v → Telling v (batchStep q p xs)
@@ -84,6 +92,7 @@ unfolding lastVerdict
 batch-telling (changing c) p xs v a e = e
 batch-telling beginning p xs v a e = e
 batch-telling ending p xs v a e = update-telling (batch xs) p v a e
+batch-telling (questioning q) p xs v a e = e
 batch-telling unknown p xs v a e = e
 
 telling : (p : Held) (r : Record) (v : List Line) → Sound p → Tells p v → Telling v (step p r)
@@ -152,12 +161,22 @@ play-together : (q : Request) (t u : Table) → SameView t u → Together (playS
 play-together (changing c) t u w = update-together (single c) t u w
 play-together beginning t u w = still (collecting []) [] t u w
 play-together ending t u w = still closed (noLine (numbered 1) ∷ []) t u w
+play-together (questioning q) t u w = record {
+  lines = ap (λ (r : Reply). replyLine r ∷ []) (same-reply q w);
+  batch = closed;
+  table = t;
+  table₂ = u;
+  next-is = refl;
+  next-is₂ = refl;
+  view = w;
+}
 play-together unknown t u w = still closed (noLine (numbered 1) ∷ []) t u w
 
 batch-together : (q : Request) (xs : List BatchLine) (t u : Table) → SameView t u → Together (batchStep q (playOf t) xs) (batchStep q (playOf u) xs)
 batch-together (changing c) xs t u w = still (collecting (xs ++ (makes c ∷ []))) [] t u w
 batch-together beginning xs t u w = still (collecting (xs ++ (other ∷ []))) [] t u w
 batch-together ending xs t u w = update-together (batch xs) t u w
+batch-together (questioning q) xs t u w = still (collecting (xs ++ (other ∷ []))) [] t u w
 batch-together unknown xs t u w = still (collecting (xs ++ (other ∷ []))) [] t u w
 
 together : (o : Open) (r : Record) (t u : Table) → SameView t u → Together (step (holding o t) r) (step (holding o u) r)

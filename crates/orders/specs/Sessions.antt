@@ -7,7 +7,8 @@ use lib.ListN.{length}
 use Rattle.plain.specs.Search.{Edge}
 use Rattle.plain.specs.Table.{Table}
 use Rattle.plain.specs.Refusals.{Load}
-use Rattle.plain.specs.Machine.{Change, add, cut, Update, single, tableOf, tableAfter, Line}
+use Rattle.plain.specs.Machine.{Change, add, cut, Update, single, tableOf, tableAfter, Call, Line}
+use Rattle.plain.specs.Questions.{Question}
 use Rattle.plain.specs.Games.{gameH}
 use Rattle.plain.specs.Orders.{Apart, Permutation, changesAsked, totalLine}
 use Rattle.verdict.specs.declared.Answer.the-variants.{Refused}
@@ -15,23 +16,31 @@ use Rattle.verdict.specs.Answers.{shown, NoRefusal}
 use Rattle.table.specs.declared.Refusal.{Refusal}
 use Rattle.session.specs.declared.Session.{Session}
 use Rattle.session.specs.declared.Outcome.{Outcome}
-use Rattle.session.specs.Promises.{callOf, Holds, Loads, Updates, Exchange, callIn, lineIn, Served}
+use Rattle.session.specs.Promises.{callOf, Holds, Loads, Updates, Exchange, Event, made, posed, callIn, lineIn, Served}
 
--- none of the calls was refused
-abbrev pub NoneRefused : List Exchange → Type 0
+-- none of the calls was refused, whatever questions stand between them
+abbrev pub NoneRefused : List Event → Type 0
 NoneRefused [] = Unit {0}
-NoneRefused (x ∷ xs) = NoRefusal (x .answered) × NoneRefused xs
+NoneRefused (made x ∷ xs) = NoRefusal (x .answered) × NoneRefused xs
+NoneRefused (posed q r ∷ xs) = NoneRefused xs
 
--- what a call was given: what was asked, and the lent list
-abbrev pub Given : Type 0
-Given = Update × List ℕ
+-- what an operation was given: a call what was asked and the lent list, a question itself
+pub data Given : Type 0 where
+  toCall : Update → List ℕ → Given
+  toQuestion : Question → Given
 
-abbrev pub givenTo : Exchange → Given
-givenTo x = (x .asked, x .lent)
+abbrev pub givenTo : Event → Given
+givenTo (made x) = toCall (x .asked) (x .lent)
+givenTo (posed q r) = toQuestion q
 
--- the changes that calls ask for, one behind the other
-abbrev pub askedIn : List Exchange → List Change
-askedIn xs = changesAsked (map callIn xs)
+-- the calls, without the questions between them, and the changes that they ask for, one behind the other
+abbrev pub callsIn : List Event → List Call
+callsIn [] = []
+callsIn (made x ∷ xs) = callIn x ∷ callsIn xs
+callsIn (posed q r ∷ xs) = callsIn xs
+
+abbrev pub askedIn : List Event → List Change
+askedIn xs = changesAsked (callsIn xs)
 
 -- ---- orders
 
@@ -44,22 +53,23 @@ pub record SameTold (x y : Exchange) : Type 0 where
 -- kept and spent in the second answer": c then d, and d then c. It is so of every two changes that name different states, of moves or of marks.
 abbrev pub TwoOrders : Type 0
 TwoOrders = (s : Session) (t : Table) → Holds s t → (c d : Change) → Apart (c ∷ d ∷ [])
-    → (x y : Exchange) → x .asked ≡ single c → y .asked ≡ single d → Served s (x ∷ y ∷ []) → NoneRefused (x ∷ y ∷ [])
-    → (x₂ y₂ : Exchange) → x₂ .asked ≡ single d → y₂ .asked ≡ single c → Served s (x₂ ∷ y₂ ∷ []) → NoneRefused (x₂ ∷ y₂ ∷ [])
+    → (x y : Exchange) → x .asked ≡ single c → y .asked ≡ single d → Served s (made x ∷ made y ∷ []) → NoneRefused (made x ∷ made y ∷ [])
+    → (x₂ y₂ : Exchange) → x₂ .asked ≡ single d → y₂ .asked ≡ single c → Served s (made x₂ ∷ made y₂ ∷ []) → NoneRefused (made x₂ ∷ made y₂ ∷ [])
     → SameTold y y₂
 
--- Two lists of calls from one session on, up to x and up to y, and calls behind each. The last answers tell the same; and calls behind them that are given the same are answered
--- alike, refused ones too: the same answers, with their counts, and the same lists.
-pub record SameEnding (x : Exchange) (later : List Exchange) (y : Exchange) (later₂ : List Exchange) : Type 0 where
+-- Two lists of calls from one session on, up to x and up to y, and calls and questions behind each. The last answers tell the same; and what is given the same behind them is answered
+-- alike, refused calls too: the same answers, with their counts, the same lists, and the same replies.
+pub record SameEnding (x : Exchange) (later : List Event) (y : Exchange) (later₂ : List Event) : Type 0 where
   pub same-told : SameTold x y
   pub same-after : map givenTo later ≡ map givenTo later₂ → later ≡ later₂
 
--- Beyond the ticket's two: any number of changes that name pairwise different states, in any two orders that are accepted, each a call of its own or in a batch.
+-- Beyond the ticket's two: any number of changes that name pairwise different states, in any two orders that are accepted, each a call of its own or in a batch,
+-- questions between them or not.
 abbrev pub AnyOrders : Type 0
 AnyOrders = (s : Session) (t : Table) → Holds s t
-    → (xs : List Exchange) (x : Exchange) (later : List Exchange) → Served s (xs ++ (x ∷ later)) → NoneRefused (xs ++ (x ∷ []))
-    → (ys : List Exchange) (y : Exchange) (later₂ : List Exchange) → Served s (ys ++ (y ∷ later₂)) → NoneRefused (ys ++ (y ∷ []))
-    → Apart (askedIn (xs ++ (x ∷ []))) → Permutation (askedIn (xs ++ (x ∷ []))) (askedIn (ys ++ (y ∷ [])))
+    → (xs : List Event) (x : Exchange) (later : List Event) → Served s (xs ++ (made x ∷ later)) → NoneRefused (xs ++ (made x ∷ []))
+    → (ys : List Event) (y : Exchange) (later₂ : List Event) → Served s (ys ++ (made y ∷ later₂)) → NoneRefused (ys ++ (made y ∷ []))
+    → Apart (askedIn (xs ++ (made x ∷ []))) → Permutation (askedIn (xs ++ (made x ∷ []))) (askedIn (ys ++ (made y ∷ [])))
     → SameEnding x later y later₂
 
 -- ---- there and back
@@ -72,24 +82,24 @@ pub data LastTold : Session → Table → Line → Type 0 where
   left : (s : Session) (t : Table) (l : Line) (u : Update) (lent : List ℕ) (r : Outcome) (lent′ : List ℕ) → LastTold s t l → Updates u s lent r lent′ → (n : Refusal) → r .answer ≡ Refused n
       → LastTold (r .session) t l
 
--- "adding a move and cutting it straight away brings these back": what the cut tells is what was told before. Calls behind it are answered as if the two had not been made.
-pub record BroughtBack (s : Session) (l : Line) (y : Exchange) (later : List Exchange) : Type 0 where
+-- "adding a move and cutting it straight away brings these back": what the cut tells is what was told before. Calls and questions behind it are answered as if the two had not been made.
+pub record BroughtBack (s : Session) (l : Line) (y : Exchange) (later : List Event) : Type 0 where
   pub same-line : totalLine (lineIn y) ≡ totalLine l
-  pub same-after : (later₂ : List Exchange) → Served s later₂ → map givenTo later ≡ map givenTo later₂ → later ≡ later₂
+  pub same-after : (later₂ : List Event) → Served s later₂ → map givenTo later ≡ map givenTo later₂ → later ≡ later₂
 
 abbrev pub BringsBack : Type 0
 BringsBack = (s : Session) (t : Table) (l : Line) → LastTold s t l
-    → (e : Edge) (x y : Exchange) (later : List Exchange) → x .asked ≡ single (add e) → y .asked ≡ single (cut e) → Served s (x ∷ y ∷ later) → NoneRefused (x ∷ y ∷ [])
+    → (e : Edge) (x y : Exchange) (later : List Event) → x .asked ≡ single (add e) → y .asked ≡ single (cut e) → Served s (made x ∷ made y ∷ later) → NoneRefused (made x ∷ made y ∷ [])
     → BroughtBack s l y later
 
 -- where the add is not refused, the cut is not, with a list that is no shorter
 abbrev pub CutFollows : Type 0
-CutFollows = (s : Session) (t : Table) → Holds s t → (e : Edge) (x y : Exchange) → x .asked ≡ single (add e) → y .asked ≡ single (cut e) → Served s (x ∷ y ∷ [])
+CutFollows = (s : Session) (t : Table) → Holds s t → (e : Edge) (x y : Exchange) → x .asked ≡ single (add e) → y .asked ≡ single (cut e) → Served s (made x ∷ made y ∷ [])
     → length (x .lent) ≤ length (y .lent) → NoRefusal (x .answered) → NoRefusal (y .answered)
 
 -- "Cutting and adding need not, because the move becomes newest": game H is loaded, and its move from 0 to 1 is cut and added straight away, and nothing is refused. What is told
 -- last is not what the load told.
 abbrev pub NeedNot : Type 0
 NeedNot = (lent : List ℕ) (r : Outcome) (lent′ : List ℕ) → Loads (gameH .load) lent r lent′ → NoRefusal (r .answer)
-    → (x y : Exchange) → x .asked ≡ single (cut (0, 1)) → y .asked ≡ single (add (0, 1)) → Served (r .session) (x ∷ y ∷ []) → NoneRefused (x ∷ y ∷ [])
+    → (x y : Exchange) → x .asked ≡ single (cut (0, 1)) → y .asked ≡ single (add (0, 1)) → Served (r .session) (made x ∷ made y ∷ []) → NoneRefused (made x ∷ made y ∷ [])
     → totalLine (lineIn y) ≢ totalLine (shown (r .answer) lent′)

@@ -3,7 +3,7 @@ use Prim.Native.Nat.{ℕ, _+_}
 use mathlib.Core.Path.{_≡_}
 use mathlib.Core.List.{List, [], _∷_, _++_, map}
 use Rattle.plain.specs.Search.{Edge}
-use Rattle.plain.specs.Machine.{Change, add, cut, Line, gameLine, roundLine, noneLine, noLine}
+use Rattle.plain.specs.Machine.{Change, add, cut, Line, gameLine, roundLine, noneLine, noLine, waysLine}
 use Rattle.plain.specs.Orders.{Apart, Permutation, totalLine}
 use Rattle.line.specs.Records.{recordOf}
 use Rattle.watch.specs.Text.{Play, Held, waiting, playing, Request, changing, beginning, ending, requestOf, printed, heldBehind}
@@ -15,6 +15,7 @@ NotNo (gameLine size moves paying) = Unit {0}
 NotNo (roundLine spent kept stem cycle walk) = Unit {0}
 NotNo (noneLine spent kept) = Unit {0}
 NotNo (noLine r) = ⊥
+NotNo (waysLine s leaving entering) = Unit {0}
 
 -- what a line requests behind `go`
 abbrev pub requested : List ℕ → Request
@@ -41,6 +42,7 @@ newer before (gameLine size moves paying) = before
 newer before (roundLine spent kept stem cycle walk) = totalLine (roundLine spent kept stem cycle walk) ∷ []
 newer before (noneLine spent kept) = totalLine (noneLine spent kept) ∷ []
 newer before (noLine r) = before
+newer before (waysLine s leaving entering) = before
 
 unfoldable pub lastVerdict : List Line → List Line → List Line
 lastVerdict before [] = before
