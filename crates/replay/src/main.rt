@@ -1,17 +1,22 @@
-// Replays scripts of loads, changes and batches, and prints what each call answers.
+// Replays scripts of loads, changes, batches and questions, and prints what each is answered.
 // Standard input is a list of blocks of 65,536 bytes, of which the last may be shorter. Each is a script, which starts without a session: 16-bit numbers, the low
 // byte first.
 // - a load: 1, size, start, the paying words as 32 numbers, a count, so many numbers of moves, room
 // - a change: 2 (add), 3 (cut), 4 (mark) or 5 (unmark), two states, room
 // - a batch: 6, room, a count, so many lines of three numbers: 2 to 5 as above, or any other for a line that makes no change, and two states
+// - a question: 7, a state
 // - 0 at the end
 // The room says how much of the list is lent.
 // What is printed, a number on each line:
 // - of a refusal 0 and its number; if it is that of a batch, 3, its number and the position
 // - of no round 1, and the probes spent and kept
 // - of a round 2, the probes, the lengths of stem and cycle, and the walk
-// - behind each a sum of the lent list
+// - behind each of these a sum of the lent list
+// - of a question, which lends no list, 4, the state, and the counts of moves that leave and enter it; or 0 and the refusal's number
 use batch::Update;
+use question::Question;
+use question::Reply;
+use question::Topic;
 use session::Outcome;
 use session::Session;
 use table::Op;
@@ -22,6 +27,9 @@ ghost use Prim.Native.Nat.{_≤_, _<_};
 
 // A batch begins with this number.
 const BATCH: u16 = 6;
+
+// And a question.
+const QUESTION: u16 = 7;
 
 // The most lines of a batch in a script.
 const LINES: usize = 70;
@@ -278,6 +286,37 @@ fn update_at(text: &[u8], at: usize, what: u16, s: Session, lent: &mut [u16]) ->
     session::update(s, asked, &lines[..count], &mut lent[..room])
 }
 
+fn print_reply(reply: Reply) {
+    match reply {
+        Reply::Refused(number) => {
+            print_line(0);
+            print_line(long(number));
+        }
+        Reply::Degrees {
+            state,
+            leaving,
+            entering,
+        } => {
+            print_line(4);
+            print_line(long(state));
+            print_line(long(leaving));
+            print_line(long(entering));
+        }
+    }
+}
+
+// The question at a place is asked of the session, and its reply printed.
+fn ask_at(text: &[u8], at: usize, s: Session) {
+    let state = number_at(text, at, 2);
+    print_reply(session::ask(
+        s,
+        Question {
+            topic: Topic::Ways,
+            number: state,
+        },
+    ));
+}
+
 // How many bytes the call at a place has.
 fn size_at(text: &[u8], at: usize, what: u16) -> usize
     ensures { λ r. ⌜ (0 < r) × (r < 200000) ⌝ }
@@ -287,6 +326,9 @@ fn size_at(text: &[u8], at: usize, what: u16) -> usize
     }
     if what == BATCH {
         return 6 + line_count(text, at, what) * 6;
+    }
+    if what == QUESTION {
+        return 4;
     }
     8
 }
@@ -301,6 +343,11 @@ fn replay_block(text: &[u8]) {
         let what = number_at(text, at, 0);
         if what == 0 {
             return;
+        }
+        if what == QUESTION {
+            ask_at(text, at, c.session);
+            at += size_at(text, at, what);
+            continue;
         }
         fill(&mut lent);
         if what == 1 {

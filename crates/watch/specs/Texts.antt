@@ -162,4 +162,24 @@ games =
     -- a refused batch leaves the order of the moves; an accepted one with the same first two lines changes it, and the round found
     ∷ dialogue "game\t3\t0\npay\t1\npay\t2\nmove\t0\t1\nmove\t0\t2\nmove\t1\t0\nmove\t2\t0\ngo\nbegin\ncut\t0\t1\nadd\t0\t1\nadd\t0\t1\nend\nmark\t0\nbegin\ncut\t0\t1\nadd\t0\t1\nend\n"
     ("game\t3\t4\t2\n" ∷ "round\t3\t0\t0\t2\t0\t1\n" ∷ "no\t8\t3\n" ∷ "round\t3\t0\t0\t2\t0\t1\n" ∷ "round\t3\t0\t0\t2\t0\t2\n" ∷ [])
+    -- Ticket 8: game A with questions: behind the load, a move that closes the round and one from a state to itself; a state outside; inside a batch; behind a refused batch and a cut
+    ∷ dialogue "game\t4\t0\npay\t2\nmove\t0\t1\nmove\t1\t2\ngo\nways\t1\nways\t2\nadd\t2\t1\nways\t1\nways\t2\nadd\t2\t2\nways\t2\nways\t4\nbegin\nways\t2\nend\nbegin\ncut\t1\t2\ncut\t1\t2\nend\nways\t2\ncut\t1\t2\nways\t2\nways\t1\nways\t3\n"
+    ("game\t4\t2\t1\n"
+    ∷ "none\t2\t0\n"
+    ∷ "ways\t1\t1\t1\n"
+    ∷ "ways\t2\t0\t1\n"
+    ∷ "round\t2\t2\t1\t2\t0\t1\t2\n"
+    ∷ "ways\t1\t1\t2\n"
+    ∷ "ways\t2\t1\t1\n"
+    ∷ "round\t3\t2\t1\t2\t0\t1\t2\n"
+    ∷ "ways\t2\t2\t2\n"
+    ∷ "no\t6\n"
+    ∷ "no\t1\t1\n"
+    ∷ "no\t10\t2\n"
+    ∷ "ways\t2\t2\t2\n"
+    ∷ "none\t0\t1\n"
+    ∷ "ways\t2\t2\t1\n"
+    ∷ "ways\t1\t0\t2\n"
+    ∷ "ways\t3\t0\t0\n"
+    ∷ [])
     ∷ []

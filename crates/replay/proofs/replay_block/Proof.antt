@@ -28,6 +28,21 @@ number-at-requires c κs = search needs
 returns : tie.Need-returns Inv-loop μ-loop
 returns c = search needs
 
+ask-at-requires : tie.Need-ask-at-requires Inv-loop μ-loop
+ask-at-requires c κs = search needs
+
+size-at-requires : tie.Need-size-at-requires Inv-loop μ-loop
+size-at-requires c κs = search needs
+
+add-at : tie.Need-add-at Inv-loop μ-loop
+add-at c = search needs
+
+loop-less : tie.Need-loop-less Inv-loop μ-loop
+loop-less c = search needs
+
+loop-again : tie.Need-loop-again Inv-loop μ-loop
+loop-again c = search needs
+
 slice-aggregate-fill : tie.Need-slice-aggregate-fill Inv-loop μ-loop
 slice-aggregate-fill c = search needs
 
@@ -47,13 +62,13 @@ update-at-requires : tie.Need-update-at-requires Inv-loop μ-loop
 update-at-requires c κs = search needs
 
 -- after either branch the lent array is as long as before
-lent-length : (c : tie.Joined2 Inv-loop μ-loop) → length (c .if2 .lent) ≡ 600
+lent-length : (c : tie.Joined3 Inv-loop μ-loop) → length (c .if3 .lent) ≡ 600
 lent-length c =
     let f = c .before .before in
-    let filled : length (f .fill .last .0) ≡ 600 = f .fill .kept .0 ∙ f .before .before .before .before .before .loop .inv in
+    let filled : length (f .fill .last .0) ≡ 600 = f .fill .kept .0 ∙ f .before .before .before .before .before .before .loop .inv in
     ⊎-elim (λ w. ap length (w .4) ∙ w .2 .kept .1 .1 .0 ∙ filled)
     (λ w. ap length (w .4) ∙ w .2 .kept .1 .1 .1 .1 .0 ∙ filled)
-    (c .if2 .came)
+    (c .if3 .came)
 
 slice-aggregate-print-answer : tie.Need-slice-aggregate-print-answer Inv-loop μ-loop
 slice-aggregate-print-answer c = sym (lent-length (c .before))
@@ -61,17 +76,17 @@ slice-aggregate-print-answer c = sym (lent-length (c .before))
 print-answer-requires : tie.Need-print-answer-requires Inv-loop μ-loop
 print-answer-requires c κs = search needs
 
-size-at-requires : tie.Need-size-at-requires Inv-loop μ-loop
-size-at-requires c κs = search needs
+size-at-requires-2 : tie.Need-size-at-requires-2 Inv-loop μ-loop
+size-at-requires-2 c κs = search needs
 
-add-at : tie.Need-add-at Inv-loop μ-loop
-add-at c = search needs
+add-at-2 : tie.Need-add-at-2 Inv-loop μ-loop
+add-at-2 c = search needs
 
-loop-less : tie.Need-loop-less Inv-loop μ-loop
-loop-less c = search needs
+loop-less-2 : tie.Need-loop-less-2 Inv-loop μ-loop
+loop-less-2 c = search needs
 
-loop-again : tie.Need-loop-again Inv-loop μ-loop
-loop-again c = lent-length (c .before .before .before)
+loop-again-2 : tie.Need-loop-again-2 Inv-loop μ-loop
+loop-again-2 c = lent-length (c .before .before .before)
 
 returns-2 : tie.Need-returns-2 Inv-loop μ-loop
 returns-2 c = search needs
@@ -87,6 +102,11 @@ replay-block-spec =
     loop-holds
     number-at-requires
     returns
+    ask-at-requires
+    size-at-requires
+    add-at
+    loop-less
+    loop-again
     slice-aggregate-fill
     fill-requires
     slice-aggregate-load-at-2
@@ -95,8 +115,8 @@ replay-block-spec =
     update-at-requires
     slice-aggregate-print-answer
     print-answer-requires
-    size-at-requires
-    add-at
-    loop-less
-    loop-again
+    size-at-requires-2
+    add-at-2
+    loop-less-2
+    loop-again-2
     returns-2)
