@@ -3,7 +3,7 @@ use mathlib.Core.Path.{_≡_, refl, sym, ap, subst⁻¹, _∙_}
 use mathlib.Core.Logic.{⊎-elim}
 use mathlib.Core.Bool.{Bool, true, false}
 use mathlib.Core.List.{List, [], _∷_, _++_, append-nil, append-assoc}
-use Prim.Native.Nat.{ℕ, _+_, _-_, _≤_, _<_}
+use Prim.Native.Nat.{ℕ, _+_, _≤_, _<_}
 use native.Mathlib.Omega.{arith}
 use lib.Dec.{eqb}
 use lib.ListN.{length, getD, set, drop, replicate, length-set, length-append, length-replicate}
@@ -20,15 +20,14 @@ use Rattle.plain.proofs.Edges.{Has}
 use Rattle.plain.proofs.Tables.{inside-both}
 use Rattle.plain.proofs.Degrees.{in-nil, in-short, in-add, in-cut}
 use Rattle.rows.proofs.Empty.{reads-same}
-use Rattle.look.specs.Numbers.{further}
 use Rattle.look.proofs.Counting.{further-more}
 use Rattle.table.specs.Filing.{Counted, recounted, countedAll}
 use Rattle.table.proofs.Pairs.{pairs-more, pairs-end}
 
 -- the array keeps its length
 pub recounted-length : (more : Bool) (s : ℕ) (xs : List ℕ) → length (recounted more s xs) ≡ length xs
-recounted-length true s xs = length-set xs s (further (getD xs s 0))
-recounted-length false s xs = length-set xs s (getD xs s 0 - 1)
+recounted-length true s xs = length-set xs s _
+recounted-length false s xs = length-set xs s _
 
 -- the counts with another one for a state, where that is what the edges give
 module _ (es fs : List Edge) (xs : List ℕ) (f : Counted es xs) (s n : ℕ) (below : s < 512) where
