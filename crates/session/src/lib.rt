@@ -516,6 +516,7 @@ fn update_in(
         walk,
         old.height,
     );
+    let room = lent.len();
     let attempt = batch::attempt_call(
         alone,
         only,
@@ -525,7 +526,7 @@ fn update_in(
         starts,
         words,
         indegree,
-        lent.len(),
+        room,
     );
     let trial = attempt.trial;
     if let Trial::Refused(n) = trial {
