@@ -1143,12 +1143,13 @@ def outside(*states):
     return [("ways", state, ("no", 6)) for state in states]
 
 
-# A hub, which is the start state, with a move to each of 512 states and one from each; the others in a ring, each with a
-# move to the next of them and one to the next but one; and three of them to themselves: 2,048. As long as no state pays,
-# the search looks at each move once. It meets state s of the ring after 2s looks: at the hub's own move and its first
-# other one, then, along the ring, at the move to the hub and at the one to the next.
-HUB_MOVES = [(0, s) for s in range(512)] + [(s, 0) for s in range(1, 512)] + [(s, s % 511 + 1) for s in range(1, 512)] + \
-    [(s, (s + 1) % 511 + 1) for s in range(1, 512)] + [(1, 1), (300, 300), (511, 511)]
+# A hub, the start state, with a move to each of 512 states and one from each; the others in a ring, each with a move to the
+# next and one to the next but one; and three of these with a move to themselves: 2,048. As long as no state pays, the
+# search looks at each move once. It meets state s of the ring after 2s looks: at the hub's own move and at its next, then
+# along the ring at the move to the hub and at the one to the next.
+HUB_MOVES = [(0, s) for s in range(512)] + [(s, 0) for s in range(1, 512)]
+HUB_MOVES += [(s, s % 511 + 1) for s in range(1, 512)] + [(s, (s + 1) % 511 + 1) for s in range(1, 512)]
+HUB_MOVES += [(1, 1), (300, 300), (511, 511)]
 TO_HUB = [(s, 0) for s in range(1, 65)]
 # The same for questions, worked by hand. Such a call names one state.
 WAYS_GAMES = [
