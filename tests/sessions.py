@@ -17,8 +17,9 @@ import sys
 import common
 from common import ROOT, STORED, as_lines, difference, fail, game_a
 from batches import LENGTHS, NUMBERS, some_lines
-from reference import (BATCH_GAMES, CHANGES, FIELDS, GAMES, MARK_GAMES, MOST_MOVES, MOST_STATES, SELF_GAMES, UNREACHED_GAMES, Table,
-                       answer_text, bench_answer, flat, made, plain_search, read_line, records, rows_of, words_of)
+from reference import (BATCH_GAMES, CHANGES, FIELDS, GAMES, INSIDE, MARK_GAMES, MOST_MOVES, MOST_STATES, OUTSIDE, SELF_GAMES,
+                       UNREACHED_GAMES, WAYS_GAMES, Table, answer_text, bench_answer, flat, made, plain_search, read_line, records,
+                       rows_of, words_of)
 
 
 # ------------------------------------------------------------ one text
@@ -61,6 +62,10 @@ class Text:
     def turn(self, state):
         """The state's pay comes or goes."""
         (self.unmark if state in self.pays else self.mark)(state)
+
+    def ways(self, state):
+        """A question; it changes nothing."""
+        self.rows.append("ways %d" % state)
 
     def data(self):
         return as_bytes(self.rows)
@@ -146,32 +151,41 @@ def changes(rng, text, count, wanted, closing):
 
 # ------------------------------------------------------- lines to refuse
 
+NUMBERS_TO_READ = [b"", b"0", b"00", b"01", b"1", b"9", b"511", b"512", b"513", b"9999", b"65535", b"65536", b"99999",
+                   b"100000", b"000001", b"4294967296", b"18446744073709551617", b" 1", b"1 ", b"+1", b"-1", b"0x1",
+                   b"1\r", b"1\0", b"\x001", b"1.0", b"\xd9\xa1", b"\xff", b":", b"/"]
+
+
+def distorted(line):
+    """A right line, and what becomes of it."""
+    fields = line.split(b"\t")
+    yield from [line, line.upper(), line.title(), b"\t" + line, b" " + line, line + b"\t", line + b"\t\t", line + b" ",
+                line + b"\r", line + b"\0", b"\0" + line, line + b"\t1", line + b"\t1\t1", b"\t".join(fields[:-1]),
+                line.replace(b"\t", b" "), line.replace(b"\t", b"\t\t"), line.replace(b"\t", b"\x0b"), fields[0]]
+    for at in range(1, len(fields)):
+        yield from (b"\t".join(fields[:at] + [n] + fields[at + 1:]) for n in NUMBERS_TO_READ)
+    for length in (31, 32, 33):                # with one field too long, one field too many, one long word
+        yield from [line.ljust(length, b"1"), (line + b"\t").ljust(length, b"1"), line.ljust(length, b"\t")]
+
+
 def hostile_lines():
     right = [b"game\t2\t0", b"pay\t1", b"move\t0\t1", b"go", b"add\t0\t1", b"cut\t0\t1", b"mark\t0", b"unmark\t1",
              b"end", b"begin"]
-    numbers = [b"", b"0", b"00", b"01", b"1", b"9", b"511", b"512", b"513", b"9999", b"65535", b"65536", b"99999",
-               b"100000", b"000001", b"4294967296", b"18446744073709551617", b" 1", b"1 ", b"+1", b"-1", b"0x1",
-               b"1\r", b"1\0", b"\x001", b"1.0", b"\xd9\xa1", b"\xff", b":", b"/"]
     lines = [b"", b" ", b"\t", b"\t\t", b"\t\t\t", b"\r", b"\0", b"\xff\xfe", b"x", b"game", b"kinds\t1",
              b"why", b"g", b"ad", b"begi", b"beginn", b"en", b"ends", b"endbegin", b"begin\tend", b"addd\t0\t1",
              b"add\t0\t1add\t0\t1", b"-", b"#", b"\xef\xbb\xbfgo"]
-    for line in right:
-        fields = line.split(b"\t")
-        lines += [line, line.upper(), line.title(), b"\t" + line, b" " + line, line + b"\t", line + b"\t\t", line + b" ",
-                  line + b"\r", line + b"\0", b"\0" + line, line + b"\t1", line + b"\t1\t1", b"\t".join(fields[:-1]),
-                  line.replace(b"\t", b" "), line.replace(b"\t", b"\t\t"), line.replace(b"\t", b"\x0b"), fields[0]]
-        for at in range(1, len(fields)):
-            lines += [b"\t".join(fields[:at] + [n] + fields[at + 1:]) for n in numbers]
-        for length in (31, 32, 33):            # with one field too long, one field too many, one long word
-            lines += [line.ljust(length, b"1"), (line + b"\t").ljust(length, b"1"), line.ljust(length, b"\t")]
+    lines += [one for line in right for one in distorted(line)]
     lines += [b"x" * length for length in (31, 32, 33, 64, 1000)]
+    # Last, so that what was drawn from the others stays as it was.
+    lines += [*distorted(b"ways\t0"), b"way\t0", b"wayss\t0", b"ways0", b"ways\tways", b"short\t1", b"all", b"sheet"]
     return list(dict.fromkeys(lines))
 
 
 HOSTILE = hostile_lines()
 # Those that are 1 inside a batch, and those that are outside one.
-NO_CHANGE = [line for line in HOSTILE if read_line(line, CHANGES | {b"end"}) is None]
-NO_CALL = [line for line in HOSTILE if read_line(line, CHANGES | {b"begin"}) is None]
+NO_CHANGE = [line for line in HOSTILE if read_line(line, INSIDE) is None]
+NO_CALL = [line for line in HOSTILE if read_line(line, OUTSIDE) is None]
+NO_QUESTION = [line for line in NO_CALL if b"ways" in line.lower()]
 STAGES = [b"", b"game\t2\t0\n", b"game\t2\t0\npay\t1\n", b"game\t2\t0\npay\t1\nmove\t1\t0\n",
           b"game\t2\t0\npay\t1\nmove\t1\t0\ngo\n", b"game\t2\t0\npay\t1\nmove\t1\t0\ngo\nbegin\nadd\t0\t0\n"]
 BEHIND = [b"go\n"] * 4 + [b"", b"cut\t0\t0\nend\n"]
@@ -182,7 +196,7 @@ def staged(places=len(STAGES)):
     """Each hostile line at each of the first places of a small session, with lines behind it that show what became of it."""
     for line in HOSTILE + [b"x" * 70000, b"add\t0\t1\n" * 9000]:
         for before, behind in list(zip(STAGES, BEHIND))[:places]:
-            yield before + line + b"\n" + behind + b"add\t0\t1\nunmark\t1\ncut\t0\t1"
+            yield before + line + b"\n" + behind + b"ways\t0\nadd\t0\t1\nunmark\t1\nways\t1\ncut\t0\t1"
 
 
 # ------------------------------------------------------- random sessions
@@ -344,10 +358,25 @@ class Beside:
     def __init__(self, text):
         self.text, self.table = text, Table()
         self.table.load(text.size, text.start, words_of(text.pays), flat(text.moves), MOST_STATES)
+        self.named = []                        # the states of the last change or batch, which the next question may be about
 
     def send(self, *call):
         self.text.rows += rows_of(call)
         made(self.table, call, MOST_STATES)
+        if call[0] in ("add", "cut", "mark", "unmark", "batch"):
+            lines = call[1] if call[0] == "batch" else [call]
+            self.named = [state for line in lines if isinstance(line, tuple) for state in line[1:]]
+
+    def ask(self, rng, hub):
+        """A question: about a state that the last change or batch names, about the hub or any, or about one outside."""
+        dice, size = rng.random(), self.table.size
+        if dice < 0.5 and self.named:
+            state = rng.choice(self.named)
+        elif dice < 0.92:
+            state = hub if dice < 0.7 else rng.randrange(size)
+        else:
+            state = rng.choice((size, size + 1, 511, 512, 65535))
+        self.send("ways", state)
 
 
 def batch_game(rng, size):
@@ -409,6 +438,50 @@ def batches(rng, size=None, count=None):
     return session.text.data() + (unended(rng, session.table) if rng.random() < 0.2 else b"")
 
 
+def star_game(rng, size):
+    """A game in which one state, the hub, has moves to most states and from most, itself among them. Of the largest some are
+    full, or nearly."""
+    def most():
+        share = rng.choice((0.3, 0.9, 1, 1))
+        return [s for s in range(size) if rng.random() < share]
+    hub = rng.randrange(size)
+    others = MOST_MOVES if size == MOST_STATES and rng.random() < 0.6 else min(size, size * size // 2)
+    moves = dict.fromkeys([(hub, s) for s in most()] + [(s, hub) for s in most()] + some_moves(rng, size, others))
+    moves = list(moves)[:MOST_MOVES - rng.choice((0, 0, 1, 5))]
+    start, pays = rng.choice((hub, rng.randrange(size))), rng.sample(range(size), rng.randint(0, min(size, 3)))
+    return Text(size, start, pays, rng.sample(moves, len(moves))), hub
+
+
+def spoke(rng, session, hub):
+    """A move from the hub or to it comes or goes."""
+    other = rng.randrange(session.table.size)
+    move = rng.choice(((hub, other), (other, hub)))
+    session.send("cut" if move in session.table.moves else "add", *move)
+
+
+def questions(rng, size=None, count=None):
+    """Questions between changes, batches, refused lines and unreadable ones. Half the games have a hub."""
+    sizes = 1, 2, rng.randint(3, 5), rng.randint(3, 8), rng.randint(6, 12), rng.randint(13, 64), rng.randint(65, 511), 512
+    size = size or rng.choice(sizes)
+    text, hub = star_game(rng, size) if rng.random() < 0.5 else (batch_game(rng, size), rng.randrange(size))
+    session = Beside(text)
+    for _ in range(count or rng.randint(6, 20)):
+        for _ in range(rng.choice((0, 1, 1, 2, 4))):
+            session.ask(rng, hub)
+        dice = rng.random()
+        if dice < 0.2:
+            session.send("batch", batch_of(rng, session.table))
+        elif dice < 0.45:
+            spoke(rng, session, hub)
+        elif dice < 0.5:
+            session.send("line", rng.choice(NO_QUESTION))
+        else:
+            line_alone(rng, session)
+    for _ in range(3):
+        session.ask(rng, hub)
+    return session.text.data() + (unended(rng, session.table) if rng.random() < 0.1 else b"")
+
+
 def hostile(rng):
     """A small session with unreadable lines among its lines, mostly behind `go`."""
     lines = common.lines_of(small(rng))
@@ -441,13 +514,13 @@ def refused(rng):
         elif moves:
             moves.insert(at, rng.choice(moves))
     text = Text(size, start, pays)
-    text.rows[-1:] = ["move %d %d" % m for m in moves] + ["go", "add 0 1", "mark 0", "add 1 0", "add 0 0"]
+    text.rows[-1:] = ["move %d %d" % m for m in moves] + ["go", "add 0 1", "mark 0", "ways 0", "add 1 0", "add 0 0", "ways 0"]
     return text.data()
 
 
 def ended(rng):
     """A session that ends anywhere: before `go`, within a line, without the last newline."""
-    text = rng.choice((small, hostile, refused, batches))(rng)
+    text = rng.choice((small, hostile, refused, batches, questions))(rng)
     return text[:rng.randrange(len(text))]
 
 
@@ -466,11 +539,12 @@ def many(rng):
         state = rng.randrange(size)
         rng.choice((text.add, text.cut))((state, state))
         rng.choice((text.mark, text.unmark))(state)
+        text.ways(state)
         turned(rng, text)
     return text.data()
 
 
-KINDS = {make.__name__: make for make in (small, mid, full, chain, stems, batches, hostile, refused, ended, many)}
+KINDS = {make.__name__: make for make in (small, mid, full, chain, stems, batches, questions, hostile, refused, ended, many)}
 
 
 def session(seed, kind):
@@ -545,7 +619,7 @@ OPEN = {"begin": b"begin\n", "begin-bare": b"begin", "line": b"begin\ncut\t0\t1\
 
 
 def stored_batches():
-    """The same of those with batches."""
+    """Name and text of each stored session with batches."""
     for game in BATCH_GAMES:
         yield game[0], known(game)
     for name, behind in OPEN.items():
@@ -556,6 +630,15 @@ def stored_batches():
     yield "random-batches-512", batches(random.Random(25), 512, 8)
 
 
+def stored_questions():
+    """The same of those with questions."""
+    for game in WAYS_GAMES:
+        yield game[0], known(game)
+    for at in range(BEFORE_GO):
+        yield "ways-before-go-%d" % at, STAGES[at] + b"ways\t0\ngo\n"
+    yield "random-questions", session(733, "questions")
+
+
 def stored():
     """Name and text of each stored session."""
     for game in GAMES:
@@ -563,6 +646,7 @@ def stored():
     for game in SELF_GAMES + MARK_GAMES + UNREACHED_GAMES:
         yield game[0], known(game)
     yield from stored_batches()
+    yield from stored_questions()
     yield "states-512", as_lines(["game 512 0", "pay 511", "move 0 511", "go", "add 511 0", "add 512 0", "cut 511 0"])
     yield "states-513", as_lines(["game 513 0", "pay 511", "move 0 511", "go", "add 511 0"])
     yield "start-511", as_lines(["game 512 511", "pay 511", "move 511 0", "move 0 511", "go", "cut 0 511", "add 0 511",
@@ -607,22 +691,28 @@ def stored():
 
 SEPARATOR = b"\x1e"                            # parts the texts that crates/texts is run on
 BLOCK = 65536                                  # bytes that it reads at a time, and answers before the next
-# Two blocks are enough. What moves-2048 asks is asked in self-move-2048 and in batch-full too. same-move-2049 is a shorter text
+# Three blocks are enough. What moves-2048 asks is asked in self-move-2048 and in batch-full too. same-move-2049 is a shorter text
 # for what moves-2049 and self-move-2049 ask. random-stems asks on a walk of 6 states what random-stems-512 asks on one of
 # 487, and random-batches on 8 states what random-batches-512 asks.
 TOO_LONG = {"random-full", "random-chain", "moves-2048", "moves-2049", "self-move-2049", "random-stems-512", "random-batches-512"}
 SECOND = {"random-mid-changes", "self-moves-512", "marks-all-of-512", "random-batches"}
+THIRD = {"batch-hostile-lines", "random-questions"}
+
+
+def block_of(name):
+    """The place of the block that a text stands in."""
+    if name in THIRD or name.startswith("ways-"):
+        return 2
+    return 1 if name in SECOND or name.startswith("batch-") else 0
 
 
 def blocks():
-    """The texts of each block. One that is no line to read fills up the first."""
-    texts = [(name, text) for name, text in stored() if name not in TOO_LONG]
-    second = [name in SECOND or name.startswith("batch-") for name, _ in texts]
-    parted = [[text for (_, text), behind in zip(texts, second) if behind == at] for at in (False, True)]
-    left = BLOCK - len(SEPARATOR.join(parted[0] + [b""]))
-    if left <= 32 or len(SEPARATOR.join(parted[1])) > BLOCK:
+    """The texts of each block. One that is no line to read fills up each but the last."""
+    parted = [[text for name, text in stored() if name not in TOO_LONG and block_of(name) == at] for at in range(3)]
+    left = [BLOCK - len(SEPARATOR.join(texts + [b""])) for texts in parted]
+    if min(left) <= 32:
         fail("the texts do not fit into their blocks")
-    return [parted[0] + [b"x" * left], parted[1]]
+    return [texts + [b"x" * length] for texts, length in zip(parted[:-1], left)] + parted[-1:]
 
 
 def bundle():

@@ -7,6 +7,8 @@ from a state to itself is taken like any other; there is no refusal 7. A state's
 pay is turned on and off by `mark` and `unmark`. Where a move comes or goes, the
 search is also run on the table as it was: what that run had not come to keeps
 every look. A batch of changes is done as a whole, with one answer, or not at all.
+A question about a state counts, over the moves present, those that leave it and
+those that enter it, and changes nothing.
 
 For the examiner's desk there is the search as candidates learn it, by procedures
 that call each other, for a game that is loaded and not changed.
@@ -194,7 +196,8 @@ class Table:
     """N, the start state, the marks and the moves present, oldest first.
 
     Answers: ("no", n), ("none", spent, kept)
-    or ("round", spent, kept, stem, round); of a batch ("no", n, position) too.
+    or ("round", spent, kept, stem, round); of a batch ("no", n, position) too;
+    of a question ("ways", state, leaving, entering) or ("no", 6).
     """
 
     def __init__(self):
@@ -254,6 +257,14 @@ class Table:
         spared = all(keeps_all(before, line[0], line[1:]) for line in lines)
         return self._answer([line[1] for line in lines], spared)
 
+    def ways(self, state):
+        """How many of the moves present leave the state, and how many enter it: one that does both counts in both.
+        Nothing is written, so no list is lent, and nothing changes."""
+        self._need_session()
+        if state >= self.size:
+            return ("no", 6)
+        return ("ways", state, sum(a == state for a, _ in self.moves), sum(b == state for _, b in self.moves))
+
     def _line_refusal(self, line, position):
         if line is None:
             return 1
@@ -278,7 +289,7 @@ class Table:
 
     def _need_session(self):
         if not self.loaded:
-            raise RuntimeError("a change without a session")
+            raise RuntimeError("a change or a question without a session")
 
     def _make(self, word, states):
         if word == "add":
@@ -352,8 +363,11 @@ def words_of(states):
 # --------------------------------------------------------- lines on the lead
 
 LONGEST_INPUT = 4294967295
-FIELDS = {b"game": 3, b"pay": 2, b"move": 3, b"go": 1, b"add": 3, b"cut": 3, b"mark": 2, b"unmark": 2, b"begin": 1, b"end": 1}
+FIELDS = {b"game": 3, b"pay": 2, b"move": 3, b"go": 1, b"add": 3, b"cut": 3, b"mark": 2, b"unmark": 2, b"begin": 1, b"end": 1,
+          b"ways": 2}
 CHANGES = {b"add", b"cut", b"mark", b"unmark"}
+OUTSIDE = CHANGES | {b"begin", b"ways"}        # behind `go`, outside a batch
+INSIDE = CHANGES | {b"end"}                    # inside one
 
 
 def records(data):
@@ -435,13 +449,15 @@ def load_lines(lines, table):
 
 def change_lines(line, rest, table):
     """The output for one line behind the load, or for a batch, whose other lines are taken from the rest."""
-    word, args = read_line(line, CHANGES | {b"begin"}) or (None, None)
+    word, args = read_line(line, OUTSIDE) or (None, None)
     if word is None:
         yield answer_line(("no", 1))
     elif word == b"begin":
         batch = batch_lines(rest)
         if batch is not None:
             yield answer_line(table.batch(batch, MOST_STATES))
+    elif word == b"ways":
+        yield answer_line(table.ways(*args))
     else:
         yield answer_line(getattr(table, word.decode())(*args, MOST_STATES))
 
@@ -450,7 +466,7 @@ def batch_lines(lines):
     """The lines up to `end` as Table.batch takes them, or None where the input ends before."""
     batch = []
     for line in lines:
-        word, args = read_line(line, CHANGES | {b"end"}) or (None, None)
+        word, args = read_line(line, INSIDE) or (None, None)
         if word == b"end":
             return batch
         batch.append(None if word is None else (word.decode(), *args))
@@ -1115,7 +1131,227 @@ BATCH_GAMES = [
 ]
 
 SINGLES = GAMES + SELF_GAMES + MARK_GAMES + UNREACHED_GAMES
-WORKED = SINGLES + BATCH_GAMES
+
+
+def asked(*counts):
+    """Questions with their answers: of each the state, how many moves leave it and how many enter it."""
+    return [("ways", state, ("ways", state, leaving, entering)) for state, leaving, entering in counts]
+
+
+def outside(*states):
+    """Questions about states that the game has not."""
+    return [("ways", state, ("no", 6)) for state in states]
+
+
+# A hub, the start state, with a move to each of 512 states and one from each; the others in a ring, each with a move to the
+# next and one to the next but one; and three of these with a move to themselves: 2,048. As long as no state pays, the
+# search looks at each move once. It meets state s of the ring after 2s looks: at the hub's own move and at its next, then
+# along the ring at the move to the hub and at the one to the next.
+HUB_MOVES = [(0, s) for s in range(512)] + [(s, 0) for s in range(1, 512)]
+HUB_MOVES += [(s, s % 511 + 1) for s in range(1, 512)] + [(s, (s + 1) % 511 + 1) for s in range(1, 512)]
+HUB_MOVES += [(1, 1), (300, 300), (511, 511)]
+TO_HUB = [(s, 0) for s in range(1, 65)]
+# The same for questions, worked by hand. Such a call names one state.
+WAYS_GAMES = [
+    # Game A, with questions before and behind each of its lines
+    ("ways-a", 4, [2], [(0, 1), (1, 2)], ("none", 2, 0), [
+        *asked((0, 1, 0), (1, 1, 1), (2, 0, 1), (3, 0, 0)),
+        ("add", 2, 1, ("round", 2, 2, [0], [1, 2])),
+        *asked((2, 1, 1), (1, 1, 2), (0, 1, 0), (3, 0, 0)),
+        ("add", 2, 3, ("round", 3, 2, [0], [1, 2])),
+        *asked((2, 2, 1), (3, 0, 1), (1, 1, 2)),
+        ("cut", 1, 2, ("none", 0, 1)),
+        *asked((1, 0, 2), (2, 2, 0)),
+        ("cut", 1, 2, ("no", 10)),
+        *asked((1, 0, 2), (2, 2, 0)),
+        ("add", 2, 0, ("none", 0, 1)),
+        *asked((2, 3, 0), (0, 1, 1), (1, 0, 2), (3, 0, 1)),
+        *outside(4, 5, 65535),
+    ]),
+    # a game's only state
+    ("ways-alone", 1, [], [], ("none", 0, 0), [
+        *asked((0, 0, 0)),
+        *outside(1),
+        ("add", 0, 0, ("none", 1, 0)),
+        *asked((0, 1, 1), (0, 1, 1)),
+        ("cut", 0, 0, ("none", 0, 0)),
+        *asked((0, 0, 0)),
+        ("mark", 0, ("none", 0, 0)),
+        *asked((0, 0, 0)),
+        ("add", 0, 0, ("round", 2, 0, [], [0])),
+        *asked((0, 1, 1)),
+        *outside(1, 511, 512, 65535),
+        ("unmark", 0, ("none", 1, 0)),
+        *asked((0, 1, 1)),
+    ]),
+    # a move from a state to itself counts once on each side
+    ("ways-self", 2, [0], [(0, 0), (0, 1)], ("round", 3, 0, [], [0]), [
+        *asked((0, 2, 1), (1, 0, 1)),
+        ("add", 1, 1, ("round", 2, 2, [], [0])),
+        *asked((1, 1, 2), (0, 2, 1)),
+        ("add", 1, 1, ("no", 8)),
+        *asked((1, 1, 2)),
+        ("cut", 0, 0, ("none", 4, 0)),
+        *asked((0, 1, 0), (1, 1, 2)),
+        ("cut", 0, 0, ("no", 10)),
+        *asked((0, 1, 0)),
+        ("cut", 1, 1, ("none", 1, 1)),
+        *asked((1, 0, 1), (0, 1, 0)),
+        ("add", 0, 0, ("round", 4, 0, [], [0])),
+        *asked((0, 2, 1), (1, 0, 1)),
+    ]),
+    # what is refused leaves the counts
+    ("ways-refused", 3, [1], [(0, 1), (1, 2), (2, 0)], ("round", 5, 0, [], [0, 1, 2]), [
+        *asked((0, 1, 1), (1, 1, 1), (2, 1, 1)),
+        ("add", 0, 1, ("no", 8)),
+        *asked((0, 1, 1), (1, 1, 1)),
+        ("cut", 0, 2, ("no", 10)),
+        *asked((0, 1, 1), (2, 1, 1)),
+        ("add", 0, 3, ("no", 6)),
+        ("add", 3, 0, ("no", 6)),
+        ("cut", 3, 1, ("no", 6)),
+        ("cut", 1, 3, ("no", 6)),
+        *asked((0, 1, 1), (1, 1, 1)),
+        *outside(3),
+        ("mark", 1, ("no", 13)),
+        ("unmark", 0, ("no", 14)),
+        *asked((1, 1, 1), (0, 1, 1)),
+        ("cut", 2, 0, ("none", 1, 2)),
+        *asked((2, 0, 1), (0, 1, 0)),
+        ("cut", 2, 0, ("no", 10)),
+        *asked((2, 0, 1), (0, 1, 0)),
+        ("add", 2, 0, ("round", 3, 2, [], [0, 1, 2])),
+        *asked((2, 1, 1), (0, 1, 1)),
+    ]),
+    # marks do not matter
+    ("ways-marks", 3, [], [(0, 1), (1, 2), (2, 2)], ("none", 3, 0), [
+        *asked((1, 1, 1), (2, 1, 2)),
+        ("mark", 2, ("round", 2, 2, [0, 1], [2])),
+        *asked((2, 1, 2), (1, 1, 1)),
+        ("mark", 1, ("round", 3, 1, [0, 1], [2])),
+        *asked((1, 1, 1)),
+        ("mark", 1, ("no", 13)),
+        *asked((1, 1, 1)),
+        ("batch", [("unmark", 1), ("unmark", 2), ("mark", 0)], ("none", 6, 0)),
+        *asked((0, 1, 0), (1, 1, 1), (2, 1, 2)),
+        ("unmark", 2, ("no", 14)),
+        *asked((2, 1, 2)),
+    ]),
+    # states never met
+    ("ways-unmet", 4, [1], [(0, 1), (1, 0), (2, 3), (3, 2)], ("round", 3, 0, [], [0, 1]), [
+        *asked((2, 1, 1), (3, 1, 1)),
+        ("add", 3, 3, ("round", 0, 3, [], [0, 1])),
+        *asked((3, 2, 2), (2, 1, 1)),
+        ("cut", 2, 3, ("round", 0, 3, [], [0, 1])),
+        *asked((2, 0, 1), (3, 2, 1)),
+        ("add", 2, 1, ("round", 0, 3, [], [0, 1])),
+        *asked((2, 1, 1), (1, 1, 2)),
+        ("add", 0, 2, ("round", 0, 3, [], [0, 1])),            # behind the move that leads along the walk
+        *asked((0, 2, 1), (2, 1, 2)),
+        ("mark", 2, ("round", 0, 3, [], [0, 1])),
+        *asked((2, 1, 2)),
+        ("unmark", 2, ("round", 0, 3, [], [0, 1])),
+        *asked((2, 1, 2)),
+        ("cut", 0, 1, ("round", 4, 0, [], [0, 2, 1])),
+        *asked((0, 1, 1), (1, 1, 1), (2, 1, 2), (3, 2, 1)),
+    ]),
+    # batches: empty, refused at the last line or before, there and back, and done
+    ("ways-batch", 4, [3], [(0, 1), (1, 2), (2, 3), (3, 2)], ("round", 5, 0, [0, 1], [2, 3]), [
+        *asked((0, 1, 0), (1, 1, 1), (2, 1, 2), (3, 1, 1)),
+        ("batch", [], ("round", 0, 5, [0, 1], [2, 3])),
+        *asked((2, 1, 2)),
+        ("batch", [("cut", 2, 3), ("unmark", 3), ("cut", 2, 3), ("add", 0, 0)], ("no", 10, 3)),
+        *asked((2, 1, 2), (3, 1, 1), (0, 1, 0)),
+        ("batch", [("add", 0, 3), ("add", 1, 3), ("add", 3, 3), "x"], ("no", 1, 4)),
+        *asked((3, 1, 1), (0, 1, 0), (1, 1, 1)),
+        ("batch", [("cut", 0, 1), ("cut", 1, 2), ("add", 0, 2), ("add", 0, 2)], ("no", 8, 4)),
+        *asked((0, 1, 0), (1, 1, 1), (2, 1, 2)),
+        ("batch", [("add", 0, 3), ("cut", 0, 3)], ("round", 0, 5, [0, 1], [2, 3])),
+        *asked((0, 1, 0), (3, 1, 1)),
+        ("batch", [("cut", 2, 3), ("add", 2, 3)], ("round", 3, 2, [0, 1], [2, 3])),
+        *asked((2, 1, 2), (3, 1, 1)),
+        ("batch", [("add", 0, 3), ("add", 1, 3), ("add", 3, 3), ("cut", 1, 2)], ("round", 7, 0, [0, 1], [3, 2])),
+        *asked((0, 2, 0), (1, 1, 1), (2, 1, 1), (3, 2, 4)),
+        ("batch", [("mark", 0), ("unmark", 0), ("mark", 4)], ("no", 6, 3)),
+        *asked((3, 2, 4)),
+        ("batch", [("cut", 3, 3), ("cut", 0, 3), ("cut", 1, 3), ("cut", 2, 3)], ("none", 1, 0)),
+        *asked((3, 1, 0), (0, 1, 0), (1, 0, 1), (2, 0, 1)),
+    ]),
+    # a question inside a batch is no change, and lines that are no question
+    ("ways-lines", 2, [], C_MOVES, ("none", 2, 0), [
+        *asked((0, 1, 1)),
+        ("batch", ["ways 0"], ("no", 1, 1)),
+        ("batch", [("add", 0, 0), "ways 0", ("cut", 0, 1)], ("no", 1, 2)),
+        *asked((0, 1, 1), (1, 1, 1)),
+        ("batch", [("add", 0, 0), ("cut", 0, 0), "ways 65535"], ("no", 1, 3)),
+        ("line", "ways", ("no", 1)),
+        ("line", "ways ", ("no", 1)),
+        ("line", "ways 0 ", ("no", 1)),
+        ("line", "ways 0 1", ("no", 1)),
+        ("line", "ways 00", ("no", 1)),
+        ("line", "ways 65536", ("no", 1)),
+        ("line", "Ways 0", ("no", 1)),
+        ("line", "way 0", ("no", 1)),
+        *outside(2, 9999, 65535),
+        ("line", "end", ("no", 1)),
+        *asked((1, 1, 1), (0, 1, 1)),
+        ("batch", [("add", 0, 0)], ("none", 3, 0)),
+        *asked((0, 2, 2), (1, 1, 1)),
+    ]),
+    # the last states of the largest games
+    ("ways-511", 511, [], [(0, 510), (510, 510)], ("none", 2, 0), [
+        *asked((510, 1, 2), (509, 0, 0), (0, 1, 0)),
+        *outside(511, 512, 65535),
+    ]),
+    ("ways-512", 512, [], [(0, 511), (511, 510), (510, 511)], ("none", 3, 0), [
+        *asked((511, 1, 2), (510, 1, 1), (509, 0, 0), (0, 1, 0)),
+        *outside(512, 513, 1023, 65535),
+        ("cut", 511, 510, ("none", 0, 1)),
+        *asked((511, 0, 2), (510, 1, 0)),
+        ("add", 510, 510, ("none", 0, 1)),
+        *asked((510, 2, 1), (511, 0, 2)),
+    ]),
+    # the hub of 512 states on a full table
+    ("ways-hub", 512, [], HUB_MOVES, ("none", 2048, 0), [
+        *asked((0, 512, 512), (1, 4, 4), (2, 3, 3), (300, 4, 4), (511, 4, 4)),
+        *outside(512, 65535),
+        ("add", 5, 0, ("no", 8)),
+        ("add", 5, 5, ("no", 9)),
+        *asked((0, 512, 512), (5, 3, 3)),
+        ("cut", 9, 0, ("none", 2029, 18)),
+        *asked((0, 512, 511), (9, 2, 3)),
+        ("cut", 9, 0, ("no", 10)),
+        *asked((0, 512, 511), (9, 2, 3)),
+        ("cut", 0, 0, ("none", 2046, 0)),                       # a look fewer before each meeting from here on
+        *asked((0, 511, 510)),
+        ("add", 9, 0, ("none", 2030, 17)),
+        *asked((0, 511, 511), (9, 3, 3)),
+        ("add", 0, 0, ("none", 2048, 0)),                       # the hub's newest now
+        *asked((0, 512, 512)),
+        ("cut", 0, 5, ("none", 2047, 0)),
+        *asked((0, 511, 512), (5, 3, 2)),
+        ("add", 5, 5, ("none", 2039, 9)),
+        *asked((5, 4, 3), (0, 511, 512)),
+        ("add", 0, 5, ("no", 9)),
+        *asked((0, 511, 512), (5, 4, 3)),
+        ("batch", [("cut", 5, 5), ("add", 0, 5)], ("none", 2048, 0)),
+        *asked((0, 512, 512), (5, 3, 3)),
+        ("batch", [("cut", 0, 1), ("cut", 1, 0), ("cut", 1, 1), ("add", 1, 0), ("add", 0, 1), ("add", 0, 1)], ("no", 8, 6)),
+        *asked((0, 512, 512), (1, 4, 4)),
+        ("batch", [("cut", *move) for move in TO_HUB], ("none", 1983, 1)),
+        *asked((0, 512, 448), (1, 3, 4), (64, 2, 3), (65, 3, 3)),
+        ("batch", [("add", *move) for move in TO_HUB] + [("cut", 0, 0)], ("no", 15, 65)),
+        *asked((0, 512, 448), (1, 3, 4)),
+        ("batch", [("add", *move) for move in TO_HUB], ("none", 2047, 1)),
+        *asked((0, 512, 512), (1, 4, 4), (64, 3, 3)),
+        ("mark", 0, ("round", 2114, 0, [], list(range(66)))),   # the ring's first 64 have their move to the hub last now
+        *asked((0, 512, 512), (65, 3, 3)),
+        ("unmark", 0, ("none", 2048, 0)),
+        *asked((0, 512, 512)),
+    ]),
+]
+
+WORKED = SINGLES + BATCH_GAMES + WAYS_GAMES
 
 # N, paying states, moves; and, worked by hand, the looks, with a bar where an inner search begins and where it ends
 # without success; stem and round, if there are any. Start is 0.
@@ -1148,6 +1384,8 @@ def made(table, call, room):
     word, *named = call
     if word == "line":
         return ("no", 1)
+    if word == "ways":
+        return table.ways(*named)
     if word == "batch":
         named = [[line if isinstance(line, tuple) else None for line in named[0]]]
     return getattr(table, word)(*named, room)
@@ -1503,17 +1741,20 @@ def test_lines():
     says(load.replace("game 64 0", "game 64 64") + "go", "no 3|")
 
 
+# What may stand where a line names one state, and the number that it gets in a game of three.
+REFUSED_STATES = (("511", 6), ("512", 6), ("9999", 6), ("65535", 6), ("65536", 1), ("99999", 1), ("100000", 1), ("000000", 1),
+                  ("00", 1), ("01", 1), ("", 1), ("-1", 1), ("+1", 1), ("1\r", 1), ("1\0", 1), ("1 ", 1), (" 1", 1), ("1 1", 1),
+                  ("0 1 2", 1), ("x", 1))
+
+
 def test_mark_lines():
     head, heard = "game 3 0|pay 1|move 0 1|move 1 0|go|", "game 3 2 1|round 3 0 0 2 0 1|"
     says(head + "unmark 1|mark 1|mark 2|unmark 2|mark 0|unmark 0",
          heard + "none 1 1|round 2 1 0 2 0 1|" + "round 0 3 0 2 0 1|" * 2 + "round 3 0 0 2 0 1|" * 2)
     says(head + "mark 1|unmark 0|unmark 2|mark 3|unmark 3|unmark 1|unmark 1|mark 1",
          heard + "no 13|no 14|no 14|no 6|no 6|none 1 1|no 14|round 2 1 0 2 0 1|")
-    for number, refusal in (("511", 6), ("512", 6), ("9999", 6), ("65535", 6), ("65536", 1), ("99999", 1),
-                            ("100000", 1), ("000000", 1), ("00", 1), ("01", 1), ("", 1), ("-1", 1), ("+1", 1),
-                            ("1\r", 1), ("1\0", 1), ("1 ", 1), (" 1", 1), ("1 1", 1), ("0 1 2", 1), ("x", 1)):
-        for word in ("mark", "unmark"):
-            says(head + "%s %s|unmark 1" % (word, number), heard + "no %d|none 1 1|" % refusal)
+    for (number, refusal), word in itertools.product(REFUSED_STATES, ("mark", "unmark")):
+        says(head + "%s %s|unmark 1" % (word, number), heard + "no %d|none 1 1|" % refusal)
     for bad in ("mark", "unmark", "Mark 0", "MARK 0", "marks 0", "mar 0", "unMark 1", "un mark 1", "unmarked 1",
                 "mark\v0", "\0mark 0", " mark 0", "pay 0", "mark" + " " * 40 + "0"):
         says(head + bad + "|unmark 1", heard + "no 1|none 1 1|")
@@ -1799,6 +2040,127 @@ def test_small_batches():
             batched(again(t)[0], list(lines), t.size)
 
 
+def test_ways_lines():
+    head, heard = "game 3 0|pay 1|move 0 1|move 1 0|go|", "game 3 2 1|round 3 0 0 2 0 1|"
+    says(head + "ways 0|ways 2|add 2 2|ways 2|ways 3|add 2 1|ways 2|ways 1|cut 2 2|ways 2",
+         heard + "ways 0 1 1|ways 2 0 0|round 0 3 0 2 0 1|ways 2 1 1|no 6|round 0 3 0 2 0 1|ways 2 2 1|ways 1 1 2|"
+         "round 0 3 0 2 0 1|ways 2 1 0|")
+    for number, refusal in REFUSED_STATES:
+        says(head + "ways %s|unmark 1|ways 1" % number, heard + "no %d|none 1 1|ways 1 1 1|" % refusal)
+    for bad in ("ways", "Ways 0", "WAYS 0", "way 0", "wayss 0", "ways\v0", "\0ways 0", " ways 0", "ways" + " " * 40 + "0"):
+        says(head + bad + "|unmark 1", heard + "no 1|none 1 1|")
+    for word, at in itertools.product(("ways 0", "ways 9", "ways"), range(5)):
+        says("|".join(head.split("|")[:at] + [word, "go", "ways 0"]), "no 1|")        # misplaced before `go`
+    for row in ("ways 0", "ways 9", "ways"):                 # and inside a batch, of which it is no end
+        says(head + "begin|%s|end|ways 1" % row, heard + "no 1 1|ways 1 1 1|")
+        says(head + "begin|cut 0 1|add 2 1|%s|cut 0 1|end|ways 1|ways 2" % row, heard + "no 1 3|ways 1 1 1|ways 2 0 0|")
+        says(head + "ways 1|begin|cut 0 1|" + row, heard + "ways 1 1 1|")
+        says(head + "begin|" + "mark 2|unmark 2|" * 32 + row + "|end", heard + "no 1 65|")
+    for word in ("kinds 1", "short 1", "all", "why", "sheet"):
+        says(head + word + "|ways 0", heard + "no 1|ways 0 1 1|")
+    given, wanted = as_text(head + "ways 0|ways 9|ways 2"), as_text(heard + "ways 0 1 1|no 6|ways 2 0 0|")
+    assert bench_answer(given, 65536) == bench_answer(given, len(wanted)) == (wanted, 2 * len(wanted))
+    for line in (wanted[-11:], wanted[-16:-11], wanted[-27:-16]):
+        assert bench_answer(given, len(wanted) - 1) == (wanted[:-len(line)], 2 * (len(wanted) - len(line)) + 1)
+        wanted = wanted[:-len(line)]
+    try:
+        Table().ways(0)
+        assert False, "a question without a session"
+    except RuntimeError:
+        pass
+
+
+class Tally:
+    """The counts of the ways out and in by what is loaded and accepted alone, without a count over the moves present."""
+
+    def __init__(self, moves):
+        self.leaving, self.entering = Counter(), Counter()
+        for move in moves:
+            self.move("add", *move)
+
+    def move(self, word, a, b):
+        self.leaving[a] += 1 if word == "add" else -1
+        self.entering[b] += 1 if word == "add" else -1
+
+    def heard(self, lines, answer):
+        for line in lines if answer[0] != "no" else ():
+            if len(line) == 3:
+                self.move(*line)
+
+    def check(self, table):
+        """The table answers every question so, and is left as it was."""
+        held = table.run, list(table.moves), list(table.pays)
+        for s in range(table.size):
+            assert table.ways(s) == ("ways", s, self.leaving[s], self.entering[s]), (table.moves, s)
+        assert {table.ways(s) for s in (table.size, table.size + 1, 512, 65535)} == {("no", 6)}
+        assert sum(self.leaving.values()) == sum(self.entering.values()) == len(table.moves)
+        assert held == (table.run, table.moves, table.pays)
+
+
+def some_call(rng, table):
+    """A change alone or a batch, refused or not, as a call; and its lines."""
+    alone = rng.random() < 0.6
+    count = 1 if alone else rng.choice((0, 1, 2, 3, 5, 10, rng.choice((63, 64, 65))))
+    if rng.random() > 0.3:
+        lines = random_lines(rng, table, count)
+    else:
+        lines = spoilt(rng, table, [] if alone else random_lines(rng, table, count))
+    if not alone:
+        return ("batch", lines), lines
+    return lines[0] or ("line", "x"), lines
+
+
+def test_ways():
+    """The counts behind random changes and batches, each load on the same table; some lists are too short."""
+    rng = random.Random(13)
+    seen = Counter()
+    t = Table()
+    for _ in range(700):
+        assert random_load(rng, t, 8)[0] != "no"
+        tally = Tally(t.moves)
+        tally.check(t)
+        for _ in range(12):
+            call, lines = some_call(rng, t)
+            answer = made(t, call, rng.choice((t.size, t.size, 600, 0)))
+            tally.heard(lines, answer)
+            tally.check(t)
+            seen[call[0] == "batch", answer[0] == "no"] += 1
+    assert len(seen) == 4 and min(seen.values()) > 500, seen
+
+
+def answered(rows, calls):
+    """The output for a game and these calls, as one line for each call, behind those of the load."""
+    lines = answer_text(as_text("|".join(rows + [row for call in calls for row in rows_of(call)]))).splitlines(True)
+    assert len(lines) == 2 + len(calls)
+    return lines[:2], lines[2:]
+
+
+def questions_matter_not(rng, size, rows, calls):
+    """Every other line is answered alike without the questions, with these, and with more at every place."""
+    load, plain = answered(rows, [call for call in calls if call[0] != "ways"])
+    more = [("ways", rng.choice((rng.randrange(size), rng.randrange(size), size, 65535))) for _ in range(2 * len(calls) + 2)]
+    sprinkled = more[-2:] + [row for call, *two in zip(calls, more[0::2], more[1::2]) for row in (call, *two)]
+    for asking in (calls, sprinkled):
+        first, lines = answered(rows, asking)
+        assert first == load and [line for call, line in zip(asking, lines) if call[0] != "ways"] == plain, (rows, asking)
+
+
+def test_questions():
+    """Questions between any lines of the games worked by hand and of random sessions leave the other answers as they are."""
+    rng = random.Random(14)
+    for _, size, pay, moves, _, calls in WORKED:
+        questions_matter_not(rng, size, game_rows(size, 0, pay, moves), [call[:-1] for call in calls])
+    for _ in range(300):
+        t, calls = Table(), []
+        random_load(rng, t, 8)
+        rows = game_rows(t.size, t.start, [s for s in range(t.size) if t.pays[s]], t.moves)
+        for _ in range(10):
+            call, _ = some_call(rng, t)
+            made(t, call, MOST_STATES)
+            calls.append((call[0], ["x" if line is None else line for line in call[1]]) if call[0] == "batch" else call)
+        questions_matter_not(rng, t.size, rows, calls)
+
+
 def test_looks():
     def two(text):
         return [(int(a), int(b)) for a, b in text.replace("|", "").split()]
@@ -1906,6 +2268,9 @@ def selftest():
     test_batch_numbers()
     test_batches()
     test_small_batches()
+    test_ways_lines()
+    test_ways()
+    test_questions()
     test_looks()
     test_deepest()
     test_textbook()

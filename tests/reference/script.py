@@ -29,7 +29,7 @@ CODES = {word: op for op, word in OPS.items()}
 ALREADY = {"add": 8, "cut": 10, "mark": 13, "unmark": 14}      # the number where it is so already
 # About each border of two words, and some other states.
 PROBES = [1, 15, 16, 31, 32, 62, 63, 64, 65, 127, 128, 191, 192, 255, 256, 319, 320, 383, 384, 447, 448, 510, 511]
-LIMITS = {"games": 11300, "edges": 33000, "small": 8400, "full": 11300}   # bytes
+LIMITS = {"games": 11700, "edges": 33400, "small": 8200, "full": 10700}   # bytes
 assert sum(LIMITS.values()) <= 64000
 LIMITS["batches"] = 64000
 
@@ -51,6 +51,9 @@ def replay_block(block):
         op = next(numbers)
         if op == 0:
             break
+        if op == 7:
+            yield from replied(table.ways(*take(1)))
+            continue
         answer, room = (read_load if op == 1 else read_batch if op == 6 else read_change)(table, op, take)
         assert room <= LENT
         yield from told(answer, room)
@@ -85,6 +88,11 @@ def as_change(op, first, second):
         return OPS[op], first, second
     assert second == 0                          # a mark names one state
     return OPS[op], first
+
+
+def replied(answer):
+    """The numbers printed for a question. No list is lent, so none is summed up."""
+    return [0, answer[1]] if answer[0] == "no" else [4, *answer[1:]]
 
 
 def told(answer, room):
@@ -125,6 +133,7 @@ class Script:
         self.numbers = []
         self.table = Table()
         self.calls = []
+        self.named = []                         # the states of the last change or batch, for the next question
         self.no_change = itertools.cycle(NO_CHANGE)
 
     def _said(self, word, moves, answer, want, place=None):
@@ -138,6 +147,7 @@ class Script:
         """pay: states; want: the verdict or the number that must come out."""
         room = size if room is None else room
         words = words_of(pay)
+        self.named = []
         self.numbers += [1, size, start]
         self.numbers += [w >> (16 * i) & 0xFFFF for w in words for i in range(4)]
         self.numbers += [len(numbers), *numbers, room]
@@ -148,6 +158,7 @@ class Script:
         """named: the two states of a move, or the state of a mark, behind which stands a 0."""
         assert self.table.loaded
         room = self.table.size if room is None else room
+        self.named = list(named)
         self.numbers += [CODES[word], *named, *[0] * (2 - len(named)), room]
         before = self.table.run
         answer = getattr(self.table, word)(*named, room)
@@ -160,11 +171,21 @@ class Script:
         """lines: as Table.batch takes them; want: the verdict, or the number and the position."""
         assert self.table.loaded and len(lines) <= MOST_LINES
         room = self.table.size if room is None else room
+        self.named = [state for line in lines if line for state in line[1:]]
         self.numbers += [6, room, len(lines)]
         for line in lines:
             self.numbers += next(self.no_change) if line is None else (CODES[line[0]], *line[1:], *[0] * (3 - len(line)))
         moves = [line[1:] for line in lines if line and len(line) == 3]
         return self._said("batch", moves, self.table.batch(lines, room), want, len(lines))
+
+    def ways(self, *states, want=None):
+        """Questions, one about each of these states; want: of each the two counts, or the number."""
+        assert self.table.loaded
+        for state in states:
+            self.numbers += [7, state]
+            answer = self.table.ways(state)
+            assert want in (None, answer[1] if answer[0] == "no" else answer[2:]), (state, answer, want)
+            self._said("ways", [], answer, None)
 
     def add(self, a, b, room=None, want=None):
         return self.change("add", a, b, room=room, want=want)
@@ -207,6 +228,20 @@ class Script:
         return struct.pack("<%dH" % len(self.numbers), *self.numbers)
 
 
+def worked(s, games):
+    """Games of the reference, with batches and questions. Lines that make no call are left out."""
+    for name, size, pay, moves, first, calls in games:
+        assert s.load(size, 0, pay, flat(moves)) == first, name
+        for word, *named, wanted in calls:
+            if word == "batch":
+                lines = [line if isinstance(line, tuple) else None for line in named[0]]
+                assert s.batch(lines) == wanted, name
+            elif word == "ways":
+                s.ways(*named, want=wanted[1] if wanted[0] == "no" else wanted[2:])
+            elif word != "line":
+                assert s.change(word, *named) == wanted, name
+
+
 def make_games(s, rng):
     for name, size, pay, moves, first, changes in reference.SINGLES:
         if len(name) == 1:                      # of games A to I
@@ -214,7 +249,7 @@ def make_games(s, rng):
         assert s.load(size, 0, pay, flat(moves)) == first, name
         for word, *named, wanted in changes:
             assert s.change(word, *named) == wanted, name
-        if name.startswith("unreached"):        # what follows was asked behind enough other games
+        if name.startswith(("mark", "unreached")):                # what follows was asked behind enough other games
             continue
         s.add(size, 0, want=6)
         s.cut(0, size, want=6)
@@ -226,6 +261,8 @@ def make_games(s, rng):
             s.cut(*s.table.moves[0], room=LENT)
         s.there_and_back(s.move_words((0, 0)), (0, 0), size - 1)
         s.there_and_back(s.mark_words(size - 1), (size - 1,), size - 1)
+    # a hub of 512 states stands in the edges
+    worked(s, [game for game in reference.WAYS_GAMES if len(game[3]) < reference.MOST_MOVES])
 
 
 def distinct_moves(rng, size, count, banned=(), share=0.1):
@@ -409,10 +446,12 @@ def make_edges(s, rng):
     s.mark(511, room=511, want=13)
     s.unmark(511, want="none")
 
-    # the full table: nearly every state has a move to itself; the 2,048th and the 2,049th are such
+    # the full table: nearly every state has a move to itself, the 2,048th and the 2,049th are such; one has moves to and from all
     size = 512
     rng.shuffle(own)
-    moves = own[5:] + distinct_moves(rng, size, 2047 - 507, own, share=0)
+    hub = own[8][0]
+    spokes = [m for t in range(size) if t != hub for m in ((hub, t), (t, hub))]
+    moves = own[5:] + spokes + distinct_moves(rng, size, 2047 - 507 - len(spokes), own + spokes, share=0)
     rng.shuffle(moves)
     moves += own[3:5]
     pay = [t for t, _ in own[5:8]]
@@ -420,6 +459,7 @@ def make_edges(s, rng):
     moves.pop()
     s.load(size, 0, pay, flat(moves), room=600)
     assert len(s.table.moves) == 2048
+    hub_edges(s, hub, own)
     for t in pay:
         s.cut(t, t)
         s.add(t, t)
@@ -451,6 +491,46 @@ def make_edges(s, rng):
     s.mark(512, room=0, want=6)
     s.add(*moves[0], want=9)
     mark_edges(s)
+
+
+def hub_edges(s, hub, own):
+    """A full table in which the hub has a move to each of 512 states and one from each; the first five of these own moves
+    are not there but for the fourth."""
+    s.ways(hub, want=(512, 512))
+    s.ways(512, 513, 65535, want=6)
+    for t in (own[0][0], own[6][0]):            # without a move to itself, and with one
+        _, _, leaving, entering = s.table.ways(t)
+        s.cut(hub, t)
+        s.ways(t, want=(leaving, entering - 1))
+        s.ways(hub, want=(511, 512))
+        s.cut(t, hub)
+        s.ways(t, want=(leaving - 1, entering - 1))
+        s.ways(hub, want=(511, 511))
+        s.cut(t, hub, room=0, want=10)
+        s.add(t, hub, room=511, want=11)
+        s.add(t, 512, want=6)
+        s.ways(hub, want=(511, 511))
+        s.add(t, hub)
+        s.ways(hub, want=(511, 512))
+        s.add(hub, t)
+        s.add(hub, t, want=8)
+        s.ways(hub, want=(512, 512))
+        s.ways(t, want=(leaving, entering))
+    s.add(*own[0], want=9)
+    s.ways(own[0][0], hub)
+    s.cut(hub, hub, room=511, want=11)
+    s.ways(hub, want=(512, 512))
+    s.cut(hub, hub)
+    s.ways(hub, want=(511, 511))                # its own move counted on both sides
+    s.batch([("add", hub, hub), ("cut", hub, 0), ("cut", 0, hub), ("add", *own[0]), ("add", *own[0])], want=(8, 5))
+    s.ways(hub, want=(511, 511))
+    s.batch([("add", hub, hub), ("cut", hub, own[6][0]), ("cut", own[7][0], hub)])
+    s.ways(hub, want=(511, 511))
+    s.batch([("add", own[7][0], hub), ("add", hub, own[6][0]), ("add", *own[0])], want=(9, 3))
+    s.ways(hub, want=(511, 511))
+    s.batch([("add", hub, own[6][0]), ("add", own[7][0], hub)])
+    s.ways(hub, want=(512, 512))
+    s.ways(*[t for t, _ in own[3:8]])
 
 
 def ring_edges(s):
@@ -565,7 +645,7 @@ def mark_edges(s):
 def make_small(s, rng, limit):
     while True:
         room_left = limit - s.size_in_bytes()
-        if room_left < 900:                     # one session is always below this
+        if room_left < 1000:                    # one session is always below this
             return
         small_session(s, rng)
 
@@ -584,6 +664,17 @@ def some_switch(s, rng, state, room):
     if dice < 0.04:
         state = s.table.size + rng.choice((0, 0, 1, 57, 60000))
     return s.change(second if dice < 0.12 else first, state, room=room)
+
+
+def some_question(s, rng, share):
+    """With this chance a question: mostly about a state that the call before names, or any, or one outside."""
+    dice, size = rng.random(), s.table.size
+    if rng.random() > share:
+        return
+    if dice < 0.65 and s.named:
+        s.ways(rng.choice(s.named))
+    else:
+        s.ways(size + rng.choice((0, 0, 1, 57, 60000)) if dice > 0.94 else rng.randrange(size))
 
 
 def some_spared(s, rng, room, target):
@@ -653,6 +744,7 @@ def small_changes(s, rng, every, wanted):
         return rng.choice(near if near and rng.random() < 0.6 else moves)
 
     for _ in range(rng.randint(16, 36) if size > 1 else 6):
+        some_question(s, rng, 0.3)
         room = small_room(rng, size)
         if rng.random() < 0.3 and some_spared(s, rng, room, lambda _: rng.randrange(size)):
             continue
@@ -731,6 +823,7 @@ def make_full(s, rng, limit):
     table = s.table
     last_cut = None
     while s.size_in_bytes() + 40 <= limit:
+        some_question(s, rng, 0.4)
         room = size if rng.random() < 0.7 else rng.randint(size, LENT)
         if rng.random() < 0.02:
             room = rng.randint(0, size - 1)
@@ -792,24 +885,12 @@ def make_full(s, rng, limit):
 # ------------------------------------------------------------- batches
 
 def make_batches(s, rng, limit):
-    worked_batches(s)
+    worked(s, reference.BATCH_GAMES)
     lent_batches(s)
     line_batches(s, rng)
     full_batches(s, rng)
     while limit - s.size_in_bytes() > 1200:     # room for a load and a batch
         random_batches(s, rng, limit)
-
-
-def worked_batches(s):
-    """The games of the reference."""
-    for name, size, pay, moves, first, calls in reference.BATCH_GAMES:
-        assert s.load(size, 0, pay, flat(moves)) == first, name
-        for word, *named, wanted in calls:
-            if word == "batch":
-                lines = [line if isinstance(line, tuple) else None for line in named[0]]
-                assert s.batch(lines) == wanted, name
-            elif word != "line":
-                assert s.change(word, *named) == wanted, name
 
 
 def lent_batches(s):
@@ -846,6 +927,7 @@ def line_batches(s, rng):
         for quiet in (True, False):
             lines = some_lines(rng, s.table, count, quiet)
             s.batch(lines, want=(15, 65) if len(lines) > 64 else None)
+            some_question(s, rng, 0.7)
         if not s.table.run.found:
             s.load(64, 0, [last], flat(moves + [(last, last - 1)]), want="round")
 
@@ -861,6 +943,7 @@ def full_batches(s, rng):
             lines = next(lines for lines in draws if (lines[-1] is None) == (number == 1))
             refused = number if place < 65 or number == 1 else 15
             s.batch(lines + [None] * rng.choice((0, 0, 1, 5)), want=(refused, place))
+            some_question(s, rng, 0.9)
     new = distinct_moves(rng, size, 3, s.table.moves)
     old = s.table.moves[700]
     s.batch([("cut", *old), ("add", *new[0]), ("add", *new[1])], want=(9, 3))
@@ -869,6 +952,7 @@ def full_batches(s, rng):
     s.batch([("add", *new[1])], want=(9, 1))
     for quiet, count in ((True, 64), (True, 63), (False, 64), (False, 2), (True, 64), (False, 64)):
         s.batch(some_lines(rng, s.table, count, quiet), room=rng.choice((size, LENT)))
+        s.ways(*rng.sample(s.named, 2))
 
 
 def random_batches(s, rng, limit):
@@ -881,16 +965,18 @@ def random_batches(s, rng, limit):
         rng.shuffle(moves)
     s.load(size, 0, sorted({size - 1, rng.randrange(size)}), flat(moves))
     for _ in range(rng.randint(6, 14)):
-        if s.size_in_bytes() + 430 > limit:     # the longest batch and two changes
+        if s.size_in_bytes() + 430 > limit:     # the longest batch, two changes and three questions
             return
         count = rng.choice((0, 1, 1, 2, 2, 3, 3, 4, 5, 6, 9, rng.choice((17, *LENGTHS))))
         fault = (rng.choice(NUMBERS), rng.choice((1, max(1, count // 2), max(1, count)))) if rng.random() < 0.35 else None
         s.batch(some_lines(rng, s.table, count, rng.random() < 0.45, fault), small_room(rng, size))
+        some_question(s, rng, 0.7)
         if rng.random() < 0.3:
             some_switch(s, rng, rng.randrange(size), small_room(rng, size))
         if rng.random() < 0.3:
             move = rng.choice(every)
             s.change(s.move_words(move)[rng.random() < 0.1], *move, room=small_room(rng, size))
+            some_question(s, rng, 0.5)
 
 
 MAKERS = {"games": make_games, "edges": make_edges, "small": make_small, "full": make_full, "batches": make_batches}
@@ -948,15 +1034,27 @@ def batch_stats(calls):
         print("    no %2d at" % number, *sorted(at for n, at in places if n == number))
 
 
+def question_stats(calls):
+    """Of the questions too what they stand behind."""
+    pairs_of = [(before, call) for before, call in zip(calls, calls[1:]) if call.word == "ways"]
+    counts("questions", [call.answer for _, call in pairs_of])
+    behind = Counter("a refused " + b.word if b.answer[0] == "no" else b.word for b, _ in pairs_of if b.word != "ways")
+    print("    they stand behind", dict(sorted(behind.items())))
+    told_counts = [call.answer[2:] for _, call in pairs_of if call.answer[0] == "ways"]
+    print("    most leaving %d, entering %d; both 0 in %d" % (
+        *(max((pair[side] for pair in told_counts), default=0) for side in (0, 1)), sum(pair == (0, 0) for pair in told_counts)))
+
+
 def stats(seed):
     for kind in list(MAKERS) + ["all"]:
         s = make(seed, kind)
         print(kind, "script", len(s.data()), "bytes; output", len(replay(s.data())), "bytes")
-        every = [call.answer for call in s.calls]
+        every = [call.answer for call in s.calls if call.word != "ways"]
         marks = [call.answer for call in s.calls if call.word in ("mark", "unmark")]
         counts("calls", every)
         counts("those that name a self-move", [call.answer for call in s.calls if call.own])
         counts("marks and unmarks", marks)
+        question_stats(s.calls)
         looks("calls", every)
         looks("marks and unmarks", marks)
         batch_stats([call for call in s.calls if call.word == "batch"])
