@@ -7,7 +7,8 @@
     python3 script.py --replay < script               expected output of any script
     python3 script.py --stats SEED                    what the scripts contain
 
-KIND is games, edges, small, full, or all (the four as one script, one end); batches; or blocks (all, and batches behind it).
+KIND is games, edges, small, full or batches; known (games and edges as one script, one end) or drawn (small and full); or blocks (known,
+drawn and batches, one block each).
 """
 
 import itertools
@@ -29,9 +30,7 @@ CODES = {word: op for op, word in OPS.items()}
 ALREADY = {"add": 8, "cut": 10, "mark": 13, "unmark": 14}      # the number where it is so already
 # About each border of two words, and some other states.
 PROBES = [1, 15, 16, 31, 32, 62, 63, 64, 65, 127, 128, 191, 192, 255, 256, 319, 320, 383, 384, 447, 448, 510, 511]
-LIMITS = {"games": 11700, "edges": 33400, "small": 8200, "full": 10700}   # bytes
-assert sum(LIMITS.values()) <= 64000
-LIMITS["batches"] = 64000
+LIMITS = {"games": 30000, "edges": 33400, "small": 20000, "full": 20000, "batches": 64000}   # bytes
 
 
 # ------------------------------------------------------- expected output
@@ -249,7 +248,7 @@ def make_games(s, rng):
         assert s.load(size, 0, pay, flat(moves)) == first, name
         for word, *named, wanted in changes:
             assert s.change(word, *named) == wanted, name
-        if name.startswith(("mark", "unreached")):                # what follows was asked behind enough other games
+        if name.startswith("unreached"):        # what follows was asked behind enough other games
             continue
         s.add(size, 0, want=6)
         s.cut(0, size, want=6)
@@ -261,8 +260,7 @@ def make_games(s, rng):
             s.cut(*s.table.moves[0], room=LENT)
         s.there_and_back(s.move_words((0, 0)), (0, 0), size - 1)
         s.there_and_back(s.mark_words(size - 1), (size - 1,), size - 1)
-    # a hub of 512 states stands in the edges
-    worked(s, [game for game in reference.WAYS_GAMES if len(game[3]) < reference.MOST_MOVES])
+    worked(s, reference.WAYS_GAMES)
 
 
 def distinct_moves(rng, size, count, banned=(), share=0.1):
@@ -980,13 +978,14 @@ def random_batches(s, rng, limit):
 
 
 MAKERS = {"games": make_games, "edges": make_edges, "small": make_small, "full": make_full, "batches": make_batches}
-ALL = "games", "edges", "small", "full"
+PARTS = {"known": ("games", "edges"), "drawn": ("small", "full"), "batches": ("batches",)}     # of each block
+assert all(sum(LIMITS[name] for name in names) <= 64000 for names in PARTS.values())
 
 
 def make(seed, kind):
     """The finished Script of a kind."""
     whole = Script()
-    for name in ALL if kind == "all" else [kind]:
+    for name in PARTS.get(kind, [kind]):
         part = Script()
         rng = random.Random("%d %s" % (seed, name))
         if name in ("games", "edges"):
@@ -1003,7 +1002,8 @@ def make(seed, kind):
 def script_of(seed, kind):
     """The bytes of a script."""
     if kind == "blocks":
-        return script_of(seed, "all").ljust(BLOCK, b"\0") + script_of(seed, "batches")
+        *most, last = (script_of(seed, part) for part in PARTS)
+        return b"".join(script.ljust(BLOCK, b"\0") for script in most) + last
     return make(seed, kind).data()
 
 
@@ -1046,7 +1046,7 @@ def question_stats(calls):
 
 
 def stats(seed):
-    for kind in list(MAKERS) + ["all"]:
+    for kind in MAKERS:
         s = make(seed, kind)
         print(kind, "script", len(s.data()), "bytes; output", len(replay(s.data())), "bytes")
         every = [call.answer for call in s.calls if call.word != "ways"]
