@@ -11,7 +11,7 @@ use Rattle.plain.specs.Machine.{Change, add, cut, Update, single, batch, change
 use Rattle.plain.specs.Questions.{Question, replyTo, tableNext}
 use Rattle.plain.specs.Claims.{totalled, tableBehind, lastOf}
 use Rattle.plain.specs.Games.{gameH}
-use Rattle.plain.specs.Orders.{Apart, Permutation, nothing, first, changesAsked, EachAccepted, addAndCut, totalLine}
+use Rattle.plain.specs.Orders.{AnsweredAlike, Apart, Permutation, nothing, first, changesAsked, EachAccepted, addAndCut, totalLine}
 use Rattle.plain.proofs.Answers.{first-line}
 use Rattle.plain.proofs.Calls.{fresh-reports, answer-accepted, after-reports}
 use Rattle.plain.proofs.Orders.{line-totalled, written-totalled, any-orders, brings-back, cut-follows, need-not}
@@ -67,12 +67,8 @@ told-alike a b x y e v w = record {
 
 -- ---- what is asked behind
 
--- the plain table answers calls alike from both tables, and replies alike behind them
-record Alike (t u : Table) : Type 0 where
-  same-answers : (cs : List Call) → answers cs t ≡ answers cs u
-  same-replies : (cs : List Call) (q : Question) → replyTo q (tableBehind cs t) ≡ replyTo q (tableBehind cs u)
-
-alike-after : (t u : Table) → Alike t u → (c : Call) → Alike (tableAfter c t) (tableAfter c u)
+-- what is answered alike on two tables is answered alike behind a call
+alike-after : (t u : Table) → AnsweredAlike t u → (c : Call) → AnsweredAlike (tableAfter c t) (tableAfter c u)
 unfolding answers tableBehind
 alike-after t u w c = record { same-answers = λ cs. tail-eq-of-cons-eq (w .same-answers (c ∷ cs)); same-replies = λ cs q. w .same-replies (c ∷ cs) q }
 
@@ -94,7 +90,7 @@ lentIn (toCall u lent) = lent
 lentIn (toQuestion q) = []
 
 -- one call, one question
-same-call : (x y : Exchange) (t u : Table) → Alike t u → CallRight x t → CallRight y u → givenTo (made x) ≡ givenTo (made y) → x ≡ y
+same-call : (x y : Exchange) (t u : Table) → AnsweredAlike t u → CallRight x t → CallRight y u → givenTo (made x) ≡ givenTo (made y) → x ≡ y
 unfolding answers updateIn lentIn
 same-call x y t u w a b g =
     let asked : x .asked ≡ y .asked = ap updateIn g in
@@ -103,14 +99,14 @@ same-call x y t u w a b g =
     let told = head-eq-of-cons-eq (w .same-answers (callIn x ∷ [])) ∙ ap (λ (d : Call). answerTo d u) c in
     one-given x y (answerTo (callIn y) u) asked lent (subst (λ (p : PlainAnswer). Answered p (x .lent) (x .answered) (x .after)) told (a .answers)) (b .answers)
 
-same-reply : (p q : Question) (r s : Reply) (t u : Table) → Alike t u → QuestionRight p r t → QuestionRight q s u → givenTo (posed p r) ≡ givenTo (posed q s) → posed p r ≡ posed q s
+same-reply : (p q : Question) (r s : Reply) (t u : Table) → AnsweredAlike t u → QuestionRight p r t → QuestionRight q s u → givenTo (posed p r) ≡ givenTo (posed q s) → posed p r ≡ posed q s
 unfolding tableBehind
 same-reply p q r s t u w a b g =
     let asked : p ≡ q = cc in
     λ i. posed (asked i) ((a .replies ∙ ap replied (w .same-replies [] p ∙ ap (λ (x : Question). replyTo x u) asked) ∙ sym (b .replies)) i)
 
 -- so what is given the same is answered alike
-same-later : (xs ys : List Event) (t u : Table) → AllRight xs t → AllRight ys u → Alike t u → map givenTo xs ≡ map givenTo ys → xs ≡ ys
+same-later : (xs ys : List Event) (t u : Table) → AllRight xs t → AllRight ys u → AnsweredAlike t u → map givenTo xs ≡ map givenTo ys → xs ≡ ys
 unfolding tableNext
 same-later [] [] t u a b w g = refl
 same-later [] (y ∷ ys) t u a b w g = absurd (nil≢cons g)
@@ -152,7 +148,7 @@ sessions-any-orders s t h xs x later served n ys y later₂ served₂ n₂ apart
     let w = any-orders t (callsIn (xs ++ (made x ∷ []))) (callsIn (ys ++ (made y ∷ []))) (h .arises) apart order (taken s t h xs x later served n) (taken s t h ys y later₂ served₂ n₂) in
     record {
       same-told = told-alike _ _ x y (w .same-report (loadAnswer accepted t) (fresh-reports t)) (last-right s t h xs x later served) (last-right s t h ys y later₂ served₂);
-      same-after = same-later later later₂ _ _ (rest s t h xs x later served) (rest s t h ys y later₂ served₂) (record { same-answers = w .same-after; same-replies = w .same-replies });
+      same-after = same-later later later₂ _ _ (rest s t h xs x later served) (rest s t h ys y later₂ served₂) (w .same-after);
     }
 
 -- ---- TWO ORDERS

@@ -116,8 +116,7 @@ any-orders t cs ds a apart order h k =
     let w = same-views t cs ds apart order h k in
     record {
       same-report = λ before r. last-told cs t a h before r ∙ told-alike (tableBehind cs t) (tableBehind ds t) w ∙ sym (last-told ds t a k before r);
-      same-after = only-rows (tableBehind cs t) (tableBehind ds t) w .same-answers;
-      same-replies = only-rows (tableBehind cs t) (tableBehind ds t) w .same-replies;
+      same-after = only-rows (tableBehind cs t) (tableBehind ds t) w .same-after;
     }
 
 -- TWO ORDERS

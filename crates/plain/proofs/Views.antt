@@ -375,6 +375,5 @@ same-reply q {t} {u} w = ap (λ (x : Trial). questionReply x q t) (trials q) ∙
 pub only-rows : OnlyRows
 only-rows t u w = record {
   same-search = same-final t u w;
-  same-answers = λ cs. same-calls cs w;
-  same-replies = λ cs q. same-reply q (same-behind cs w);
+  same-after = record { same-answers = λ cs. same-calls cs w; same-replies = λ cs q. same-reply q (same-behind cs w) };
 }

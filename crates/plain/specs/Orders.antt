@@ -24,11 +24,15 @@ pub record SameView (t u : Table) : Type 0 where
   pub same-words : length (t .words) ≡ length (u .words)
   pub same-marks : (s : ℕ) → accepts (t .words) s ≡ accepts (u .words) s
 
--- The search sees no more of a table, and neither do calls, whatever their list, and questions, before, between and behind them.
-pub record SeenAlike (t u : Table) : Type 0 where
-  pub same-search : final t ≡ final u
+-- No list of calls tells two tables apart, and no question does, before, between or behind the calls.
+pub record AnsweredAlike (t u : Table) : Type 0 where
   pub same-answers : (cs : List Call) → answers cs t ≡ answers cs u
   pub same-replies : (cs : List Call) (q : Question) → replyTo q (tableBehind cs t) ≡ replyTo q (tableBehind cs u)
+
+-- The search sees no more of a table, and neither do calls and questions.
+pub record SeenAlike (t u : Table) : Type 0 where
+  pub same-search : final t ≡ final u
+  pub same-after : AnsweredAlike t u
 
 abbrev pub OnlyRows : Type 0
 OnlyRows = (t u : Table) → SameView t u → SeenAlike t u
@@ -61,12 +65,10 @@ unfoldable pub changesAsked : List Call → List Change
 changesAsked [] = []
 changesAsked (c ∷ cs) = changesOf (c .update) ++ changesAsked cs
 
--- Two lists of calls end alike: in the same verdict, walk and total in the last answer (of an empty list that is the one before it), and no call behind them tells the two apart,
--- nor does a question.
+-- Two lists of calls end alike: in the same verdict, walk and total in the last answer (of an empty list that is the one before it), and nothing asked behind them tells the two apart.
 pub record SameEnding (cs ds : List Call) (t : Table) : Type 0 where
   pub same-report : (before : Answer) → Reports before t → totalled (lastOf before (answers cs t)) ≡ totalled (lastOf before (answers ds t))
-  pub same-after : (es : List Call) → answers es (tableBehind cs t) ≡ answers es (tableBehind ds t)
-  pub same-replies : (es : List Call) (q : Question) → replyTo q (tableBehind es (tableBehind cs t)) ≡ replyTo q (tableBehind es (tableBehind ds t))
+  pub same-after : AnsweredAlike (tableBehind cs t) (tableBehind ds t)
 
 -- Beyond the ticket's two: any number of changes that name pairwise different states, in any two orders that are accepted, each a call of its own or in a batch.
 abbrev pub AnyOrders : Type 0

@@ -70,6 +70,11 @@ counted-on n es (e ∷ fs) xs size within few f =
 pub counted-load : (n : ℕ) (es : List Edge) → n ≤ 512 → any (outside n) es ≡ false → length es ≤ 2048 → Counted es (countedAll es (replicate 512 0))
 counted-load n es size within few = counted-on n [] es (replicate 512 0) size within (omega arith) counted-none
 
+pub counted-length : (es : List Edge) (xs : List ℕ) → length (countedAll es xs) ≡ length xs
+unfolding countedAll
+counted-length [] xs = refl
+counted-length (e ∷ es) xs = counted-length es (recounted true (e .1) xs) ∙ recounted-length true (e .1) xs
+
 -- as it goes through a list of numbers
 pub counted-next : (ns : List ℕ) (i : ℕ) (xs : List ℕ) → i + 1 < length ns → countedAll (pairs (drop i ns)) xs ≡ countedAll (pairs (drop (i + 2) ns)) (recounted true (getD ns (i + 1) 0) xs)
 unfolding countedAll

@@ -1,24 +1,23 @@
 -- `count_edges` meets its contract: the moves from place i on are still to be counted. Assumes nothing.
 use mathlib.Core.Path.{_≡_, refl, sym, ap, _∙_}
-use mathlib.Core.Bool.{true}
 use Prim.Native.Nat.{_+_, _-_, _≤_}
 use native.Mathlib.Omega.{arith}
 use denote.Ref.{now}
-use lib.ListN.{length, getD, drop}
+use lib.ListN.{length, drop}
 use Rattle.plain.specs.Refusals.{pairs}
 use Rattle.table.specs.Filing.{countedAll}
-use Rattle.table.proofs.Counting.{recounted-length, counted-next, counted-end}
+use Rattle.table.proofs.Counting.{counted-length, counted-next, counted-end}
 use Rattle.table.proofs.count_edges.Statement.{statement}
 use Rattle.table.proofs.count_edges.Tie as tie
 
 abbrev Inv-loop : tie.InvT-loop
-Inv-loop numbers indegree₀ i₀ indegree i = (i ≤ length numbers) × (length indegree ≡ 512) × (countedAll (pairs (drop i numbers)) indegree ≡ countedAll (pairs numbers) indegree₀)
+Inv-loop numbers indegree₀ i₀ indegree i = (i ≤ length numbers) × (countedAll (pairs (drop i numbers)) indegree ≡ countedAll (pairs numbers) indegree₀)
 
 abbrev μ-loop : tie.MeasureT-loop
 μ-loop numbers indegree₀ i₀ indegree i = length numbers - i
 
 loop-holds : tie.Need-loop-holds Inv-loop μ-loop
-loop-holds c = (omega arith, c .before .pre, refl)
+loop-holds c = (omega arith, refl)
 
 add-loop : tie.Need-add-loop Inv-loop μ-loop
 add-loop c = omega arith
@@ -33,7 +32,10 @@ shared-slice-read-count-edge : tie.Need-shared-slice-read-count-edge Inv-loop μ
 shared-slice-read-count-edge c = omega arith
 
 count-edge-requires : tie.Need-count-edge-requires Inv-loop μ-loop
-count-edge-requires c κs = c .before .before .before .loop .inv .1
+count-edge-requires c κs =
+    let s = c .before .before .before in
+    let ns = now (s .before .before .args .numbers) in
+    sym (counted-length (pairs (drop (s .loop .i) ns)) (s .loop .indegree)) ∙ ap length (s .loop .inv .1) ∙ counted-length (pairs ns) _ ∙ s .before .before .pre
 
 add-i : tie.Need-add-i Inv-loop μ-loop
 add-i c = omega arith
@@ -47,15 +49,14 @@ loop-again c =
     let s = t .before in
     let ns = now (s .before .before .args .numbers) in (
       omega arith,
-      ap length (c .count-edge .ensures) ∙ recounted-length true (getD ns (s .loop .i + 1) 0) (s .loop .indegree) ∙ s .loop .inv .1,
-      ap (countedAll (pairs (drop (s .loop .i + 2) ns))) (c .count-edge .ensures) ∙ sym (counted-next ns (s .loop .i) (s .loop .indegree) (t .loop-test .taken)) ∙ s .loop .inv .2,
+      ap (countedAll (pairs (drop (s .loop .i + 2) ns))) (c .count-edge .ensures) ∙ sym (counted-next ns (s .loop .i) (s .loop .indegree) (t .loop-test .taken)) ∙ s .loop .inv .1,
     )
 
 returns : tie.Need-returns Inv-loop μ-loop
 returns c =
     let s = c .before in
     let ns = now (s .before .before .args .numbers) in
-    sym (counted-end ns (s .loop .i) (s .loop .indegree) (c .loop-test .left)) ∙ s .loop .inv .2
+    sym (counted-end ns (s .loop .i) (s .loop .indegree) (c .loop-test .left)) ∙ s .loop .inv .1
 
 pub count-edges-spec : {M : Type 1} → statement M
 count-edges-spec =
