@@ -19,6 +19,7 @@ use Rattle.plain.specs.Machine.{Update, applied, namedBy, keepsAll, kept
 use Rattle.plain.specs.Notes.{Notes, notes, Faithful}
 use Rattle.plain.specs.Claims.{Arises, times, VerdictRight, clear, round, reportOf, ReportRight, KeptRight}
 use Rattle.plain.proofs.Tests.{contra, either, not-in, in-nil, in-head, in-tail, in-cases, or-first, one-le, none-cons, any-in}
+use Rattle.plain.proofs.Upto.{upto, upto-in, once-upto, length-upto}
 use Rattle.plain.proofs.Runs.{lasso-free, lasso-inside}
 use Rattle.plain.proofs.Lassos.{sound, none-right}
 use Rattle.plain.proofs.Bounds.{left, left-add, left-const, left-alone, once-short, times-reverse, probes-twice, each-twice, ended-by}
@@ -30,34 +31,6 @@ use Rattle.plain.proofs.Tables.{Valid, valid, inside-both}
 use Rattle.plain.proofs.SameRun.{shared-unmet, same-run, same-faithful, alike-discovered, alike-probes, alike-verdict}
 use Rattle.plain.proofs.Unexplored.{rows-once}
 use Rattle.plain.proofs.Batches.{update-valid, update-agree, keeps-shared}
-
--- ---- the states of a table
-
-pub upto : ℕ → List ℕ
-upto zero = []
-upto (suc n) = n ∷ upto n
-
-pub upto-in : (x n : ℕ) → x < n → In x (upto n)
-unfolding upto elem
-upto-in x zero h = absurd (omega arith)
-upto-in x (suc n) h = ⊎-elim
-    (λ e. or-first (eqb x n) (elem x (upto n)) e)
-    (λ f. let ne : x ≢ n = eqb-false x n f in in-tail x n (upto n) (upto-in x n (omega arith))) (either (eqb x n))
-
-pub in-upto : (x n : ℕ) → In x (upto n) → x < n
-unfolding upto
-in-upto x zero i = absurd (in-nil x i)
-in-upto x (suc n) i = ⊎-elim (λ e. omega arith) (λ j. omega (arith, in-upto x n j)) (in-cases x n (upto n) i)
-
-pub once-upto : (n : ℕ) → Once (upto n)
-unfolding upto
-once-upto zero = tt
-once-upto (suc n) = (not-in n (upto n) (λ i. omega (arith, in-upto n n i)), once-upto n)
-
-pub length-upto : (n : ℕ) → length (upto n) ≡ n
-unfolding upto
-length-upto zero = refl
-length-upto (suc n) = omega (arith, length-upto n)
 
 -- ---- the rows of different states hold at most the edges of the table
 

@@ -1,5 +1,6 @@
 pub mod AllGames
 pub mod Tests
+pub mod Upto
 pub mod Bits
 pub mod Words
 pub mod Paths
@@ -9,6 +10,14 @@ pub mod Lassos
 pub mod Walks
 pub mod Bounds
 pub mod Prefix
+pub mod Copies
+pub mod Lifting
+pub mod Passing
+pub mod LayerRounds
+pub mod LayerWalks
+pub mod LayerSizes
+pub mod LayerChanges
+pub mod OneLayer
 pub mod SameRun
 pub mod Restore
 pub mod Resume

@@ -19,7 +19,8 @@ use Rattle.plain.proofs.Lassos.{states-on, once-states, walk-once}
 use Rattle.plain.proofs.Bounds.{left, once-short, run-within, discovered-few, probes-twice}
 use Rattle.plain.proofs.Rows.{row-short}
 use Rattle.plain.proofs.Tables.{Valid}
-use Rattle.plain.proofs.Demands.{upto, in-upto, once-upto, length-upto, total-le, start-in, target-in}
+use Rattle.plain.proofs.Upto.{upto, in-upto, once-upto, length-upto}
+use Rattle.plain.proofs.Demands.{total-le, start-in, target-in}
 use Rattle.plain.proofs.Walks.{states-length}
 
 -- a graph of states below a size of at most 512, with at most 2,048 edges

@@ -34,7 +34,7 @@ module _ (g : Graph) where
       (q .0, (x ∷ q .1 .0, (r .0, q .1 .1)), q .2)
 
   -- at a state that a run comes to, it splits into a run of one or more edges, and the rest
-  run-split : (xs : List ℕ) (a b c : ℕ) → Run g a xs b → In c xs → ((y : ℕ) × (ys : List ℕ) × Run g a (y ∷ ys) c) × Reach c b
+  pub run-split : (xs : List ℕ) (a b c : ℕ) → Run g a xs b → In c xs → ((y : ℕ) × (ys : List ℕ) × Run g a (y ∷ ys) c) × Reach c b
   run-split [] a b c r i = absurd (in-nil c i)
   run-split (x ∷ xs) a b c r i = ⊎-elim
       (λ e. ((x, [], (r .0, sym e)), (xs, rw e (r .1))))

@@ -3,6 +3,7 @@ pub mod Search
 pub mod Limits
 pub mod Unexplored
 pub mod Cycles
+pub mod Layers
 pub mod Table
 pub mod Refusals
 pub mod Machine
