@@ -24,6 +24,10 @@ pub up-more : (x : ℕ) → x < 65535 → up x ≡ suc x
 unfolding up
 up-more x h = omega arith
 
+pub up-most : (x : ℕ) → up x ≤ suc x
+unfolding up
+up-most x = omega arith
+
 pub plus-more : (a b : ℕ) → a + b ≤ 65535 → plus a b ≡ a + b
 unfolding plus
 plus-more a b h = omega arith
@@ -38,6 +42,11 @@ further-end x h = rw (le-ltb x 65535 h)
 
 pub further-above : (x : ℕ) → x ≤ further x
 further-above x = ⊎-elim
+    (λ t. omega (arith, further-more x (ltb-true x 65535 t)))
+    (λ t. omega (arith, further-end x (ltb-false x 65535 t))) (either (ltb x 65535))
+
+pub further-most : (x : ℕ) → further x ≤ suc x
+further-most x = ⊎-elim
     (λ t. omega (arith, further-more x (ltb-true x 65535 t)))
     (λ t. omega (arith, further-end x (ltb-false x 65535 t))) (either (ltb x 65535))
 
@@ -74,12 +83,3 @@ edge-left row k t ts e = ⊎-elim
   where
     none-left : length row ≤ k → ⊥
     none-left h = let z : t ∷ ts ≡ [] = e ∙ drop-of-length-le row h in let y : _≡_ {A = ℕ} 0 1 = cc in omega arith
-
--- behind an edge of a row
-pub drop-further : (row : List ℕ) (k : ℕ) → length row ≤ 65535 → drop (further k) row ≡ drop (suc k) row
-drop-further row k h = ⊎-elim
-    (λ t. ap (λ (i : ℕ). drop i row) (further-more k (ltb-true k 65535 t)))
-    (λ t. let l : 65535 ≤ k = ltb-false k 65535 t in
-    let e : length row ≤ k = omega arith in
-    let f : length row ≤ suc k = omega arith in
-    ap (λ (i : ℕ). drop i row) (further-end k l) ∙ drop-of-length-le row e ∙ sym (drop-of-length-le row f)) (either (ltb k 65535))

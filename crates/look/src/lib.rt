@@ -4,9 +4,9 @@ use rows::wide;
 ghost use mathlib.Core.Path.{_≡_};
 ghost use Prim.Native.Nat.{_+_, _-_, _%_, _<_};
 ghost use lib.ListN.{length, getD, set, replicate};
-ghost use Rattle.rows.specs.Rows.{entries, placeOf, Tabled};
+ghost use Rattle.rows.specs.Rows.{entries, placeOf};
 ghost use Rattle.look.specs.Numbers.{up as upped, further as oneFurther, plus as added};
-ghost use Rattle.look.specs.Scan.{Places, Spans, rowIn, Swept};
+ghost use Rattle.look.specs.Scan.{Spans, spanned, layoutOf, endsOf, Stretches, Laid, rowLaid, Swept};
 
 // The places of a row: those from one up to another.
 pub struct Row {
@@ -14,9 +14,16 @@ pub struct Row {
     pub stop: usize,
 }
 
-// Where a scan of a row ends: at the place of an edge, and its target, or behind the last edge.
+// A row as a search reads it: its first place, how many edges it has, and what is added to each target.
+pub struct Stretch {
+    pub from: usize,
+    pub count: usize,
+    pub base: usize,
+}
+
+// Where a scan of a row ends: at an edge, given by its index in the row, and its target, or behind the last edge.
 pub struct Scanned {
-    pub at: usize,
+    pub edge: u16,
     pub target: u16,
     pub found: bool,
 }
@@ -141,43 +148,79 @@ pub fn row_of(starts: &[u16; 513], v: u16) -> Row
     Row { from: 0, stop: 0 }
 }
 
-// The index, in the row of v, of the edge at a place.
-pub fn edge_of(starts: &[u16; 513], v: u16, at: usize) -> u16
-    requires { ⌜ Places (now starts) v at ⌝ }
-    ensures { λ r. ⌜ r ≡ at - getD (now (starts .entry)) v 0 ⌝ }
+// How many edges stand between two places of the targets. Where they go on past the array of targets it is none: no table has such a row. So no turn of a scan has to test
+// where the array ends.
+fn span(from: usize, stop: usize) -> usize
+    ensures { λ r. ⌜ r ≡ spanned from stop ⌝ }
 {
-    let from = wide(rows::start_of(starts, wide(v)));
-    narrow(at - from)
+    if from < stop {
+        if stop <= TARGETS {
+            return stop - from;
+        }
+    }
+    0
 }
 
-// From edge k of v on, the first edge to a state that has no number in the array: with `number` an undiscovered state, with `stamp` an unmarked one.
+// Where each row ends: where the next one starts.
+pub fn lay_ends(starts: &[u16; 513], ends: &mut [u16; 512])
+    requires { ⌜ (length (now starts) ≡ 513) × (length (now ends) ≡ 512) ⌝ }
+    ensures { λ r. ⌜ now (ends .exit) ≡ endsOf (now (starts .entry)) ⌝ }
+{
+    let mut i: usize = 0;
+    while i < STATES {
+        ends[i] = starts[i + 1];
+        i += 1;
+    }
+}
+
+// The row of v, as a search reads it. A state of 512 or more counts as the one that it leaves when divided by 512: no table has such a state.
+fn stretch_of(begins: &[u16; 513], ends: &[u16; 512], bases: &[u16; 512], v: u16) -> Stretch
+    requires { ⌜ (length (now begins) ≡ 513) × (length (now ends) ≡ 512) × (length (now bases) ≡ 512) ⌝ }
+    ensures { λ r. ⌜ Stretches (layoutOf (now (begins .entry)) (now (ends .entry)) (now (bases .entry))) v r ⌝ }
+{
+    let i = wide(v) % STATES;
+    let from = wide(begins[i]);
+    let stop = wide(ends[i]);
+    Stretch {
+        from: from,
+        count: span(from, stop),
+        base: wide(bases[i]),
+    }
+}
+
+// From edge k of v on, the first edge to a state that has no number in the array: with `number` an undiscovered state, with `stamp` an unmarked one. Of each state, `begins` and
+// `ends` have where its row begins and ends among the targets, and `bases` what is added to each of them.
 pub fn scan(
     targets: &[u16; 2048],
-    starts: &[u16; 513],
+    begins: &[u16; 513],
+    ends: &[u16; 512],
+    bases: &[u16; 512],
     array: &[u16; 512],
     spent: &mut u16,
     v: u16,
-    k: u16,
+    k: usize,
 ) -> Scanned
-    requires { ⌜ Tabled (now targets) (now starts) × (length (now array) ≡ 512) ⌝ }
-    ensures { λ r. ⌜ Swept (rowIn (now (targets .entry)) (now (starts .entry)) v) (getD (now (starts .entry)) v 0) (now (array .entry)) k (now (spent .entry)) r (now (spent .exit)) ⌝ }
+    requires { ⌜ Laid (now targets) (now begins) (now ends) (now bases) × (length (now array) ≡ 512) ⌝ }
+    ensures { λ r. ⌜ Swept (rowLaid (now (targets .entry)) (layoutOf (now (begins .entry)) (now (ends .entry)) (now (bases .entry))) v) (now (array .entry)) k (now (spent .entry)) r (now (spent .exit)) ⌝ }
 {
-    let row = row_of(starts, v);
-    let stop = row.stop;
-    let mut at = row.from + wide(k);
-    while at < stop {
-        let t = look(targets, spent, at);
-        if get(array, t) == NO_NUMBER {
+    let row = stretch_of(begins, ends, bases, v);
+    let from = row.from;
+    let count = row.count;
+    let base = row.base;
+    let mut e = k;
+    while e < count {
+        let t = (wide(look(targets, spent, from + e)) + base) % STATES;
+        if array[t] == NO_NUMBER {
             return Scanned {
-                at: at,
-                target: t,
+                edge: narrow(e),
+                target: narrow(t),
                 found: true,
             };
         }
-        at += 1;
+        e += 1;
     }
     Scanned {
-        at: at,
+        edge: 0,
         target: 0,
         found: false,
     }

@@ -83,10 +83,11 @@ module _ (t : Table) (v : Valid t) where
   unfolding badStart
   start-in = upto-in (t .start) (t .size) (leb-false (t .size) (t .start) (v .start-ok))
 
+  pub target-below : (x y : ℕ) → In y (row (t .edges) x) → y < t .size
+  target-below x y j = inside-both (t .size) (x, y) (has-inside (t .size) (t .edges) (x, y) (v .inside) (row-has (t .edges) x y j)) .1
+
   pub target-in : (x y : ℕ) → In x (states t) → In y (searched t .successors x) → In y (states t)
-  target-in x y i j =
-      let f = has-inside (t .size) (t .edges) (x, y) (v .inside) (row-has (t .edges) x y j) in
-      upto-in y (t .size) (inside-both (t .size) (x, y) f .1)
+  target-in x y i j = upto-in y (t .size) (target-below x y j)
 
   edges-few : left (λ x. length (searched t .successors x)) [] (states t) ≤ length (t .edges)
   edges-few = total-le (t .edges) (states t) (states-once t)

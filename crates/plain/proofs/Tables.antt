@@ -1,13 +1,13 @@
 -- The tables that a session can hold keep the limits of document 01. Assumes nothing.
 use mathlib.Core.Path.{_≡_, refl, ap, _∙_}
 use mathlib.Core.Logic.{_≢_, ⊎-elim}
-use mathlib.Core.Bool.{Bool, false, _&&_, not}
+use mathlib.Core.Bool.{Bool, true, false, _&&_, not}
 use mathlib.Core.List.{List, [], _∷_, _++_}
-use Prim.Native.Nat.{ℕ, _*_, _%_, _≤_, _<_}
+use Prim.Native.Nat.{ℕ, zero, suc, _*_, _%_, _≤_, _<_}
 use native.Mathlib.Omega.{arith}
 use lib.Dec.{eqb, ltb, leb}
 use lib.ListN.{length, length-append}
-use borrow.Author.Tests.{ltb-false, leb-false, eqb-false, ne-eqb, le-ltb}
+use borrow.Author.Tests.{ltb-false, leb-false, eqb-true, eqb-false, ne-eqb, le-ltb, le-leb}
 use Rattle.plain.specs.Lists.{any, anyBelow, filter}
 use Rattle.plain.specs.Search.{Edge}
 use Rattle.plain.specs.Table.{Table, accepts, withMark, withoutMark}
@@ -167,3 +167,20 @@ valid-change (unmark s) t room v a = valid-switch t s (withoutMark (t .words) s)
 pub valid : (t : Table) → Arises t → Valid t
 valid t (loaded l room e) = valid-load l room e
 valid t (changed u c room a e) = valid-change c u room (valid u a) e
+
+-- ---- the marks of a table lie below its count of states
+
+below-false : (p : ℕ → Bool) (n s : ℕ) → anyBelow n p ≡ false → s < n → p s ≡ false
+unfolding anyBelow
+below-false p zero s f h = absurd (omega arith)
+below-false p (suc n) s f h =
+    let w = or-false (p n) (anyBelow n p) f in
+    ⊎-elim (λ e. ap p (eqb-true s n e) ∙ w .0) (λ e. let ne : s ≢ n = eqb-false s n e in below-false p n s (w .1) (omega arith)) (either (eqb s n))
+
+pub accepting-few : (t : Table) → Valid t → (s : ℕ) → s < 512 → accepts (t .words) s ≡ ltb s (t .size) && accepts (t .words) s
+unfolding badMarks
+accepting-few t v s h = ⊎-elim
+    (λ e. rw e)
+    (λ e. let unmarked : leb (t .size) s && accepts (t .words) s ≡ false = below-false (λ x. leb (t .size) x && accepts (t .words) x) 512 s (v .marks-ok) h in
+    let above : leb (t .size) s ≡ true = le-leb (t .size) s (ltb-false s (t .size) e) in
+    rw e (rw above at unmarked)) (either (ltb s (t .size)))

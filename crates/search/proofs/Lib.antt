@@ -1,4 +1,5 @@
 pub mod Ways
+pub mod Turns
 pub mod Scans
 pub mod Represents
 pub mod Places

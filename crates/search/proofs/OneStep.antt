@@ -20,10 +20,10 @@ use Rattle.plain.proofs.Walks.{begins-push, begins-pop, begins-at, states-lengt
 use Rattle.plain.specs.Limits.{Limits}
 use Rattle.plain.proofs.Restore.{put-same, put-hit, put-other, ShapeOf, Counted}
 use Rattle.look.specs.Numbers.{noNumber, up, plus}
-use Rattle.look.proofs.Counting.{up-more, plus-more, further-more, no-edge, edge-left, drop-further}
+use Rattle.look.proofs.Counting.{up-more, plus-more, further-more, no-edge, edge-left}
 use Rattle.search.specs.declared.Phase.the-variants.{Outer, Nested, Exhausted, Found}
 use Rattle.search.specs.declared.Walker.{Walker}
-use Rattle.search.specs.Core.{Game, rowOf, Core, coreOf, skipped, left, nesting, finished, returned, emptied, exhausted, closed, withWalker, probed, discover, leaveRoot, deepen, onOpenPath, targetOf, finish, outerStep, nestedStep, step}
+use Rattle.search.specs.Core.{Game, rowOf, acceptsAt, Core, coreOf, skipped, left, nesting, finished, returned, emptied, exhausted, closed, withWalker, probed, discover, leaveRoot, deepen, onOpenPath, targetOf, finish, outerStep, nestedStep, step}
 use Rattle.search.specs.Archive.{rootOf, stampIn}
 use Rattle.search.proofs.Represents.{noteIn, Mirrors, Placed, AtOuter, AtNested, AtReturn, Stands, Matches}
 use Rattle.search.proofs.Ways.{same-sized, outer-ends, outer-discovers, outer-skips, outer-finishes, nested-leaves, nested-closes, nested-deepens, nested-skips, nested-returns, nested-empties, step-at}
@@ -243,19 +243,18 @@ abbrev pub Fits : Graph → Core → Notes → Config → Type 0
 Fits g s r c = Mirrors s r c × Stands g s c
 
 module _ (g : Graph) (game : Game) (m : Matches g game) where
-  row-size : (v : ℕ) → length (g .successors v) ≡ length (rowOf game v)
-  row-size v = ap length (m .rows v)
+  -- the row of the current state
+  current : (s : Core) (x : ℕ) → x < 512 → s .walker .cur ≡ x → g .successors x ≡ rowOf game (s .walker .cur)
+  current s x b e = m .rows x b ∙ ap (rowOf game) (sym e)
 
-  has-edge : (s : Core) (x : ℕ) → s .walker .cur ≡ x → s .walker .next < length (g .successors x) → s .walker .next < length (rowOf game (s .walker .cur))
-  has-edge s x e h = omega (arith, row-size (s .walker .cur), ap (λ (v : ℕ). length (g .successors v)) e)
+  has-edge : (s : Core) (x : ℕ) → x < 512 → s .walker .cur ≡ x → s .walker .next < length (g .successors x) → s .walker .next < length (rowOf game (s .walker .cur))
+  has-edge s x b e h = omega (arith, ap length (current s x b e))
 
-  edges-done : (s : Core) (x : ℕ) → s .walker .cur ≡ x → length (g .successors x) ≤ s .walker .next → length (rowOf game (s .walker .cur)) ≤ s .walker .next
-  edges-done s x e h = omega (arith, row-size (s .walker .cur), ap (λ (v : ℕ). length (g .successors v)) e)
+  edges-done : (s : Core) (x : ℕ) → x < 512 → s .walker .cur ≡ x → length (g .successors x) ≤ s .walker .next → length (rowOf game (s .walker .cur)) ≤ s .walker .next
+  edges-done s x b e h = omega (arith, ap length (current s x b e))
 
-  target-is : (s : Core) (x t : ℕ) → s .walker .cur ≡ x → getD (g .successors x) (s .walker .next) 0 ≡ t → t ≡ targetOf game s
-  target-is s x t e h =
-      sym (ap (λ (row : List ℕ). getD row (s .walker .next) 0) (sym (m .rows (s .walker .cur)))
-      ∙ ap (λ (v : ℕ). getD (g .successors v) (s .walker .next) 0) e ∙ h)
+  target-is : (s : Core) (x t : ℕ) → x < 512 → s .walker .cur ≡ x → getD (g .successors x) (s .walker .next) 0 ≡ t → t ≡ targetOf game s
+  target-is s x t b e h = sym h ∙ ap (λ (row : List ℕ). getD row (s .walker .next) 0) (current s x b e)
 
   -- ---- the outer search
 
@@ -309,15 +308,14 @@ module _ (g : Graph) (game : Game) (m : Matches g game) where
       )
 
   -- the current state leaves the open path
-  leaves : (s : Core) (stamp : List ℕ) (r : Notes) (x : ℕ) (p : List Frame) (d k : List ℕ) (l : List Edge) → ((v : ℕ) → length (g .successors v) ≤ 2048)
+  leaves : (s : Core) (stamp : List ℕ) (r : Notes) (x : ℕ) (p : List Frame) (d k : List ℕ) (l : List Edge)
       → s .walker .cur ≡ x → s .walker .height ≡ suc (length p) → Begins (statesOf p) (s .walk) → Placed (s .depth) p → noteIn s x ≡ r .of x → Below g r x p
       → Stands g (coreOf (left (s .parent) (s .index) (s .walker)) (s .spent) (s .number) (s .parent) (s .index) (s .probes) stamp (s .walk) (s .depth) (s .cursor)) (outer p d k l)
-  leaves s stamp r x [] d k l short e h w z n b = (refl, omega arith)
-  leaves s stamp r x (frame y us ∷ p) d k l short e h w z n b = record {
+  leaves s stamp r x [] d k l e h w z n b = (refl, omega arith)
+  leaves s stamp r x (frame y us ∷ p) d k l e h w z n b = record {
     phase-is = refl;
     cur-is = ap (λ (v : ℕ). getD (s .parent) v 0) e ∙ ap (λ (o : Note). o .parent) n ∙ b .0;
-    pending-is = b .1 ∙ ap (λ (i : ℕ). drop (suc i) (g .successors y)) (ap (λ (o : Note). o .index) (sym n) ∙ ap (λ (v : ℕ). getD (s .index) v 0) (sym e))
-        ∙ sym (drop-further (g .successors y) (getD (s .index) (s .walker .cur) 0) (omega (arith, short y)));
+    pending-is = b .1 ∙ ap (λ (i : ℕ). drop (suc i) (g .successors y)) (ap (λ (o : Note). o .index) (sym n) ∙ ap (λ (v : ℕ). getD (s .index) v 0) (sym e));
     height-is = omega arith;
     walk-is = w;
     places = z;
@@ -328,7 +326,7 @@ module _ (g : Graph) (game : Game) (m : Matches g game) where
   unfolding statesOf
   outer-leave s r x p d k l b i below h a = (
     records-idle s r (outer (frame x [] ∷ p) d k l) (outer p d k l) (left (s .parent) (s .index) (s .walker)) (s .spent) refl refl refl refl (h .probes-right) h,
-    leaves s (s .stamp) r x p d k l (b .rows-short) (a .cur-is) (a .height-is) (begins-pop (statesOf p) (x ∷ []) (s .walk) (a .walk-is)) (a .places .1) (h .notes-right x i) below,
+    leaves s (s .stamp) r x p d k l (a .cur-is) (a .height-is) (begins-pop (statesOf p) (x ∷ []) (s .walk) (a .walk-is)) (a .places .1) (h .notes-right x i) below,
   )
 
   outer-nest : (s : Core) (r : Notes) (x : ℕ) (p : List Frame) (d k : List ℕ) (l : List Edge) → x < 512 → elem x k ≡ false
@@ -411,7 +409,7 @@ module _ (g : Graph) (game : Game) (m : Matches g game) where
     subst (λ (v : ℕ). Mirrors (coreOf (left (s .parent) (s .index) (s .walker)) (s .spent) (s .number) (s .parent) (s .index) (s .probes) (set (s .stamp) v (s .walker .met))
         (s .walk) (s .depth) (s .cursor)) r (outer p d k l)) (sym (a .cur-is))
         (records-left s r (nested b p [] d k l) (outer p d k l) (left (s .parent) (s .index) (s .walker)) b refl refl refl refl base (u .below b i) refl (h .probes-right) h),
-    leaves s (set (s .stamp) (s .walker .cur) (s .walker .met)) r b p d k l (u .rows-short) (a .cur-is) (a .height-is) (a .walk-is) (a .places .1) (h .notes-right b i) below,
+    leaves s (set (s .stamp) (s .walker .cur) (s .walker .met)) r b p d k l (a .cur-is) (a .height-is) (a .walk-is) (a .places .1) (h .notes-right b i) below,
   )
 
   -- the path of the nested search is taken back by one state: out of its first
@@ -445,8 +443,7 @@ module _ (g : Graph) (game : Game) (m : Matches g game) where
         record {
           phase-is = refl;
           cur-is = ap (λ (i : ℕ). getD (s .walk) i 0) place ∙ begins-at (statesOf p ++ statesOf q) y (x ∷ []) (s .walk) w;
-          pending-is = a .cursors .0 ∙ ap (λ (i : ℕ). drop (suc (getD (s .cursor) i 0)) (g .successors y)) (sym at)
-              ∙ sym (drop-further (g .successors y) (getD (s .cursor) (s .walker .top - 1 - 1) 0) (omega (arith, u .rows-short y)));
+          pending-is = a .cursors .0 ∙ ap (λ (i : ℕ). drop (suc (getD (s .cursor) i 0)) (g .successors y)) (sym at);
           height-is = a .height-is;
           top-is = omega (arith, a .top-is);
           walk-is = popped (statesOf p) (statesOf q) x y (s .walk) w;
@@ -564,9 +561,9 @@ module _ (g : Graph) (game : Game) (m : Matches g game) where
       rw (sym (nested-deepens game s at refl there (omega (arith, a .top-is, a .height-is)) (h .unmarked t i f) z))
       (nested-deepen s r b p x t ts q d k l u (omega (arith, u′ .walk-few)) i (n .base) f h a)
 
-  accepts-is : (s : Core) (x : ℕ) → s .walker .cur ≡ x → finish game s ≡ withWalker s (finished (g .accepting x) (s .parent) (s .index) (s .walker))
+  accepts-is : (s : Core) (x : ℕ) → x < 512 → s .walker .cur ≡ x → finish game s ≡ withWalker s (finished (g .accepting x) (s .parent) (s .index) (s .walker))
   unfolding finish
-  accepts-is s x e = ap (λ (v : Bool). withWalker s (finished v (s .parent) (s .index) (s .walker))) (sym (m .acceptance (s .walker .cur)) ∙ ap (g .accepting) e)
+  accepts-is s x b e = ap (λ (v : Bool). withWalker s (finished v (s .parent) (s .index) (s .walker))) (ap (acceptsAt game) e ∙ sym (m .acceptance x b))
 
   -- ONE STEP of the arrays is one step of the plain search, and notes what that notes
   pub one-step : (s : Core) (r : Notes) (c : Config) → Inv g c → ShapeOf g r c → Counted g r c → Limits g c → Limits g (stepOf g c) → Mirrors s r c → Stands g s c
@@ -576,28 +573,31 @@ module _ (g : Graph) (game : Game) (m : Matches g game) where
       rw (sym (step-at game s Outer (a .0)), sym (outer-ends game s (a .1)))
       (records-idle s r (outer [] d k l) (ended d k l) (exhausted (s .walker)) (s .spent) refl refl refl refl (h .probes-right) h, (refl, refl))
   one-step s r (outer (frame x [] ∷ p) d k l) (o, w) z n u u′ h a =
-      let done = edges-done s x (a .cur-is) (no-edge (g .successors x) (s .walker .next) (a .pending-is)) in
-      rw (sym (step-at game s Outer (a .phase-is)), sym (outer-finishes game s done (λ y. omega (arith, a .height-is))), accepts-is s x (a .cur-is))
+      let b = u .below x (o .known x (on-head x [] p)) in
+      let done = edges-done s x b (a .cur-is) (no-edge (g .successors x) (s .walker .next) (a .pending-is)) in
+      rw (sym (step-at game s Outer (a .phase-is)), sym (outer-finishes game s done (λ y. omega (arith, a .height-is))), accepts-is s x b (a .cur-is))
       (finish-fits (g .accepting x) s r x p d k l o w (z .0) u h a)
   one-step s r (outer (frame x (t ∷ ts) ∷ p) d k l) (o, w) z n u u′ h a =
+      let b = u .below x (o .known x (on-head x (t ∷ ts) p)) in
       let e = edge-left (g .successors x) (s .walker .next) t ts (a .pending-is) in
       rw (sym (step-at game s Outer (a .phase-is)))
-      (visit-fits (elem t d) s r x t ts p d k l refl (target-is s x t (a .cur-is) (e .target)) (has-edge s x (a .cur-is) (e .there)) o n u u′ h a)
+      (visit-fits (elem t d) s r x t ts p d k l refl (target-is s x t b (a .cur-is) (e .target)) (has-edge s x b (a .cur-is) (e .there)) o n u u′ h a)
   one-step s r (nested b p [] d k l) (o, (old, w)) z n u u′ h a =
       rw (sym (step-at game s Nested (a .phase-is)), sym (nested-leaves game s (omega (arith, a .top-is, a .height-is))))
       (nested-leave s r b p d k l u (o .known b (on-head b [] p)) (w .base) (z .0) h a)
   one-step s r (nested b p (frame x [] ∷ []) d k l) (o, (old, w)) z n u u′ h a =
-      let done = edges-done s x (a .cur-is) (no-edge (g .successors x) (s .walker .next) (a .pending-is)) in
+      let done = edges-done s x (u .below x (w .done x (w .known x (on-head x [] [])) .0)) (a .cur-is) (no-edge (g .successors x) (s .walker .next) (a .pending-is)) in
       rw (sym (step-at game s Nested (a .phase-is)), sym (nested-empties game s done (omega (arith, a .top-is, a .height-is)) (omega (arith, a .top-is, a .height-is))))
       (nested-empty s r b p x d k l (w .chain) h a)
   one-step s r (nested b p (frame x [] ∷ frame y us ∷ q) d k l) (o, (old, w)) z n u u′ h a =
-      let done = edges-done s x (a .cur-is) (no-edge (g .successors x) (s .walker .next) (a .pending-is)) in
+      let done = edges-done s x (u .below x (w .done x (w .known x (on-head x [] (frame y us ∷ q))) .0)) (a .cur-is) (no-edge (g .successors x) (s .walker .next) (a .pending-is)) in
       rw (sym (step-at game s Nested (a .phase-is)), sym (nested-returns game s done (omega (arith, a .top-is, a .height-is)) (omega (arith, a .top-is, a .height-is))))
       (nested-back s r b p x y us q d k l u h a)
   one-step s r (nested b p (frame x (t ∷ ts) ∷ q) d k l) (o, (old, w)) z n u u′ h a =
+      let i = u .below x (w .done x (w .known x (on-head x (t ∷ ts) q)) .0) in
       let e = edge-left (g .successors x) (s .walker .next) t ts (a .pending-is) in
       let test = on-test (s .walk) (s .depth) (s .walker .height) t (frame b [] ∷ p) (a .height-is) (path-first s b p x (t ∷ ts) q (w .chain) (a .walk-is)) (a .places) in
       rw (sym (step-at game s Nested (a .phase-is)))
-      (probe-fits (onPath t (frame b [] ∷ p)) (elem t k) s r b p x t ts q d k l refl refl test (target-is s x t (a .cur-is) (e .target)) (has-edge s x (a .cur-is) (e .there)) o old w n u u′ h a)
+      (probe-fits (onPath t (frame b [] ∷ p)) (elem t k) s r b p x t ts q d k l refl refl test (target-is s x t i (a .cur-is) (e .target)) (has-edge s x i (a .cur-is) (e .there)) o old w n u u′ h a)
   one-step s r (ended d k l) v z n u u′ h a = rw (sym (step-at game s Exhausted (a .0))) (h, a)
   one-step s r (found y p q d k l) v z n u u′ h a = rw (sym (step-at game s Found (a .phase-is))) (h, a)

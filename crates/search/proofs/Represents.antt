@@ -86,7 +86,7 @@ module _ (g : Graph) where
   Stands s (exhausted d k l) = (s .walker .phase ≡ Exhausted) × (s .walker .height ≡ 0)
   Stands s (found h p q d k l) = AtFound s p (stemOf h p) (cycleOf h p q)
 
-  -- the game's rows and paying marks are those of the graph
+  -- of the states that a search can discover, the game's rows and paying marks are those of the graph
   pub record Matches (game : Game) : Type 0 where
-    pub rows : (v : ℕ) → g .successors v ≡ rowOf game v
-    pub acceptance : (v : ℕ) → g .accepting v ≡ acceptsAt game v
+    pub rows : (v : ℕ) → v < 512 → g .successors v ≡ rowOf game v
+    pub acceptance : (v : ℕ) → v < 512 → g .accepting v ≡ acceptsAt game v

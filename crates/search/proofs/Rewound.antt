@@ -3,7 +3,7 @@ use mathlib.Core.Path.{_≡_, refl, sym, ap, subst, _∙_}
 use mathlib.Core.Logic.{⊎-elim}
 use mathlib.Core.Bool.{false}
 use mathlib.Core.List.{List, [], _∷_, _++_, append-assoc}
-use Prim.Native.Nat.{ℕ, zero, suc, _≤_, _<_}
+use Prim.Native.Nat.{ℕ, zero, suc, _≤_, _<_, _%_}
 use native.Mathlib.Nat.{add-zero}
 use native.Mathlib.Omega.{arith}
 use lib.Dec.{eqb, ltb}
@@ -200,10 +200,12 @@ module _ (g : Graph) (r : Notes) (size s : ℕ) (p : List Frame) (d k : List ℕ
   unfolding rewound
   rewound-fits =
       let h : climb parent (g .start) 512 s ≡ suc (length p) = climb-path g parent index 512 s p (omega (arith, u .walk-few)) (a .below) (v .0 .distinct) in
-      let m : up (getD number s 0) ≡ suc (length d) = ap up (a .number-is) ∙ up-more (length d) (omega (arith, u .few)) in
-      subst (λ (y : Core). Fits g y r c) (sym (same-core h m)) core-fits
+      let l : getD number s 0 % 512 ≡ length d = omega (arith, a .number-is, u .few) in
+      let m : up (getD number s 0 % 512) ≡ suc (length d) = ap up l ∙ up-more (length d) (omega (arith, u .few)) in
+      subst (λ (y : Core). Fits g y r c) (sym (same-core h l m)) core-fits
     where
-      same-core : climb parent (g .start) 512 s ≡ suc (length p) → up (getD number s 0) ≡ suc (length d) → rewound size (g .start) s 0 number parent index probes stamp walk ≡ core
-      same-core h m = λ i. coreOf (record { phase = Outer; cur = s; next = 0; height = h i; top = h i; stem = 0; met = m i; kept = a .probes-are i }) 0
-          (forgetAbove (a .number-is i) size number) parent index probes (forgetAbove (a .number-is i) size stamp)
+      same-core : climb parent (g .start) 512 s ≡ suc (length p) → getD number s 0 % 512 ≡ length d → up (getD number s 0 % 512) ≡ suc (length d)
+          → rewound size (g .start) s 0 number parent index probes stamp walk ≡ core
+      same-core h n m = λ i. coreOf (record { phase = Outer; cur = s; next = 0; height = h i; top = h i; stem = 0; met = m i; kept = a .probes-are i }) 0
+          (forgetAbove (n i) size number) parent index probes (forgetAbove (n i) size stamp)
           (retraceWalk parent (h i) s walk) (retraceDepth parent (h i) s (replicate 512 0)) (replicate 512 0)

@@ -9,7 +9,6 @@ use native.Mathlib.Omega.{arith}
 use lib.Dec.{leb}
 use lib.ListN.{getD}
 use borrow.Author.Tests.{leb-true, leb-false, le-leb, lt-leb}
-use Rattle.plain.specs.Table.{accepts}
 use Rattle.plain.proofs.Tests.{contra, either}
 use Rattle.look.specs.declared.Scanned.{Scanned}
 use Rattle.look.specs.Numbers.{up, raised}
@@ -19,7 +18,7 @@ use Rattle.look.proofs.Scans.{skips-first, skips-later}
 use Rattle.search.specs.declared.Phase.{Phase}
 use Rattle.search.specs.declared.Phase.the-variants.{Outer, Nested, Exhausted, Found}
 use Rattle.search.specs.declared.Walker.{Walker}
-use Rattle.search.specs.Core.{Game, gameOf, rowOf, Core, Sized, coreOf, placed, skipped, finished, returned, emptied, closed, withWalker, probed, discover, deepen, leaveRoot, goBack, finish, onOpenPath, outerStopped, nestedStopped, over, outerStep, nestedStep, step, runFor, Deep, Advanced, Result, result, Ran}
+use Rattle.search.specs.Core.{Game, rowOf, acceptsAt, Core, Sized, coreOf, placed, skipped, finished, returned, emptied, closed, withWalker, probed, discover, deepen, leaveRoot, goBack, finish, onOpenPath, outerStopped, nestedStopped, over, outerStep, nestedStep, step, runFor, Deep, Advanced, Result, result, Ran}
 use Rattle.search.proofs.Ways.{same-walker, same-core, outer-discovers, outer-skips, outer-finishes, nested-closes, nested-deepens, nested-skips, nested-returns, nested-empties, nested-leaves, step-at, run-over, run-sized, finished-deep, discover-deep, deepen-deep, found-deep, back-deep}
 
 -- ---- steps, one after the other
@@ -85,6 +84,12 @@ module _ (g : Game) where
         reached = a .reached ∙ ap (runFor g (suc (a .more))) (r .reached) ∙ sym (run-add (r .steps) (suc (a .more)) s) ∙ ap (λ (n : ℕ). runFor g n s) sum;
         deep = a .deep;
       }
+
+  pub made-start : (s : Core) → Made 0 s s
+  made-start s = record { steps = 0; enough = omega arith; reached = sym (run-none s) }
+
+  pub made-on : {s x y : Core} → Made 0 s x → Advanced g x y → Made 0 s y
+  made-on r a = let z = made-then r a in record { steps = suc (z .more); enough = omega arith; reached = z .reached }
 
   pub made-some : {s x : Core} {least : ℕ} → 0 < least → Deep (x .walker) → Made least s x → Advanced g s x
   made-some {s = s} h d r =
@@ -170,19 +175,13 @@ nested-run g (suc n) s p above h =
 abbrev pub counted : Core → Walker → ℕ → Core
 counted s w spent = coreOf w spent (s .number) (s .parent) (s .index) (s .probes) (s .stamp) (s .walk) (s .depth) (s .cursor)
 
-module _ (targets starts words : List ℕ) (s : Core) (r : Scanned) (spent′ : ℕ) where
-  abbrev g : Game
-  g = gameOf targets starts words
-
-  abbrev first : ℕ
-  first = getD starts (s .walker .cur) 0
-
+module _ (g : Game) (s : Core) (r : Scanned) (spent′ : ℕ) where
   -- the walker at the edge at which the scan stopped
   abbrev stopped : Walker
-  stopped = placed (s .walker) (r .at - first)
+  stopped = placed (s .walker) (r .edge)
 
   module _ (phase-is : s .walker .phase ≡ Outer) (high : s .walker .height ≡ 0 → ⊥)
-      (q : Swept (rowOf g (s .walker .cur)) first (s .number) (s .walker .next) (s .spent) r spent′) where
+      (q : Swept (rowOf g (s .walker .cur)) (s .number) (s .walker .next) (s .spent) r spent′) where
     abbrev there : Core
     there = standing s (s .walker .next + q .passed) (raised (q .passed) (s .spent))
 
@@ -194,21 +193,20 @@ module _ (targets starts words : List ℕ) (s : Core) (r : Scanned) (spent′ : 
     then-discovers s′ hit f =
         let l = q .looked hit in
         let h = l .0 in
-        let at-edge : r .at - first ≡ s .walker .next + q .passed = omega (arith, h .place-is) in
-        then-outer s′ (f ∙ ap (λ (k : ℕ). discover (counted s (placed (s .walker) k) spent′) (r .target)) at-edge
+        then-outer s′ (f ∙ ap (λ (k : ℕ). discover (counted s (placed (s .walker) k) spent′) (r .target)) (h .edge-is)
         ∙ outer-discovers g there (h .target-is) (l .1) (h .edge) high (h .new))
         (subst (λ (x : Core). Deep (x .walker)) (sym f) (discover-deep _ _))
 
-    pub then-finishes : (w : Walker) → r .found ≡ false → w ≡ finished (accepts words (s .walker .cur)) (s .parent) (s .index) (s .walker)
+    pub then-finishes : (w : Walker) → r .found ≡ false → w ≡ finished (acceptsAt g (s .walker .cur)) (s .parent) (s .index) (s .walker)
         → Advanced g s (counted s w spent′)
     unfolding finish finished
     then-finishes w no-more f =
         let l = q .ended no-more in
         then-outer _ ((λ i. counted s (f i) (l .1 i)) ∙ outer-finishes g there (l .0) high)
-        (subst Deep (sym f) (finished-deep (accepts words (s .walker .cur)) (s .parent) (s .index) (s .walker) high))
+        (subst Deep (sym f) (finished-deep (acceptsAt g (s .walker .cur)) (s .parent) (s .index) (s .walker) high))
 
   module _ (phase-is : s .walker .phase ≡ Nested) (deep : Deep (s .walker))
-      (q : Swept (rowOf g (s .walker .cur)) first (s .stamp) (s .walker .next) (s .spent) r spent′) where
+      (q : Swept (rowOf g (s .walker .cur)) (s .stamp) (s .walker .next) (s .spent) r spent′) where
     above : s .walker .height ≤ s .walker .top
     above = deep .above phase-is
 
@@ -232,8 +230,7 @@ module _ (targets starts words : List ℕ) (s : Core) (r : Scanned) (spent′ : 
           → s′ ≡ deepen (counted s stopped spent′) (r .target) → Advanced g s s′
       then-deepens s′ off f =
           let l = q .looked hit in
-          let at-edge : r .at - first ≡ s .walker .next + q .passed = omega (arith, l .0 .place-is) in
-          then-nested s′ (f ∙ ap (λ (k : ℕ). deepen (counted s (placed (s .walker) k) spent′) (r .target)) at-edge
+          then-nested s′ (f ∙ ap (λ (k : ℕ). deepen (counted s (placed (s .walker) k) spent′) (r .target)) (l .0 .edge-is)
           ∙ nested-deepens g within (l .0 .target-is) (l .1) (l .0 .edge) above (l .0 .new) off)
           (subst (λ (x : Core). Deep (x .walker)) (sym f) (deepen-deep _ _ (deep .high phase-is) above))
 

@@ -2,12 +2,13 @@
 use mathlib.Core.Path.{_≡_, refl, sym, ap, subst, _∙_}
 use mathlib.Core.Bool.{Bool, true, false, cond}
 use mathlib.Core.List.{List, [], _∷_, map}
-use Prim.Native.Nat.{ℕ, zero, suc, _+_, _-_, _≤_, _<_}
+use Prim.Native.Nat.{ℕ, zero, suc, _+_, _-_, _%_, _≤_, _<_}
 use native.Mathlib.Nat.{le-of-suc-le-suc, not-suc-le-zero}
 use native.Mathlib.Omega.{arith}
 use lib.Dec.{eqb, ltb, leb}
 use lib.ListN.{length, getD, set, replicate, length-set, length-replicate}
 use borrow.Author.Tests.{lt-ltb, le-ltb, le-leb, lt-leb, leb-false, eq-eqb, ne-eqb}
+use Rattle.plain.specs.Table.{accepts}
 use Rattle.plain.proofs.Tests.{contra}
 use Rattle.rows.proofs.Paste.{same-place}
 use Rattle.look.specs.Numbers.{noNumber, up, plus, further}
@@ -15,7 +16,7 @@ use Rattle.look.proofs.Counting.{further-above}
 use Rattle.search.specs.declared.Phase.{Phase}
 use Rattle.search.specs.declared.Phase.the-variants.{Outer, Nested, Exhausted, Found}
 use Rattle.search.specs.declared.Walker.{Walker}
-use Rattle.search.specs.Core.{Game, rowOf, Core, coreOf, Sized, Recorded, Trailed, Lengths, skipped, left, nesting, finished, returned, emptied, exhausted, closed, withWalker, probed, discover, deepen, leaveRoot, goBack, onOpenPath, byPhase, over, targetOf, hasEdge, outerProbe, finish, outerStep, nestedProbe, nestedStep, step, runFor, Deep, upTo, forgetAbove, climb, retraceWalk, retraceDepth, rewound}
+use Rattle.search.specs.Core.{Game, acceptsBelow, rowOf, Core, coreOf, Sized, Recorded, Trailed, Lengths, skipped, left, nesting, finished, returned, emptied, exhausted, closed, withWalker, probed, discover, deepen, leaveRoot, goBack, onOpenPath, byPhase, over, targetOf, hasEdge, outerProbe, finish, outerStep, nestedProbe, nestedStep, step, runFor, Deep, upTo, forgetAbove, climb, retraceWalk, retraceDepth, rewound}
 
 -- two walkers, and two cores, with the same fields
 pub same-walker : (a b : Walker) → a .phase ≡ b .phase → a .cur ≡ b .cur → a .next ≡ b .next → a .height ≡ b .height → a .top ≡ b .top → a .stem ≡ b .stem
@@ -44,25 +45,35 @@ module _ (walk depth : List ℕ) (height t : ℕ) where
 
 -- what a call writes to each array, and the walker that it hands back
 module _ (s : Core) (t : ℕ) where
-  pub discovers : {number parent index probes walk depth : List ℕ} {height met edge sum : ℕ} → number ≡ set (s .number) t (s .walker .met)
-      → parent ≡ set (s .parent) t (s .walker .cur) → edge ≡ s .walker .next → index ≡ set (s .index) t edge → sum ≡ plus (s .walker .kept) (s .spent)
+  pub discovers : {number parent index probes walk depth : List ℕ} {height met sum : ℕ} → number ≡ set (s .number) t (s .walker .met)
+      → parent ≡ set (s .parent) t (s .walker .cur) → index ≡ set (s .index) t (s .walker .next) → sum ≡ plus (s .walker .kept) (s .spent)
       → probes ≡ set (s .probes) t sum → walk ≡ set (s .walk) (s .walker .height) t → depth ≡ set (s .depth) t (s .walker .height)
       → height ≡ up (s .walker .height) → met ≡ up (s .walker .met)
       → coreOf (record { phase = Outer; cur = t; next = 0; height = height; top = height; stem = 0; met = met; kept = s .walker .kept }) (s .spent) number parent
       index probes (s .stamp) walk depth (s .cursor)
       ≡ discover s t
   unfolding discover
-  discovers n p f i e q w d h m =
-      same-core _ _ n p (i ∙ ap (set (s .index) t) f) (q ∙ ap (set (s .probes) t) e) refl w d refl refl (same-walker _ _ refl refl refl h h refl m refl)
+  discovers n p i e q w d h m =
+      same-core _ _ n p i (q ∙ ap (set (s .probes) t) e) refl w d refl refl (same-walker _ _ refl refl refl h h refl m refl)
 
-  pub deepens : {stamp walk cursor : List ℕ} {top at edge : ℕ} → stamp ≡ set (s .stamp) t (s .walker .met) → walk ≡ set (s .walk) (s .walker .top) t
-      → at ≡ s .walker .top - 1 → edge ≡ s .walker .next → cursor ≡ set (s .cursor) at edge → top ≡ further (s .walker .top)
+  pub deepens : {stamp walk cursor : List ℕ} {top at : ℕ} → stamp ≡ set (s .stamp) t (s .walker .met) → walk ≡ set (s .walk) (s .walker .top) t
+      → at ≡ s .walker .top - 1 → cursor ≡ set (s .cursor) at (s .walker .next) → top ≡ further (s .walker .top)
       → coreOf (record { phase = Nested; cur = t; next = 0; height = s .walker .height; top = top; stem = 0; met = s .walker .met; kept = s .walker .kept })
       (s .spent) (s .number) (s .parent) (s .index) (s .probes) stamp walk (s .depth) cursor
       ≡ deepen s t
   unfolding deepen
-  deepens m w e f c h =
-      same-core _ _ refl refl refl refl m w refl (c ∙ λ i. set (s .cursor) (e i) (f i)) refl (same-walker _ _ refl refl refl refl h refl refl refl)
+  deepens m w e c h =
+      same-core _ _ refl refl refl refl m w refl (c ∙ λ i. set (s .cursor) (e i) (s .walker .next)) refl (same-walker _ _ refl refl refl refl h refl refl refl)
+
+-- only a state below the size is accepting
+module _ (words : List ℕ) (size v : ℕ) where
+  pub accepts-below : v < size → accepts words (v % 512) ≡ acceptsBelow words size v
+  unfolding acceptsBelow
+  accepts-below h = rw (lt-ltb v size h)
+
+  pub accepts-beyond : size ≤ v → false ≡ acceptsBelow words size v
+  unfolding acceptsBelow
+  accepts-beyond h = rw (le-ltb v size h)
 
 module _ (parent index : List ℕ) (w : Walker) {accepting : Bool} where
   pub finish-nests : accepting ≡ true → nesting w ≡ finished accepting parent index w
@@ -82,7 +93,7 @@ module _ (s : Core) where
   back-out h e f = rw (le-leb _ _ h) (same-core _ _ refl refl refl refl e refl refl refl refl f)
 
   pub back-down : {cur next at top kept-next : ℕ} → s .walker .height < s .walker .top → top ≡ s .walker .top - 1 → at ≡ top - 1 → cur ≡ getD (s .walk) at 0
-      → kept-next ≡ getD (s .cursor) at 0 → next ≡ further kept-next
+      → kept-next ≡ getD (s .cursor) at 0 → next ≡ suc kept-next
       → withWalker s (record {
         phase = Nested;
         cur = cur;
@@ -97,7 +108,7 @@ module _ (s : Core) where
   back-down h less e p q f =
       let place : _ ≡ s .walker .top - 1 - 1 = e ∙ ap (λ (n : ℕ). n - 1) less in
       rw (lt-leb _ _ h) (ap (withWalker s) (same-walker _ _ refl (p ∙ same-place (s .walk) place)
-      (f ∙ ap further (q ∙ same-place (s .cursor) place)) refl less refl refl refl))
+      (f ∙ ap suc (q ∙ same-place (s .cursor) place)) refl less refl refl refl))
 
 module _ (g : Game) (s : Core) where
   -- the same, but for the count of probes
@@ -478,7 +489,7 @@ module _ (size start s spent : ℕ) (number parent index probes stamp walk : Lis
       sized _ (forget-length _ number size ∙ z .number-size) (z .parent-size) (z .index-size) (z .probes-size) (forget-length _ stamp size ∙ z .stamp-size)
       (walk-size parent _ s walk ∙ z .walk-size) (depth-size parent _ s (replicate 512 0) ∙ length-replicate {A = ℕ} 512 0) (length-replicate {A = ℕ} 512 0)
 
-  pub rewound-by : {limit height met kept : ℕ} {number′ stamp′ walk′ depth : List ℕ} → limit ≡ getD number s 0 → number′ ≡ forgetAbove limit size number
+  pub rewound-by : {limit height met kept : ℕ} {number′ stamp′ walk′ depth : List ℕ} → limit ≡ getD number s 0 % 512 → number′ ≡ forgetAbove limit size number
       → stamp′ ≡ forgetAbove limit size stamp → height ≡ climb parent start 512 s → walk′ ≡ retraceWalk parent height s walk
       → depth ≡ retraceDepth parent height s (replicate 512 0) → met ≡ up limit → kept ≡ getD probes s 0
       → coreOf (record { phase = Outer; cur = s; next = 0; height = height; top = height; stem = 0; met = met; kept = kept }) spent number′ parent index probes

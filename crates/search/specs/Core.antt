@@ -1,36 +1,41 @@
 -- The arrays of the search as lists, and what each step does to them. Cited by the contracts of this crate: a theorem (proofs/OneStep.antt) ties it
 -- to the plain search. Assumes nothing.
-use Prim.Native.Nat.{ℕ, zero, suc, _-_, _≤_, _<_}
+use Prim.Native.Nat.{ℕ, zero, suc, _+_, _*_, _-_, _%_, _≤_, _<_}
 use mathlib.Core.Path.{_≡_}
 use mathlib.Core.Bool.{Bool, true, false, _&&_, cond}
-use mathlib.Core.List.{List, _++_, map}
+use mathlib.Core.List.{List, [], _∷_, _++_, map}
 use lib.Dec.{eqb, ltb, leb}
 use lib.ListN.{length, getD, set, take, drop, replicate}
 use Rattle.plain.specs.Table.{accepts}
 use Rattle.look.specs.Numbers.{noNumber, plus, up, further}
-use Rattle.look.specs.Scan.{mostStates, rowIn}
+use Rattle.look.specs.Scan.{mostStates, Layout, rowLaid}
 use Rattle.search.specs.declared.Phase.{Phase}
 use Rattle.search.specs.declared.Phase.the-variants.{Outer, Nested, Exhausted, Found}
 use Rattle.search.specs.declared.Walker.{Walker}
 
 -- ---- the game
 
--- the moves as compressed rows, and the words of the paying marks
+-- the targets of the moves, where each state's row lies among them, the words of the paying marks, and the number below which a state can be accepting
 pub record Game : Type 0 where
   pub targets : List ℕ
-  pub starts : List ℕ
+  pub layout : Layout
   pub words : List ℕ
+  pub size : ℕ
 
 -- the game of lent arrays
-abbrev pub gameOf : List ℕ → List ℕ → List ℕ → Game
-gameOf targets starts words = record { targets = targets; starts = starts; words = words }
+abbrev pub gameOf : List ℕ → Layout → List ℕ → ℕ → Game
+gameOf targets layout words size = record { targets = targets; layout = layout; words = words; size = size }
+
+-- is the mark of v set, and is v below the number?
+unfoldable pub acceptsBelow : List ℕ → ℕ → ℕ → Bool
+acceptsBelow words size v = ltb v size && accepts words (v % mostStates)
 
 -- The steps read a game through these two alone: the targets of the edges that leave v, oldest first; and whether v is accepting.
 abbrev pub rowOf : Game → ℕ → List ℕ
-rowOf g v = rowIn (g .targets) (g .starts) v
+rowOf g v = rowLaid (g .targets) (g .layout) v
 
 abbrev pub acceptsAt : Game → ℕ → Bool
-acceptsAt g v = accepts (g .words) v
+acceptsAt g v = acceptsBelow (g .words) (g .size) v
 
 -- ---- the arrays
 
@@ -125,7 +130,7 @@ abbrev pub left : List ℕ → List ℕ → Walker → Walker
 left parent index w = record {
   phase = Outer;
   cur = getD parent (w .cur) 0;
-  next = further (getD index (w .cur) 0);
+  next = suc (getD index (w .cur) 0);
   height = w .height - 1;
   top = w .height - 1;
   stem = 0;
@@ -150,7 +155,7 @@ abbrev pub returned : List ℕ → List ℕ → Walker → Walker
 returned walk cursor w = record {
   phase = Nested;
   cur = getD walk (w .top - 1 - 1) 0;
-  next = further (getD cursor (w .top - 1 - 1) 0);
+  next = suc (getD cursor (w .top - 1 - 1) 0);
   height = w .height;
   top = w .top - 1;
   stem = 0;
@@ -289,6 +294,33 @@ pub record Deep (w : Walker) : Type 0 where
   pub high : w .phase ≡ Nested → 0 < w .height
   pub above : w .phase ≡ Nested → w .height ≤ w .top
 
+-- ---- that the steps of a phase come to an end, on any arrays
+
+-- how many entries have no number
+unfoldable pub blanks : List ℕ → ℕ
+blanks [] = 0
+blanks (x ∷ xs) = cond (eqb x noNumber) (suc (blanks xs)) (blanks xs)
+
+-- The next discovery number, and as many more as there are states without one, stay far below "no number".
+abbrev pub Roomy : Walker → List ℕ → Type 0
+Roomy w number = w .met + blanks number ≤ 1024
+
+-- what the steps of the outer search use up, and those of the nested one: with each discovery or mark one entry more has a number, and the path is one state higher
+abbrev pub outerWeight : Walker → List ℕ → ℕ
+outerWeight w number = 2 * blanks number + w .height
+
+abbrev pub nestedWeight : Walker → List ℕ → ℕ
+nestedWeight w stamp = 2 * blanks stamp + w .top
+
+-- a turn of the outer search, and of the nested one
+pub record OuterTurn (w : Walker) (number : List ℕ) (r : Walker) (number′ : List ℕ) : Type 0 where
+  pub roomy : Roomy r number′
+  pub lighter : r .phase ≡ Outer → outerWeight r number′ < outerWeight w number
+
+pub record NestedTurn (w : Walker) (stamp : List ℕ) (r : Walker) (stamp′ : List ℕ) : Type 0 where
+  pub same-met : r .met ≡ w .met
+  pub lighter : r .phase ≡ Nested → nestedWeight r stamp′ < nestedWeight w stamp
+
 -- some steps more, at least one
 pub record Advanced (g : Game) (s s′ : Core) : Type 0 where
   pub more : ℕ
@@ -359,7 +391,7 @@ retraceDepth parent (suc n) x depth = retraceDepth parent n (getD parent x 0) (s
 -- the search as it stood when s was discovered; no state is `size` or more
 unfoldable pub rewound : ℕ → ℕ → ℕ → ℕ → List ℕ → List ℕ → List ℕ → List ℕ → List ℕ → List ℕ → Core
 rewound size start s spent number parent index probes stamp walk =
-    let limit = getD number s 0 in
+    let limit = getD number s 0 % mostStates in
     let height = climb parent start mostStates s in
     coreOf (record { phase = Outer; cur = s; next = 0; height = height; top = height; stem = 0; met = up limit; kept = getD probes s 0 }) spent
     (forgetAbove limit size number) parent index probes (forgetAbove limit size stamp)

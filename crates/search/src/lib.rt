@@ -1,7 +1,7 @@
 // Nested depth-first search over compressed rows; it can be resumed where a state was discovered.
 // The arrays are lent, so that no step copies one. Every function is safe for any contents of the arrays.
 //
-// targets, starts, words: the game: its moves as compressed rows, and its paying marks
+// targets, begins, ends, bases, words: the game: its moves, where each state's row lies among them and what is added to its targets, and its paying marks
 // number, parent, index, probes, by state: its discovery number, the state from which it was discovered, by which edge of that state's row,
 //     and the probes made by then
 // stamp, by state: how many states were discovered when the nested search marked it
@@ -27,7 +27,7 @@ pub struct Walker {
     pub phase: Phase,
     // the state whose edges are being taken, and the index of its next edge
     pub cur: u16,
-    pub next: u16,
+    pub next: usize,
     // how many states are on the open path
     pub height: u16,
     // how many entries of the walk are in use
@@ -42,6 +42,3 @@ pub struct Walker {
 
 // The most states of a chain of parents: on a game's own arrays no state stands in it twice.
 const LONGEST: u16 = 512;
-
-// The turns of a loop. On a game's own arrays it ends by itself long before; on any others this makes it end.
-const TURNS: u16 = 65535;

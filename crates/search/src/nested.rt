@@ -1,22 +1,21 @@
 // Steps of the nested search.
 use crate::Phase;
-use crate::TURNS;
 use crate::Walker;
 use crate::outer::leave;
 use look::down;
-use look::edge_of;
 use look::further;
 use look::get;
 use look::put;
 use look::scan;
+use rows::wide;
 ghost use mathlib.Core.Path.{_≡_};
 ghost use mathlib.Core.List.{List};
-ghost use Prim.Native.Nat.{ℕ, _-_};
-ghost use lib.ListN.{length, getD};
-ghost use Rattle.look.specs.Scan.{Places};
+ghost use Prim.Native.Nat.{ℕ, _<_};
+ghost use lib.ListN.{length};
+ghost use Rattle.look.specs.Numbers.{noNumber};
+ghost use Rattle.look.specs.Scan.{layoutOf, Laid};
 ghost use Rattle.search.specs.declared.Phase.the-variants.{Nested};
-ghost use Rattle.rows.specs.Rows.{Tabled};
-ghost use Rattle.search.specs.Core.{gameOf, Trailed, Deep, coreOf, placed, goBack, deepen as deepens, onOpenPath, Advanced, nestedStopped};
+ghost use Rattle.search.specs.Core.{gameOf, Trailed, Deep, coreOf, placed, goBack, deepen as deepens, onOpenPath, NestedTurn, Advanced, nestedStopped};
 
 // Is t on the open path of that height?
 fn on_path(walk: &[u16; 512], depth: &[u16; 512], height: u16, t: u16) -> bool
@@ -31,22 +30,21 @@ fn on_path(walk: &[u16; 512], depth: &[u16; 512], height: u16, t: u16) -> bool
     }
 }
 
-// The nested search goes on to t, by the edge at a place of the current state's row.
+// The nested search goes on to t, by an edge of the current state's row.
 fn deepen(
-    starts: &[u16; 513],
     stamp: &mut [u16; 512],
     walk: &mut [u16; 512],
     cursor: &mut [u16; 512],
     w: Walker,
-    at: usize,
+    edge: u16,
     t: u16,
 ) -> Walker
-    requires { ⌜ (length (now stamp) ≡ 512) × (length (now walk) ≡ 512) × (length (now cursor) ≡ 512) × Places (now starts) (w .cur) at ⌝ }
-    ensures { λ r. ⌜ ((spent : ℕ) (number parent index probes depth : List ℕ) → coreOf r spent number parent index probes (now (stamp .exit)) (now (walk .exit)) depth (now (cursor .exit)) ≡ deepens (coreOf (placed w (at - getD (now (starts .entry)) (w .cur) 0)) spent number parent index probes (now (stamp .entry)) (now (walk .entry)) depth (now (cursor .entry))) t) ⌝ }
+    requires { ⌜ (length (now stamp) ≡ 512) × (length (now walk) ≡ 512) × (length (now cursor) ≡ 512) ⌝ }
+    ensures { λ r. ⌜ ((spent : ℕ) (number parent index probes depth : List ℕ) → coreOf r spent number parent index probes (now (stamp .exit)) (now (walk .exit)) depth (now (cursor .exit)) ≡ deepens (coreOf (placed w edge) spent number parent index probes (now (stamp .entry)) (now (walk .entry)) depth (now (cursor .entry))) t) ⌝ }
 {
     put(stamp, t, w.met);
     put(walk, w.top, t);
-    put(cursor, down(w.top), edge_of(starts, w.cur, at));
+    put(cursor, down(w.top), edge);
     Walker {
         phase: Phase::Nested,
         cur: t,
@@ -78,10 +76,11 @@ fn go_back(
     }
     let top = down(w.top);
     let at = down(top);
+    let next = wide(get(cursor, at)) + 1;
     Walker {
         phase: Phase::Nested,
         cur: get(walk, at),
-        next: further(get(cursor, at)),
+        next: next,
         height: w.height,
         top: top,
         stem: 0,
@@ -93,7 +92,9 @@ fn go_back(
 // Steps of the nested search: over the edges that lead to marked states, and one or two more.
 fn nested_step(
     targets: &[u16; 2048],
-    starts: &[u16; 513],
+    begins: &[u16; 513],
+    ends: &[u16; 512],
+    bases: &[u16; 512],
     parent: &[u16; 512],
     index: &[u16; 512],
     stamp: &mut [u16; 512],
@@ -103,10 +104,11 @@ fn nested_step(
     spent: &mut u16,
     w: Walker,
 ) -> Walker
-    requires { ⌜ (w .phase ≡ Nested) × Deep w × Tabled (now targets) (now starts) × Trailed (now parent) (now index) (now stamp) (now walk) (now depth) (now cursor) ⌝ }
-    ensures { λ r. ⌜ ((words number probes : List ℕ) → Advanced (gameOf (now (targets .entry)) (now (starts .entry)) words) (coreOf w (now (spent .entry)) number (now (parent .entry)) (now (index .entry)) probes (now (stamp .entry)) (now (walk .entry)) (now (depth .entry)) (now (cursor .entry))) (coreOf r (now (spent .exit)) number (now (parent .entry)) (now (index .entry)) probes (now (stamp .exit)) (now (walk .exit)) (now (depth .entry)) (now (cursor .exit)))) ⌝ }
+    requires { ⌜ (w .phase ≡ Nested) × Deep w × (w .met < noNumber) × Laid (now targets) (now begins) (now ends) (now bases) × Trailed (now parent) (now index) (now stamp) (now walk) (now depth) (now cursor) ⌝ }
+    ensures { λ r. ⌜ ((words number probes : List ℕ) (size : ℕ) → Advanced (gameOf (now (targets .entry)) (layoutOf (now (begins .entry)) (now (ends .entry)) (now (bases .entry))) words size) (coreOf w (now (spent .entry)) number (now (parent .entry)) (now (index .entry)) probes (now (stamp .entry)) (now (walk .entry)) (now (depth .entry)) (now (cursor .entry))) (coreOf r (now (spent .exit)) number (now (parent .entry)) (now (index .entry)) probes (now (stamp .exit)) (now (walk .exit)) (now (depth .entry)) (now (cursor .exit)))) ⌝ }
+    ensures { λ r. ⌜ NestedTurn w (now (stamp .entry)) r (now (stamp .exit)) ⌝ }
 {
-    let r = scan(targets, starts, stamp, spent, w.cur, w.next);
+    let r = scan(targets, begins, ends, bases, stamp, spent, w.cur, w.next);
     if r.found {
         let u = r.target;
         if on_path(walk, depth, w.height, u) {
@@ -121,7 +123,7 @@ fn nested_step(
                 kept: w.kept,
             };
         }
-        return deepen(starts, stamp, walk, cursor, w, r.at, u);
+        return deepen(stamp, walk, cursor, w, r.edge, u);
     }
     go_back(parent, index, stamp, walk, cursor, w)
 }
@@ -138,10 +140,12 @@ fn nested_stopped(phase: Phase) -> bool
     }
 }
 
-// Steps of the nested search until it stops, or the turns are used up.
+// Steps of the nested search until it stops. On any arrays it ends: each turn marks a state or goes back from one.
 pub fn nested_steps(
     targets: &[u16; 2048],
-    starts: &[u16; 513],
+    begins: &[u16; 513],
+    ends: &[u16; 512],
+    bases: &[u16; 512],
     parent: &[u16; 512],
     index: &[u16; 512],
     stamp: &mut [u16; 512],
@@ -151,15 +155,17 @@ pub fn nested_steps(
     spent: &mut u16,
     w: Walker,
 ) -> Walker
-    requires { ⌜ (w .phase ≡ Nested) × Deep w × Tabled (now targets) (now starts) × Trailed (now parent) (now index) (now stamp) (now walk) (now depth) (now cursor) ⌝ }
-    ensures { λ r. ⌜ ((words number probes : List ℕ) → Advanced (gameOf (now (targets .entry)) (now (starts .entry)) words) (coreOf w (now (spent .entry)) number (now (parent .entry)) (now (index .entry)) probes (now (stamp .entry)) (now (walk .entry)) (now (depth .entry)) (now (cursor .entry))) (coreOf r (now (spent .exit)) number (now (parent .entry)) (now (index .entry)) probes (now (stamp .exit)) (now (walk .exit)) (now (depth .entry)) (now (cursor .exit)))) ⌝ }
+    requires { ⌜ (w .phase ≡ Nested) × Deep w × (w .met < noNumber) × Laid (now targets) (now begins) (now ends) (now bases) × Trailed (now parent) (now index) (now stamp) (now walk) (now depth) (now cursor) ⌝ }
+    ensures { λ r. ⌜ ((words number probes : List ℕ) (size : ℕ) → Advanced (gameOf (now (targets .entry)) (layoutOf (now (begins .entry)) (now (ends .entry)) (now (bases .entry))) words size) (coreOf w (now (spent .entry)) number (now (parent .entry)) (now (index .entry)) probes (now (stamp .entry)) (now (walk .entry)) (now (depth .entry)) (now (cursor .entry))) (coreOf r (now (spent .exit)) number (now (parent .entry)) (now (index .entry)) probes (now (stamp .exit)) (now (walk .exit)) (now (depth .entry)) (now (cursor .exit)))) ⌝ }
+    ensures { λ r. ⌜ r .met ≡ w .met ⌝ }
 {
     let mut q = w;
-    let mut left = TURNS;
-    while 0 < left {
+    while true {
         q = nested_step(
             targets,
-            starts,
+            begins,
+            ends,
+            bases,
             parent,
             index,
             stamp,
@@ -173,7 +179,6 @@ pub fn nested_steps(
         if nested_stopped(phase) {
             return q;
         }
-        left -= 1;
     }
     q
 }

@@ -1,10 +1,8 @@
 // Steps of the outer search.
 use crate::Phase;
-use crate::TURNS;
 use crate::Walker;
+use look::STATES;
 use look::down;
-use look::edge_of;
-use look::further;
 use look::get;
 use look::plus;
 use look::put;
@@ -13,18 +11,14 @@ use look::up;
 use rows::wide;
 ghost use mathlib.Core.Path.{_≡_};
 ghost use mathlib.Core.List.{List};
-ghost use Prim.Native.Nat.{ℕ, _-_};
-ghost use lib.ListN.{length, getD};
-ghost use Rattle.plain.specs.Table.{accepts};
-ghost use Rattle.look.specs.Scan.{Places};
+ghost use Prim.Native.Nat.{ℕ};
+ghost use lib.ListN.{length};
+ghost use Rattle.look.specs.Scan.{layoutOf, Laid};
 ghost use Rattle.search.specs.declared.Phase.the-variants.{Outer};
-ghost use Rattle.rows.specs.Rows.{Tabled};
-ghost use Rattle.search.specs.Core.{gameOf, Recorded, coreOf, placed, left, exhausted, discover as discovered, finished, Advanced, outerStopped};
+ghost use Rattle.search.specs.Core.{gameOf, acceptsBelow, Recorded, coreOf, placed, left, exhausted, discover as discovered, finished, Roomy, OuterTurn, Advanced, outerStopped};
 
-// The target t is discovered, by the edge at a place of the current state's row. That edge's index is worked out behind the first stores: so the scan
-// keeps one variable, the place.
+// The target t is discovered, by an edge of the current state's row.
 fn discover(
-    starts: &[u16; 513],
     number: &mut [u16; 512],
     parent: &mut [u16; 512],
     index: &mut [u16; 512],
@@ -33,15 +27,15 @@ fn discover(
     depth: &mut [u16; 512],
     spent: u16,
     w: Walker,
-    at: usize,
+    edge: u16,
     t: u16,
 ) -> Walker
-    requires { ⌜ (length (now number) ≡ 512) × (length (now parent) ≡ 512) × (length (now index) ≡ 512) × (length (now probes) ≡ 512) × (length (now walk) ≡ 512) × (length (now depth) ≡ 512) × Places (now starts) (w .cur) at ⌝ }
-    ensures { λ r. ⌜ ((stamp cursor : List ℕ) → coreOf r spent (now (number .exit)) (now (parent .exit)) (now (index .exit)) (now (probes .exit)) stamp (now (walk .exit)) (now (depth .exit)) cursor ≡ discovered (coreOf (placed w (at - getD (now (starts .entry)) (w .cur) 0)) spent (now (number .entry)) (now (parent .entry)) (now (index .entry)) (now (probes .entry)) stamp (now (walk .entry)) (now (depth .entry)) cursor) t) ⌝ }
+    requires { ⌜ (length (now number) ≡ 512) × (length (now parent) ≡ 512) × (length (now index) ≡ 512) × (length (now probes) ≡ 512) × (length (now walk) ≡ 512) × (length (now depth) ≡ 512) ⌝ }
+    ensures { λ r. ⌜ ((stamp cursor : List ℕ) → coreOf r spent (now (number .exit)) (now (parent .exit)) (now (index .exit)) (now (probes .exit)) stamp (now (walk .exit)) (now (depth .exit)) cursor ≡ discovered (coreOf (placed w edge) spent (now (number .entry)) (now (parent .entry)) (now (index .entry)) (now (probes .entry)) stamp (now (walk .entry)) (now (depth .entry)) cursor) t) ⌝ }
 {
     put(number, t, w.met);
     put(parent, t, w.cur);
-    put(index, t, edge_of(starts, w.cur, at));
+    put(index, t, edge);
     put(probes, t, plus(w.kept, spent));
     put(walk, w.height, t);
     put(depth, t, w.height);
@@ -64,10 +58,11 @@ pub fn leave(parent: &[u16; 512], index: &[u16; 512], w: Walker) -> Walker
     ensures { λ r. ⌜ r ≡ left (now (parent .entry)) (now (index .entry)) w ⌝ }
 {
     let height = down(w.height);
+    let next = wide(get(index, w.cur)) + 1;
     Walker {
         phase: Phase::Outer,
         cur: get(parent, w.cur),
-        next: further(get(index, w.cur)),
+        next: next,
         height: height,
         top: height,
         stem: 0,
@@ -76,13 +71,23 @@ pub fn leave(parent: &[u16; 512], index: &[u16; 512], w: Walker) -> Walker
     }
 }
 
+// Is v accepting? Only a state below `size` is.
+fn accepts(words: &[u64; 8], size: u16, v: u16) -> bool
+    ensures { λ r. ⌜ r ≡ acceptsBelow (now (words .entry)) size v ⌝ }
+{
+    if v < size {
+        return marks::accepts_in(words, wide(v) % STATES);
+    }
+    false
+}
+
 // After the last edge of the current state: a nested search from it where it is accepting. It is marked when it is left.
-fn finish(words: &[u64; 8], parent: &[u16; 512], index: &[u16; 512], w: Walker) -> Walker
+fn finish(words: &[u64; 8], parent: &[u16; 512], index: &[u16; 512], size: u16, w: Walker) -> Walker
     requires { ⌜ (length (now parent) ≡ 512) × (length (now index) ≡ 512) ⌝ }
-    ensures { λ r. ⌜ r ≡ finished (accepts (now (words .entry)) (w .cur)) (now (parent .entry)) (now (index .entry)) w ⌝ }
+    ensures { λ r. ⌜ r ≡ finished (acceptsBelow (now (words .entry)) size (w .cur)) (now (parent .entry)) (now (index .entry)) w ⌝ }
 {
     let cur = w.cur;
-    if marks::accepts_in(words, wide(cur)) {
+    if accepts(words, size, cur) {
         return Walker {
             phase: Phase::Nested,
             cur: cur,
@@ -116,7 +121,9 @@ fn exhaust(w: Walker) -> Walker
 // Steps of the outer search: over the edges that lead to discovered states, and one more.
 fn outer_step(
     targets: &[u16; 2048],
-    starts: &[u16; 513],
+    begins: &[u16; 513],
+    ends: &[u16; 512],
+    bases: &[u16; 512],
     words: &[u64; 8],
     number: &mut [u16; 512],
     parent: &mut [u16; 512],
@@ -125,18 +132,19 @@ fn outer_step(
     walk: &mut [u16; 512],
     depth: &mut [u16; 512],
     spent: &mut u16,
+    size: u16,
     w: Walker,
 ) -> Walker
-    requires { ⌜ (w .phase ≡ Outer) × Tabled (now targets) (now starts) × Recorded (now number) (now parent) (now index) (now probes) (now walk) (now depth) ⌝ }
-    ensures { λ r. ⌜ ((stamp cursor : List ℕ) → Advanced (gameOf (now (targets .entry)) (now (starts .entry)) (now (words .entry))) (coreOf w (now (spent .entry)) (now (number .entry)) (now (parent .entry)) (now (index .entry)) (now (probes .entry)) stamp (now (walk .entry)) (now (depth .entry)) cursor) (coreOf r (now (spent .exit)) (now (number .exit)) (now (parent .exit)) (now (index .exit)) (now (probes .exit)) stamp (now (walk .exit)) (now (depth .exit)) cursor)) ⌝ }
+    requires { ⌜ (w .phase ≡ Outer) × Roomy w (now number) × Laid (now targets) (now begins) (now ends) (now bases) × Recorded (now number) (now parent) (now index) (now probes) (now walk) (now depth) ⌝ }
+    ensures { λ r. ⌜ ((stamp cursor : List ℕ) → Advanced (gameOf (now (targets .entry)) (layoutOf (now (begins .entry)) (now (ends .entry)) (now (bases .entry))) (now (words .entry)) size) (coreOf w (now (spent .entry)) (now (number .entry)) (now (parent .entry)) (now (index .entry)) (now (probes .entry)) stamp (now (walk .entry)) (now (depth .entry)) cursor) (coreOf r (now (spent .exit)) (now (number .exit)) (now (parent .exit)) (now (index .exit)) (now (probes .exit)) stamp (now (walk .exit)) (now (depth .exit)) cursor)) ⌝ }
+    ensures { λ r. ⌜ OuterTurn w (now (number .entry)) r (now (number .exit)) ⌝ }
 {
     if w.height == 0 {
         return exhaust(w);
     }
-    let r = scan(targets, starts, number, spent, w.cur, w.next);
+    let r = scan(targets, begins, ends, bases, number, spent, w.cur, w.next);
     if r.found {
         return discover(
-            starts,
             number,
             parent,
             index,
@@ -145,11 +153,11 @@ fn outer_step(
             depth,
             *spent,
             w,
-            r.at,
+            r.edge,
             r.target,
         );
     }
-    finish(words, parent, index, w)
+    finish(words, parent, index, size, w)
 }
 
 // Has the outer search stopped?
@@ -164,10 +172,13 @@ fn outer_stopped(phase: Phase) -> bool
     }
 }
 
-// Steps of the outer search until it stops, or the turns are used up. They have a loop of their own, so that no turn has to tell the phase first.
+// Steps of the outer search until it stops. They have a loop of their own, so that no turn has to tell the phase first. On any arrays it ends: each turn numbers a state or
+// takes one off the open path.
 pub fn outer_steps(
     targets: &[u16; 2048],
-    starts: &[u16; 513],
+    begins: &[u16; 513],
+    ends: &[u16; 512],
+    bases: &[u16; 512],
     words: &[u64; 8],
     number: &mut [u16; 512],
     parent: &mut [u16; 512],
@@ -176,17 +187,20 @@ pub fn outer_steps(
     walk: &mut [u16; 512],
     depth: &mut [u16; 512],
     spent: &mut u16,
+    size: u16,
     w: Walker,
 ) -> Walker
-    requires { ⌜ (w .phase ≡ Outer) × Tabled (now targets) (now starts) × Recorded (now number) (now parent) (now index) (now probes) (now walk) (now depth) ⌝ }
-    ensures { λ r. ⌜ ((stamp cursor : List ℕ) → Advanced (gameOf (now (targets .entry)) (now (starts .entry)) (now (words .entry))) (coreOf w (now (spent .entry)) (now (number .entry)) (now (parent .entry)) (now (index .entry)) (now (probes .entry)) stamp (now (walk .entry)) (now (depth .entry)) cursor) (coreOf r (now (spent .exit)) (now (number .exit)) (now (parent .exit)) (now (index .exit)) (now (probes .exit)) stamp (now (walk .exit)) (now (depth .exit)) cursor)) ⌝ }
+    requires { ⌜ (w .phase ≡ Outer) × Roomy w (now number) × Laid (now targets) (now begins) (now ends) (now bases) × Recorded (now number) (now parent) (now index) (now probes) (now walk) (now depth) ⌝ }
+    ensures { λ r. ⌜ ((stamp cursor : List ℕ) → Advanced (gameOf (now (targets .entry)) (layoutOf (now (begins .entry)) (now (ends .entry)) (now (bases .entry))) (now (words .entry)) size) (coreOf w (now (spent .entry)) (now (number .entry)) (now (parent .entry)) (now (index .entry)) (now (probes .entry)) stamp (now (walk .entry)) (now (depth .entry)) cursor) (coreOf r (now (spent .exit)) (now (number .exit)) (now (parent .exit)) (now (index .exit)) (now (probes .exit)) stamp (now (walk .exit)) (now (depth .exit)) cursor)) ⌝ }
+    ensures { λ r. ⌜ Roomy r (now (number .exit)) ⌝ }
 {
     let mut q = w;
-    let mut left = TURNS;
-    while 0 < left {
+    while true {
         q = outer_step(
             targets,
-            starts,
+            begins,
+            ends,
+            bases,
             words,
             number,
             parent,
@@ -195,13 +209,13 @@ pub fn outer_steps(
             walk,
             depth,
             spent,
+            size,
             q,
         );
         let phase = q.phase;
         if outer_stopped(phase) {
             return q;
         }
-        left -= 1;
     }
     q
 }

@@ -1,4 +1,5 @@
 // The search, resumed, to its end.
+use crate::LONGEST;
 use crate::Phase;
 use crate::Walker;
 use crate::nested::nested_steps;
@@ -9,13 +10,15 @@ use crate::rewind::retrace;
 use look::get;
 use look::up;
 ghost use mathlib.Core.Path.{_≡_};
-ghost use Rattle.rows.specs.Rows.{Tabled};
-ghost use Rattle.search.specs.Core.{gameOf, Sized, Lengths, Deep, coreOf, Advanced, Ran, over as isOver, rewound, resultOf};
+ghost use Rattle.look.specs.Scan.{layoutOf, Laid};
+ghost use Rattle.search.specs.Core.{gameOf, Sized, Lengths, Deep, Roomy, coreOf, Advanced, Ran, over as isOver, rewound, resultOf};
 
 // A phase: steps of the outer or of the nested search, until that stops; none once the search is over.
 fn one_phase(
     targets: &[u16; 2048],
-    starts: &[u16; 513],
+    begins: &[u16; 513],
+    ends: &[u16; 512],
+    bases: &[u16; 512],
     words: &[u64; 8],
     number: &mut [u16; 512],
     parent: &mut [u16; 512],
@@ -26,16 +29,20 @@ fn one_phase(
     depth: &mut [u16; 512],
     cursor: &mut [u16; 512],
     spent: &mut u16,
+    size: u16,
     w: Walker,
 ) -> Walker
-    requires { ⌜ Tabled (now targets) (now starts) × Sized (coreOf w (now spent) (now number) (now parent) (now index) (now probes) (now stamp) (now walk) (now depth) (now cursor)) × Deep w ⌝ }
-    ensures { λ r. ⌜ Advanced (gameOf (now (targets .entry)) (now (starts .entry)) (now (words .entry))) (coreOf w (now (spent .entry)) (now (number .entry)) (now (parent .entry)) (now (index .entry)) (now (probes .entry)) (now (stamp .entry)) (now (walk .entry)) (now (depth .entry)) (now (cursor .entry))) (coreOf r (now (spent .exit)) (now (number .exit)) (now (parent .exit)) (now (index .exit)) (now (probes .exit)) (now (stamp .exit)) (now (walk .exit)) (now (depth .exit)) (now (cursor .exit))) ⌝ }
+    requires { ⌜ Laid (now targets) (now begins) (now ends) (now bases) × Sized (coreOf w (now spent) (now number) (now parent) (now index) (now probes) (now stamp) (now walk) (now depth) (now cursor)) × Deep w × Roomy w (now number) ⌝ }
+    ensures { λ r. ⌜ Advanced (gameOf (now (targets .entry)) (layoutOf (now (begins .entry)) (now (ends .entry)) (now (bases .entry))) (now (words .entry)) size) (coreOf w (now (spent .entry)) (now (number .entry)) (now (parent .entry)) (now (index .entry)) (now (probes .entry)) (now (stamp .entry)) (now (walk .entry)) (now (depth .entry)) (now (cursor .entry))) (coreOf r (now (spent .exit)) (now (number .exit)) (now (parent .exit)) (now (index .exit)) (now (probes .exit)) (now (stamp .exit)) (now (walk .exit)) (now (depth .exit)) (now (cursor .exit))) ⌝ }
+    ensures { λ r. ⌜ Roomy r (now (number .exit)) ⌝ }
 {
     let phase = w.phase;
     match phase {
         Phase::Outer => outer_steps(
             targets,
-            starts,
+            begins,
+            ends,
+            bases,
             words,
             number,
             parent,
@@ -44,11 +51,14 @@ fn one_phase(
             walk,
             depth,
             spent,
+            size,
             w,
         ),
         Phase::Nested => nested_steps(
             targets,
-            starts,
+            begins,
+            ends,
+            bases,
             parent,
             index,
             stamp,
@@ -78,7 +88,9 @@ fn over(phase: Phase) -> bool
 // So many phases, unless the search is over before. Each phase is a step or more.
 fn run(
     targets: &[u16; 2048],
-    starts: &[u16; 513],
+    begins: &[u16; 513],
+    ends: &[u16; 512],
+    bases: &[u16; 512],
     words: &[u64; 8],
     number: &mut [u16; 512],
     parent: &mut [u16; 512],
@@ -89,11 +101,12 @@ fn run(
     depth: &mut [u16; 512],
     cursor: &mut [u16; 512],
     spent: &mut u16,
+    size: u16,
     w: Walker,
     phases: u16,
 ) -> Walker
-    requires { ⌜ Tabled (now targets) (now starts) × Sized (coreOf w (now spent) (now number) (now parent) (now index) (now probes) (now stamp) (now walk) (now depth) (now cursor)) × Deep w ⌝ }
-    ensures { λ r. ⌜ Ran (gameOf (now (targets .entry)) (now (starts .entry)) (now (words .entry))) phases (coreOf w (now (spent .entry)) (now (number .entry)) (now (parent .entry)) (now (index .entry)) (now (probes .entry)) (now (stamp .entry)) (now (walk .entry)) (now (depth .entry)) (now (cursor .entry))) (resultOf r (now (spent .exit)) (now (number .exit)) (now (parent .exit)) (now (index .exit)) (now (probes .exit)) (now (stamp .exit)) (now (walk .exit))) ⌝ }
+    requires { ⌜ Laid (now targets) (now begins) (now ends) (now bases) × Sized (coreOf w (now spent) (now number) (now parent) (now index) (now probes) (now stamp) (now walk) (now depth) (now cursor)) × Deep w × Roomy w (now number) ⌝ }
+    ensures { λ r. ⌜ Ran (gameOf (now (targets .entry)) (layoutOf (now (begins .entry)) (now (ends .entry)) (now (bases .entry))) (now (words .entry)) size) phases (coreOf w (now (spent .entry)) (now (number .entry)) (now (parent .entry)) (now (index .entry)) (now (probes .entry)) (now (stamp .entry)) (now (walk .entry)) (now (depth .entry)) (now (cursor .entry))) (resultOf r (now (spent .exit)) (now (number .exit)) (now (parent .exit)) (now (index .exit)) (now (probes .exit)) (now (stamp .exit)) (now (walk .exit))) ⌝ }
 {
     let mut q = w;
     let mut left = phases;
@@ -104,7 +117,9 @@ fn run(
         }
         q = one_phase(
             targets,
-            starts,
+            begins,
+            ends,
+            bases,
             words,
             number,
             parent,
@@ -115,6 +130,7 @@ fn run(
             depth,
             cursor,
             spent,
+            size,
             q,
         );
         left -= 1;
@@ -123,11 +139,13 @@ fn run(
 }
 
 // The search from the discovery of s on, for so many phases: what was discovered or marked later is forgotten, and the open path is the chain of
-// parents of s. No state is `size` or more. What stays open, where the search is not over by then, as only that of a forged session is: how many
+// parents of s. No state is `states` or more, and none of `size` or more is accepting. What stays open, where the search is not over by then, as only that of a forged session is: how many
 // steps are made. At least one is made for each phase.
 pub fn resume(
     targets: &[u16; 2048],
-    starts: &[u16; 513],
+    begins: &[u16; 513],
+    ends: &[u16; 512],
+    bases: &[u16; 512],
     words: &[u64; 8],
     number: &mut [u16; 512],
     parent: &mut [u16; 512],
@@ -136,17 +154,19 @@ pub fn resume(
     stamp: &mut [u16; 512],
     walk: &mut [u16; 512],
     spent: &mut u16,
+    states: u16,
     size: u16,
     start: u16,
     s: u16,
     phases: u16,
 ) -> Walker
-    requires { ⌜ Tabled (now targets) (now starts) × Lengths (now number) (now parent) (now index) (now probes) (now stamp) (now walk) ⌝ }
-    ensures { λ r. ⌜ Ran (gameOf (now (targets .entry)) (now (starts .entry)) (now (words .entry))) phases (rewound size start s (now (spent .entry)) (now (number .entry)) (now (parent .entry)) (now (index .entry)) (now (probes .entry)) (now (stamp .entry)) (now (walk .entry))) (resultOf r (now (spent .exit)) (now (number .exit)) (now (parent .exit)) (now (index .exit)) (now (probes .exit)) (now (stamp .exit)) (now (walk .exit))) ⌝ }
+    requires { ⌜ Laid (now targets) (now begins) (now ends) (now bases) × Lengths (now number) (now parent) (now index) (now probes) (now stamp) (now walk) ⌝ }
+    ensures { λ r. ⌜ Ran (gameOf (now (targets .entry)) (layoutOf (now (begins .entry)) (now (ends .entry)) (now (bases .entry))) (now (words .entry)) size) phases (rewound states start s (now (spent .entry)) (now (number .entry)) (now (parent .entry)) (now (index .entry)) (now (probes .entry)) (now (stamp .entry)) (now (walk .entry))) (resultOf r (now (spent .exit)) (now (number .exit)) (now (parent .exit)) (now (index .exit)) (now (probes .exit)) (now (stamp .exit)) (now (walk .exit))) ⌝ }
 {
-    let limit = get(number, s);
-    forget_above(number, size, limit);
-    forget_above(stamp, size, limit);
+    let paying = *words;
+    let limit = get(number, s) % LONGEST;
+    forget_above(number, states, limit);
+    forget_above(stamp, states, limit);
     let height = climb(parent, start, s);
     let mut depth: [u16; 512] = [0; 512];
     let mut cursor: [u16; 512] = [0; 512];
@@ -163,8 +183,10 @@ pub fn resume(
     };
     run(
         targets,
-        starts,
-        words,
+        begins,
+        ends,
+        bases,
+        &paying,
         number,
         parent,
         index,
@@ -174,6 +196,7 @@ pub fn resume(
         &mut depth,
         &mut cursor,
         spent,
+        size,
         w,
         phases,
     )

@@ -27,6 +27,7 @@ use Rattle.look.specs.Numbers.{plus}
 use Rattle.look.proofs.Counting.{plus-more}
 use Rattle.search.specs.Core.{Result}
 use Rattle.search.specs.Archive.{rootOf, notesOf, Archived}
+use Rattle.search.proofs.Represents.{Matches}
 use Rattle.search.proofs.Scans.{ran-from}
 use Rattle.search.proofs.Ended.{rewound-spent}
 use Rattle.plain.proofs.Limits.{Small, limits, size-few, small}
@@ -120,7 +121,7 @@ module _ (ns : List ℕ) (s : Session) where
 
 -- an accepted call: its lines as numbers, and the arrays that hold the table which it leaves
 module _ (u : PlainUpdate) (ns : List ℕ) (s : Session) (b : Arrays) (a : Records) (v : Verdict)
-    (sought : Sought (gameIn b) (s .size) (s .start) (takenUp ns s) (oldOf s) (recordsHeld s) v a)
+    (sought : Sought (gameIn (s .size) b) (s .size) (s .start) (takenUp ns s) (oldOf s) (recordsHeld s) v a)
     (t : Table) (h : Holds s t) (room : ℕ) (yes-it-is : updateTrial u t room ≡ accepted) (lines-are : linesIn ns ≡ map makes (changesOf u)) (stored-new : Stored (applied u t) b) where
   abbrev t′ : Table
   t′ = applied u t
@@ -144,7 +145,7 @@ module _ (u : PlainUpdate) (ns : List ℕ) (s : Session) (b : Arrays) (a : Recor
   worth-same : takenUp ns s ≡ Nowhere → Untouched u t ok ok′ (h .steps) (h .ended) → Worth u t v a
   unfolding r kept
   worth-same e o =
-      let q = subst (λ (x : Resumption). Sought (gameIn b) (s .size) (s .start) x (oldOf s) (recordsHeld s) v a) e sought in
+      let q = subst (λ (x : Resumption). Sought (gameIn (s .size) b) (s .size) (s .start) x (oldOf s) (recordsHeld s) v a) e sought in
       let w = update-same u t ok ok′ (h .steps) (h .ended) r o (h .archived .holds) in
       let looks : count (final t′) ≡ count (final t) = ap length (alike-probes (final t) (final t′) (w .same-final)) in
       let z : s .total + 0 ≡ count (final t′) = omega (arith, h .total-is, looks) in
@@ -187,11 +188,11 @@ module _ (u : PlainUpdate) (ns : List ℕ) (s : Session) (b : Arrays) (a : Recor
   worth-met e o m =
       let met = update-met u t ok ok′ (h .steps) (h .ended) r m (h .archived .holds) in
       let w = met .meeting in
-      let q = subst (λ (x : Resumption). Sought (gameIn b) (s .size) (s .start) x (oldOf s) (recordsHeld s) v a) (met-first w e) sought in
+      let q = subst (λ (x : Resumption). Sought (gameIn (s .size) b) (s .size) (s .start) x (oldOf s) (recordsHeld s) v a) (met-first w e) sought in
       let same : t′ .size ≡ t .size = update-size u t in
       let fit = resume-fits (t .size) (namedBy u) (searched t) (searched t′) (update-agree u t) (small t ok) (subst (Small (searched t′)) same (small t′ ok′)) (h .steps) (s .number) (s .parent) (s .index) (s .probes) (s .stamp) (s .walk) (h .archived) w in
-      let begun = ran-from (gameIn b) (same-start (w .meeting .state) (h .size-is) (h .start-is ∙ sym (update-start u t))) (q .1) in
-      let g = reached t′ ok′ (gameIn b) (matches t′ b stored-new)
+      let begun = ran-from (gameIn (s .size) b) (same-start (w .meeting .state) (h .size-is) (h .start-is ∙ sym (update-start u t))) (q .1) in
+      let g = reached t′ ok′ (gameIn (s .size) b) (subst⁻¹ (λ (n : ℕ). Matches (searched t′) (gameIn n b)) (h .size-is ∙ sym same) (matches t′ b ok′ stored-new))
       (w .at) (backAt (t .size) (t′ .start) (w .meeting .state) (recordsHeld s)) (q .0)
       (rewound-spent (t .size) (t′ .start) (w .meeting .state) 0 (s .number) (s .parent) (s .index) (s .probes) (s .stamp) (s .walk)) fit begun in
       subst⁻¹ (λ (x : Verdict). Worth u t x a) (q .2) (subst⁻¹ (λ (x : Records). Worth u t (verdictOf (q .0 .walker) (q .0 .spent)) x) (q .3) (settled-by (q .0) (w .at) g (ap count (kept-meeting u t o ∙ met .kept-here))))
@@ -325,7 +326,7 @@ module _ (u : PlainUpdate) (alone : Bool) (ns : List ℕ) (q : Asks u alone (lin
       refused-same z = cc
 
   call-accepted : (lent′ : List ℕ) (b : Arrays) (a : Records) (r : Settled) → tried .trial ≡ accepted → b ≡ tried .arrays
-      → Settles (gameIn b) (s .size) (s .start) (takenUp ns s) (oldOf s) (recordsHeld s) lent r a lent′
+      → Settles (gameIn (s .size) b) (s .size) (s .start) (takenUp ns s) (oldOf s) (recordsHeld s) lent r a lent′
       → Updates u s lent (record { answer = r .answer; session = sessionOf (s .size) (s .start) b a (r .verdict) (plus (r .verdict .kept) (r .verdict .spent)) }) lent′
   unfolding trialOf
   call-accepted lent′ b a r e new w = record {

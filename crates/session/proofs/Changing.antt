@@ -41,11 +41,11 @@ module _ (alone : Bool) (ns : List ℕ) (size start : ℕ) (old : Verdict) (b : 
       }
 
   pub updated-accepted : (x : Attempt) (b′ : Arrays) (from : Resumption) (r : Settled) (a′ : Records) (lent′ : List ℕ) → AttemptedCall alone tried b x b′ → x .trial ≡ Accepted
-      → from ≡ resumptionOf ns (b .rows) (a .number) (a .index) (a .walk) (old .height) → Settles (gameIn b′) size start from old a lent r a′ lent′
+      → from ≡ resumptionOf ns (b .rows) (a .number) (a .index) (a .walk) (old .height) → Settles (gameIn size b′) size start from old a lent r a′ lent′
       → UpdatedIn alone ns size start old b a lent r b′ a′ lent′
   updated-accepted x b′ from r a′ lent′ w e g k = record {
     on-refusal = λ n z. absurd (not-both (sym z ∙ tried-accepted (tried .trial) (sym (w .trial-is) ∙ e)));
-    on-acceptance = λ z. (w .filed e, subst (λ (x : Resumption). Settles (gameIn b′) size start x old a lent r a′ lent′) g k);
+    on-acceptance = λ z. (w .filed e, subst (λ (x : Resumption). Settles (gameIn size b′) size start x old a lent r a′ lent′) g k);
   }
 
 -- the arrays of an accepted call keep their sizes

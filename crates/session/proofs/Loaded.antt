@@ -70,7 +70,7 @@ settles-fresh {g = g} {size = size} {start = start} {from = from} {walk = walk} 
 module _ (l : Load) (lent lent′ : List ℕ) (rows : Rows) (indegree : List ℕ) (a : Records) (r : Settled) (blank-walk : List ℕ)
     (yes-it-is : loadTrial l (length lent) ≡ accepted) (filed : Filed (l .size) (pairs (l .numbers)) rows)
     (counts : indegree ≡ countedAll (pairs (l .numbers)) (replicate 512 0)) (blank-size : length blank-walk ≡ 512)
-    (settles : Settles (gameIn (record { rows = rows; words = l .words; indegree = indegree })) (l .size) (l .start) (At (l .start)) noVerdict (freshFrom (l .start) blank-walk) lent r a lent′) where
+    (settles : Settles (gameIn (l .size) (record { rows = rows; words = l .words; indegree = indegree })) (l .size) (l .start) (At (l .start)) noVerdict (freshFrom (l .start) blank-walk) lent r a lent′) where
   abbrev t : Table
   t = tableOf l
 
@@ -100,7 +100,7 @@ module _ (l : Load) (lent lent′ : List ℕ) (rows : Rows) (indegree : List ℕ
   begun =
       let q = settles .sought in
       let fresh = freshFrom (l .start) blank-walk in
-      let g = reached t ok (gameIn b) (matches t b stored) 0 (backAt (l .size) (l .start) (l .start) fresh) (q .0)
+      let g = reached t ok (gameIn (l .size) b) (matches t b ok stored) 0 (backAt (l .size) (l .start) (l .start) fresh) (q .0)
       (rewound-spent (l .size) (l .start) (l .start) 0 (fresh .number) (fresh .parent) (fresh .index) (fresh .probes) (fresh .stamp) (fresh .walk))
       (begin-fits (l .size) (searched t) (small t ok) blank-walk blank-size) (q .1) in
       (q .0, g, q .2, q .3)

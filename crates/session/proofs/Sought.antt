@@ -1,26 +1,31 @@
 -- A search of the arrays, begun or resumed to its end: what it has come to is what the plain search on the table comes to. Assumes nothing.
 use mathlib.Core.Path.{_≡_, refl, sym, ap, subst, subst⁻¹, _∙_}
 use mathlib.Core.Logic.{_≢_}
-use mathlib.Core.Bool.{Bool, true, false, cond}
+use mathlib.Core.Bool.{Bool, true, false, _&&_, cond}
 use mathlib.Core.List.{List}
-use Prim.Native.Nat.{ℕ, _+_, _≤_, _<_}
+use Prim.Native.Nat.{ℕ, _+_, _%_, _≤_, _<_}
 use native.Mathlib.Omega.{arith}
-use lib.ListN.{length}
+use lib.Dec.{ltb}
+use lib.ListN.{length, replicate}
 use Rattle.plain.specs.Search.{Graph, Config, outer, nested, exhausted, found, run, lasso, unfinished, verdict, count}
-use Rattle.plain.specs.Table.{Table, searched, final, accepts}
+use Rattle.plain.specs.Lists.{elem}
+use Rattle.plain.specs.Table.{Table, row, searched, final, accepts}
 use Rattle.plain.specs.Notes.{notes}
 use Rattle.plain.proofs.Tables.{Valid}
-use Rattle.plain.proofs.Demands.{ended-within, run-final, verdict-right}
+use Rattle.plain.proofs.Tables.{accepting-few}
+use Rattle.plain.proofs.Demands.{target-below, ended-within, run-final, verdict-right}
 use Rattle.look.specs.Numbers.{plus}
 use Rattle.look.proofs.Counting.{plus-more}
-use Rattle.look.proofs.Scans.{row-filed}
+use Rattle.rows.proofs.Entries.{entries-length}
+use Rattle.look.specs.Scan.{layoutOf, endsOf, plainLayout, rowLaid}
+use Rattle.look.proofs.Scans.{laid-plain}
 use Rattle.search.specs.declared.Walker.{Walker}
-use Rattle.search.specs.Core.{Game, Core, Result, result, runFor, Ran, Lengths}
+use Rattle.search.specs.Core.{Game, gameOf, acceptsBelow, Core, Result, result, runFor, Ran, Lengths}
 use Rattle.search.specs.Archive.{Archived}
 use Rattle.search.proofs.Represents.{Matches, Stands}
 use Rattle.search.proofs.Ways.{run-sized, rewound-sized}
 use Rattle.search.proofs.OneStep.{Fits}
-use Rattle.plain.proofs.Limits.{limits, small, budget-bound}
+use Rattle.plain.proofs.Limits.{size-few, limits, small, budget-bound}
 use Rattle.search.proofs.Resumed.{at-run, archived}
 use Rattle.search.proofs.Ended.{run-kept}
 use Rattle.session.specs.declared.Verdict.{Verdict}
@@ -29,17 +34,25 @@ use Rattle.session.specs.declared.Resumption.the-variants.{Nowhere, At}
 use Rattle.session.specs.Model.{Records, gameIn, recordsIn, isFound, verdictOf, bound, backAt, Sought}
 use Rattle.session.specs.Promises.{heightOf}
 use Rattle.table.specs.Trials.{Arrays}
-use Rattle.table.specs.Filing.{Stored}
+use Rattle.table.specs.Filing.{Filed, Stored}
 use Rattle.verdict.specs.Answers.{WalkOf}
 
 -- the rows and words are those of the table's graph
-pub matches : (t : Table) (b : Arrays) → Stored t b → Matches (searched t) (gameIn b)
-matches t b s =
-    let r = s .filed in
-    record {
-      rows = λ v. sym (row-filed (t .size) (b .rows .targets) (b .rows .starts) (r .compressed) v ∙ r .rows-are v);
-      acceptance = λ v. ap (λ (w : List ℕ). accepts w v) (sym (s .words-are));
-    }
+pub matches : (t : Table) (b : Arrays) → Valid t → Stored t b → Matches (searched t) (gameIn (t .size) b)
+unfolding acceptsBelow
+matches t b ok s = record { rows = rows; acceptance = acceptance }
+  where
+    r : Filed (t .size) (t .edges) (b .rows)
+    r = s .filed
+
+    rows : (v : ℕ) → v < 512 → row (t .edges) v ≡ rowLaid (b .rows .targets) (plainLayout (b .rows .starts)) v
+    rows v h = sym (laid-plain (t .size) (b .rows .targets) (b .rows .starts) (r .compressed) v h (λ x i. omega (arith, target-below t ok v x (ap (elem x) (sym (r .rows-are v)) ∙ i), size-few (t .size) (ok .size-ok))) ∙ r .rows-are v)
+
+    acceptance : (v : ℕ) → v < 512 → accepts (t .words) v ≡ acceptsBelow (b .words) (t .size) v
+    acceptance v h = accepting-few t ok v h ∙ λ i. ltb v (t .size) && accepts (sym (s .words-are) i) (wraps i)
+      where
+        wraps : v ≡ v % 512
+        wraps = omega arith
 
 -- ---- what a search that is over has come to
 
@@ -104,6 +117,16 @@ module _ (t : Table) (v : Valid t) (game : Game) (m : Matches (searched t) game)
   reached n s r unspent a ran = subst⁻¹ (Reached t n) (ran .reached) (reached-by (ran .steps) (ran .enough) n s unspent a)
 
 -- ---- what `seek` leaves
+
+-- the rows that were laid for it are the table's
+pub ends-sized : (starts ends : List ℕ) → ends ≡ endsOf starts → length ends ≡ 512
+unfolding endsOf
+ends-sized starts ends e = ap length e ∙ entries-length 512 1 starts
+
+pub ran-plain : {targets starts ends words : List ℕ} {size phases : ℕ} {s : Core} {r : Result} → ends ≡ endsOf starts
+    → Ran (gameOf targets (layoutOf starts ends (replicate 512 0)) words size) phases s r → Ran (gameOf targets (plainLayout starts) words size) phases s r
+ran-plain {targets = targets} {starts = starts} {words = words} {size = size} {phases = phases} {s = s} {r = r} e ran =
+    subst (λ (x : List ℕ). Ran (gameOf targets (layoutOf starts x (replicate 512 0)) words size) phases s r) e ran
 
 pub sought-nowhere : (g : Game) (size start : ℕ) (from : Resumption) (old : Verdict) (a : Records) → from ≡ Nowhere → Sought g size start from old a old a
 sought-nowhere g size start from old a f = subst⁻¹ (λ (x : Resumption). Sought g size start x old a old a) f (refl, refl)

@@ -19,6 +19,7 @@ use Rattle.table.specs.Trials.{Arrays, arraysOf}
 use Rattle.table.specs.Filing.{namedBy}
 use Rattle.batch.specs.Batches.{lineFor, lineTo, linesIn, statesIn, opFor, positionAt, callTriedIn}
 use Rattle.look.specs.Numbers.{noNumber}
+use Rattle.look.specs.Scan.{plainLayout}
 use Rattle.search.specs.declared.Phase.{Phase}
 use Rattle.search.specs.declared.Phase.the-variants.{Outer, Nested, Exhausted, Found}
 use Rattle.search.specs.declared.Walker.{Walker}
@@ -68,8 +69,8 @@ abbrev pub arraysHeld : Session → Arrays
 arraysHeld s = arraysOf (s .targets) (s .starts) (s .words) (s .indegree)
 
 -- the game that is searched
-abbrev pub gameIn : Arrays → Game
-gameIn b = gameOf (b .rows .targets) (b .rows .starts) (b .words)
+abbrev pub gameIn : ℕ → Arrays → Game
+gameIn size b = gameOf (b .rows .targets) (plainLayout (b .rows .starts)) (b .words) size
 
 -- the session that has no game: all is 0
 abbrev pub noGame : Session
@@ -186,4 +187,4 @@ pub record UpdatedIn (alone : Bool) (ns : List ℕ) (size start : ℕ) (old : Ve
       → (r ≡ record { answer = refusing n (positionAt alone (callTriedIn alone (linesIn ns) size b (length lent) .position)); verdict = old }) × (b′ ≡ b) × (a′ ≡ a) × (lent′ ≡ lent)
   pub on-acceptance : callTriedIn alone (linesIn ns) size b (length lent) .trial ≡ accepted
       → (b′ ≡ callTriedIn alone (linesIn ns) size b (length lent) .arrays)
-      × Settles (gameIn b′) size start (resumptionOf ns (b .rows) (a .number) (a .index) (a .walk) (old .height)) old a lent r a′ lent′
+      × Settles (gameIn size b′) size start (resumptionOf ns (b .rows) (a .number) (a .index) (a .walk) (old .height)) old a lent r a′ lent′

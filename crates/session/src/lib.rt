@@ -16,6 +16,7 @@ ghost use lib.ListN.{length, take, drop};
 ghost use Rattle.rows.specs.Rows.{Tabled};
 ghost use Rattle.rows.specs.Change.{rowsOf};
 ghost use Rattle.look.specs.Numbers.{plus};
+ghost use Rattle.look.specs.Scan.{plainLayout};
 ghost use Rattle.search.specs.Core.{gameOf, Lengths};
 ghost use Rattle.table.specs.Trials.{arraysOf};
 ghost use Rattle.question.specs.Replies.{questionOf};
@@ -291,16 +292,22 @@ fn seek(
     old: Verdict,
 ) -> Verdict
     requires { ⌜ Tabled (now targets) (now starts) × Lengths (now number) (now parent) (now index) (now probes) (now stamp) (now walk) ⌝ }
-    ensures { λ r. ⌜ Sought (gameOf (now (targets .entry)) (now (starts .entry)) (now (words .entry))) size start from old (recordsOf (now (number .entry)) (now (parent .entry)) (now (index .entry)) (now (probes .entry)) (now (stamp .entry)) (now (walk .entry))) r (recordsOf (now (number .exit)) (now (parent .exit)) (now (index .exit)) (now (probes .exit)) (now (stamp .exit)) (now (walk .exit))) ⌝ }
+    ensures { λ r. ⌜ Sought (gameOf (now (targets .entry)) (plainLayout (now (starts .entry))) (now (words .entry)) size) size start from old (recordsOf (now (number .entry)) (now (parent .entry)) (now (index .entry)) (now (probes .entry)) (now (stamp .entry)) (now (walk .entry))) r (recordsOf (now (number .exit)) (now (parent .exit)) (now (index .exit)) (now (probes .exit)) (now (stamp .exit)) (now (walk .exit))) ⌝ }
     ensures { λ r. ⌜ length (now (walk .exit)) ≡ 512 ⌝ }
 {
     match from {
         Resumption::Nowhere => old,
         Resumption::At(s) => {
+            let begins = *starts;
+            let mut ends: [u16; 512] = [0; 512];
+            let bases: [u16; 512] = [0; 512];
+            look::lay_ends(starts, &mut ends);
             let mut spent: u16 = 0;
             let w = search::resume(
                 targets,
-                starts,
+                &begins,
+                &ends,
+                &bases,
                 words,
                 number,
                 parent,
@@ -309,6 +316,7 @@ fn seek(
                 stamp,
                 walk,
                 &mut spent,
+                size,
                 size,
                 start,
                 s,
@@ -381,7 +389,7 @@ fn settle(
     lent: &mut [u16],
 ) -> Settled
     requires { ⌜ Tabled (now targets) (now starts) × Lengths (now number) (now parent) (now index) (now probes) (now stamp) (now walk) ⌝ }
-    ensures { λ r. ⌜ Settles (gameOf (now (targets .entry)) (now (starts .entry)) (now (words .entry))) size start from old (recordsOf (now (number .entry)) (now (parent .entry)) (now (index .entry)) (now (probes .entry)) (now (stamp .entry)) (now (walk .entry))) (now (lent .entry)) r (recordsOf (now (number .exit)) (now (parent .exit)) (now (index .exit)) (now (probes .exit)) (now (stamp .exit)) (now (walk .exit))) (now (lent .exit)) ⌝ }
+    ensures { λ r. ⌜ Settles (gameOf (now (targets .entry)) (plainLayout (now (starts .entry))) (now (words .entry)) size) size start from old (recordsOf (now (number .entry)) (now (parent .entry)) (now (index .entry)) (now (probes .entry)) (now (stamp .entry)) (now (walk .entry))) (now (lent .entry)) r (recordsOf (now (number .exit)) (now (parent .exit)) (now (index .exit)) (now (probes .exit)) (now (stamp .exit)) (now (walk .exit))) (now (lent .exit)) ⌝ }
 {
     let v = seek(
         targets,

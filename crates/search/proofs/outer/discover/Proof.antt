@@ -1,7 +1,5 @@
 -- `discover` meets its contract: each call writes one array. Assumes nothing.
 use denote.Ref.{now}
-use Prim.Native.Nat.{_-_}
-use lib.ListN.{getD}
 use Rattle.search.specs.Core.{Core, coreOf, placed}
 use Rattle.search.proofs.Ways.{discovers}
 use Rattle.search.proofs.outer.discover.Statement.{statement}
@@ -13,23 +11,20 @@ put-requires c κs = c .before .pre .0
 put-requires-2 : tie.Need-put-requires-2
 put-requires-2 c κs = c .before .before .before .pre .1
 
-edge-of-requires : tie.Need-edge-of-requires
-edge-of-requires c κs = c .before .before .before .before .before .pre .6
-
 put-requires-3 : tie.Need-put-requires-3
-put-requires-3 c κs = c .before .before .before .before .before .before .pre .2
+put-requires-3 c κs = c .before .before .before .before .before .pre .2
 
 plus-requires : tie.Need-plus-requires
 plus-requires c κs = tt
 
 put-requires-4 : tie.Need-put-requires-4
-put-requires-4 c κs = c .before .before .before .before .before .before .before .before .before .pre .3
+put-requires-4 c κs = c .before .before .before .before .before .before .before .before .pre .3
 
 put-requires-5 : tie.Need-put-requires-5
-put-requires-5 c κs = c .before .before .before .before .before .before .before .before .before .before .before .pre .4
+put-requires-5 c κs = c .before .before .before .before .before .before .before .before .before .before .pre .4
 
 put-requires-6 : tie.Need-put-requires-6
-put-requires-6 c κs = c .before .before .before .before .before .before .before .before .before .before .before .before .before .pre .5
+put-requires-6 c κs = c .before .before .before .before .before .before .before .before .before .before .before .before .pre .5
 
 up-requires : tie.Need-up-requires
 up-requires c κs = tt
@@ -45,15 +40,14 @@ returns c = λ stamp cursor.
     let p4 = p5 .before .before in
     let sum = p4 .before in
     let p3 = sum .before .before in
-    let e = p3 .before in
-    let p2 = e .before .before in
+    let p2 = p3 .before .before in
     let p1 = p2 .before .before in
     let a = p1 .before .before .args in
     let s : Core =
-    coreOf (placed (a .w) (a .at - getD (now (a .starts)) (a .w .cur) 0)) (a .spent) (now (a .number)) (now (a .parent)) (now (a .index)) (now (a .probes)) stamp
+    coreOf (placed (a .w) (a .edge)) (a .spent) (now (a .number)) (now (a .parent)) (now (a .index)) (now (a .probes)) stamp
     (now (a .walk)) (now (a .depth)) cursor
     in
-    discovers s (a .t) (p1 .put .ensures) (p2 .put2 .ensures) (e .edge-of .ensures) (p3 .put3 .ensures) (sum .plus .ensures) (p4 .put4 .ensures)
+    discovers s (a .t) (p1 .put .ensures) (p2 .put2 .ensures) (p3 .put3 .ensures) (sum .plus .ensures) (p4 .put4 .ensures)
     (p5 .put5 .ensures) (p6 .put6 .ensures) (u .up .ensures) (c .up2 .ensures)
 
 pub discover-spec : {M : Type 1} → statement M
@@ -62,7 +56,6 @@ discover-spec =
     (tie.spec
     put-requires
     put-requires-2
-    edge-of-requires
     put-requires-3
     plus-requires
     put-requires-4
