@@ -13,11 +13,10 @@ use Rattle.plain.specs.Lists.{In}
 use Rattle.plain.proofs.Tests.{contra, either, in-head, in-tail}
 use Rattle.rows.specs.Rows.{entries, rowAt, Compressed}
 use Rattle.rows.proofs.Paste.{same-place}
-use Rattle.rows.proofs.Entries.{entries-length, entries-at, row-length, row-at, no-row}
+use Rattle.rows.proofs.Entries.{entries-length, entries-at, no-row}
 use Rattle.rows.proofs.Change.{starts-within}
 use Rattle.look.specs.declared.Row.{Row}
 use Rattle.look.specs.declared.Stretch.{Stretch}
-use Rattle.look.specs.declared.Scanned.{Scanned}
 use Rattle.look.specs.Numbers.{noNumber, up, raised}
 use Rattle.look.specs.Scan.{fits, rowIn, Spans, Layout, endsOf, plainLayout, Stretches, spanned, lifted, rowLaid, Skips, Swept}
 use Rattle.look.proofs.Counting.{raised-none, raised-next}
@@ -71,31 +70,11 @@ module _ (targets starts : List ℕ) (v : ℕ) where
 
   -- what stands at the places of a row is the row
   module _ (r : Row) (z : Spans starts v r) where
-    pub row-size : length (rowIn targets starts v) ≡ r .stop - r .from
-    row-size = ⊎-elim
-        (λ e. omega (arith, ap length (row-whole e), row-length targets starts v, z .whole e .0, z .whole e .1))
-        (λ e. omega (arith, ap length (row-none e), z .empty e .0, z .empty e .1)) (either (fits starts v))
-
     pub row-places : rowIn targets starts v ≡ entries (r .stop - r .from) (r .from) targets
     unfolding rowAt entries
     row-places = ⊎-elim
         (λ e. row-whole e ∙ (λ i. entries (sym (z .whole e .1) i - sym (z .whole e .0) i) (sym (z .whole e .0) i) targets))
         (λ e. row-none e ∙ (λ i. entries (sym (z .empty e .1) i - sym (z .empty e .0) i) (sym (z .empty e .0) i) targets)) (either (fits starts v))
-
-    -- an edge of the row, at its place
-    module _ (k : ℕ) (edge : k < r .stop - r .from) where
-      fit : fits starts v ≡ true
-      fit = ⊎-elim (λ e. e) (λ e. absurd (omega (arith, z .empty e .0, z .empty e .1))) (either (fits starts v))
-
-      pub first-is : r .from ≡ getD starts v 0
-      first-is = z .whole fit .0
-
-      pub entry-is : getD (rowIn targets starts v) k 0 ≡ getD targets (r .from + k) 0
-      entry-is =
-          let e = first-is in
-          ap (λ (row : List ℕ). getD row k 0) (row-whole fit)
-          ∙ row-at targets starts v k (omega (arith, z .whole fit .0, z .whole fit .1))
-          ∙ same-place targets (omega arith)
 
 -- rows that a table has fit
 row-fits : (targets starts : List ℕ) (v : ℕ) → (v < 512 → getD starts (suc v) 0 ≤ 2048) → (512 ≤ v → rowAt targets starts v ≡ [])

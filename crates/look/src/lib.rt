@@ -166,10 +166,10 @@ pub fn lay_ends(starts: &[u16; 513], ends: &mut [u16; 512])
     requires { ⌜ (length (now starts) ≡ 513) × (length (now ends) ≡ 512) ⌝ }
     ensures { λ r. ⌜ now (ends .exit) ≡ endsOf (now (starts .entry)) ⌝ }
 {
-    let mut i: usize = 0;
-    while i < STATES {
-        ends[i] = starts[i + 1];
-        i += 1;
+    let mut v: usize = 0;
+    while v < STATES {
+        ends[v] = starts[v + 1];
+        v += 1;
     }
 }
 

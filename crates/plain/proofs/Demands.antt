@@ -3,12 +3,12 @@ use mathlib.Core.Path.{_≡_, refl, sym, ap, _∙_}
 use mathlib.Core.Logic.{_≢_, _⊎_, inl, inr, ⊎-elim}
 use mathlib.Core.Bool.{true, false}
 use mathlib.Core.List.{List, [], _∷_, _++_, reverse, reverse-append}
-use Prim.Native.Nat.{ℕ, zero, suc, _+_, _*_, _-_, _≤_, _<_}
+use Prim.Native.Nat.{ℕ, _+_, _*_, _-_, _≤_, _<_}
 use native.Mathlib.Omega.{arith}
 use lib.Dec.{eqb}
 use lib.ListN.{length, take, length-append, length-reverse}
 use lib.Seq.{take-at, drop-at}
-use borrow.Author.Tests.{leb-false, eqb-false}
+use borrow.Author.Tests.{leb-false}
 use Rattle.plain.specs.Lists.{any, elem, In, Once}
 use Rattle.plain.specs.Search.{Graph, Edge, Config, discoveredOf, probesOf, taken, count, meets, run, Verdict, none, lasso, unfinished, verdict}
 use Rattle.plain.specs.Cycles.{FreeRound, Lasso}
@@ -18,7 +18,7 @@ use Rattle.plain.specs.Unexplored.{Shared, bare}
 use Rattle.plain.specs.Machine.{Update, applied, namedBy, keepsAll, keptPart, kept, Call, trialOf}
 use Rattle.plain.specs.Notes.{Notes, notes, Faithful}
 use Rattle.plain.specs.Claims.{Arises, times, VerdictRight, clear, round, reportOf, ReportRight, KeptRight}
-use Rattle.plain.proofs.Tests.{contra, either, not-in, in-nil, in-head, in-tail, in-cases, or-first, one-le, none-cons, any-in}
+use Rattle.plain.proofs.Tests.{contra, either, not-in, in-head, one-le, none-cons, any-in}
 use Rattle.plain.proofs.Upto.{upto, upto-in, once-upto, length-upto}
 use Rattle.plain.proofs.Runs.{lasso-free, lasso-inside}
 use Rattle.plain.proofs.Lassos.{sound, none-right}

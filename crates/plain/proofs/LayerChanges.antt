@@ -1,14 +1,14 @@
 -- A change at some states of a game changes its layers at the copies of those states alone. Assumes nothing.
 use mathlib.Core.Path.{_≡_, ap, _∙_}
-use mathlib.Core.Bool.{Bool, true, false, _&&_}
+use mathlib.Core.Bool.{Bool, false, _&&_}
 use mathlib.Core.List.{List, map}
 use Prim.Native.Nat.{ℕ, _-_, _<_}
 use native.Mathlib.Omega.{arith}
 use lib.Dec.{eqb}
-use Rattle.plain.specs.Lists.{elem, In}
+use Rattle.plain.specs.Lists.{elem}
 use Rattle.plain.specs.Search.{Graph}
 use Rattle.plain.specs.Cycles.{Kinded}
-use Rattle.plain.specs.Layers.{copy, copies, copiesOf, landing, stateAt, layerAt, layers}
+use Rattle.plain.specs.Layers.{copy, copiesOf, landing, stateAt, layerAt, layers}
 use Rattle.plain.proofs.Tests.{contra, not-in}
 use Rattle.plain.proofs.Prefix.{Agree}
 use Rattle.plain.proofs.Copies.{copy-back, layer-most, copy-among, copies-among}

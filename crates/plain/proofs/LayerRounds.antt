@@ -9,7 +9,7 @@ use lib.Dec.{eqb}
 use lib.ListN.{length}
 use Rattle.plain.specs.Lists.{elem, In, Once}
 use Rattle.plain.specs.Cycles.{Run, FreeRound, Kinded, PassesAll, FullRound}
-use Rattle.plain.specs.Layers.{copy, lands, stateAt, layerAt, layers}
+use Rattle.plain.specs.Layers.{lands, stateAt, layerAt, layers}
 use Rattle.plain.proofs.Tests.{either, same, and-true, in-nil, in-head, in-tail, in-cases, in-right}
 use Rattle.plain.proofs.Upto.{upto, upto-in, length-upto}
 use Rattle.plain.proofs.Runs.{run-join, run-split}

@@ -1,7 +1,6 @@
 -- The layers of a game of N states have K·N states and K times the moves. Assumes nothing.
 use mathlib.Core.Path.{_≡_, refl, sym, ap, _∙_}
 use mathlib.Core.Logic.{⊎-elim}
-use mathlib.Core.Bool.{Bool, true, false}
 use mathlib.Core.List.{List, [], _∷_, _++_, map}
 use Prim.Native.Nat.{ℕ, zero, suc, _+_, _*_, _-_, _≤_, _<_}
 use native.Mathlib.Omega.{arith}
@@ -10,14 +9,13 @@ use lib.Dec.{ltb}
 use lib.ListN.{length, length-map}
 use borrow.Author.Tests.{ltb-true, ltb-false}
 use Rattle.plain.specs.Lists.{elem, In, Once}
-use Rattle.plain.specs.Search.{Graph}
 use Rattle.plain.specs.Cycles.{Kinded}
-use Rattle.plain.specs.Layers.{copy, stateOf, lands, rowIn, stateAt, layerAt, layers}
+use Rattle.plain.specs.Layers.{copy, stateOf, lands, stateAt, layerAt, layers}
 use Rattle.plain.proofs.Tests.{either, not-in, in-head, in-tail, in-out}
 use Rattle.plain.proofs.Upto.{upto, upto-in, in-upto}
 use Rattle.plain.proofs.Bounds.{left}
-use Rattle.plain.proofs.Copies.{state-one, state-below, state-beyond, copy-first, layer-most}
-use Rattle.plain.proofs.Lifting.{Inside, in-map, lands-below, row-at, copyAt}
+use Rattle.plain.proofs.Copies.{state-one, state-below, state-beyond, layer-most}
+use Rattle.plain.proofs.Lifting.{Inside, in-map, lands-below, row-at}
 
 -- ---- numbers
 

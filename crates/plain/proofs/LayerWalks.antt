@@ -6,7 +6,7 @@ use Prim.Native.Nat.{ℕ, _<_}
 use Rattle.plain.specs.Lists.{elem, In}
 use Rattle.plain.specs.Search.{Graph}
 use Rattle.plain.specs.Cycles.{Run, Lasso, Kinded, PassesAll, FullLasso}
-use Rattle.plain.specs.Layers.{copy, stateAt, layers}
+use Rattle.plain.specs.Layers.{stateAt, layers}
 use Rattle.plain.proofs.Tests.{in-head, in-tail, in-cases, in-append, in-left, in-right, in-one}
 use Rattle.plain.proofs.Lifting.{copyAt, Inside, layerAfter, lifted, state-at, after-below, run-below, lower, lifted-states}
 use Rattle.plain.proofs.LayerRounds.{closed, closed-passes}

@@ -2,7 +2,6 @@
 use mathlib.Core.Path.{_≡_, refl, sym, ap, subst, _∙_}
 use mathlib.Core.Logic.{⊎-elim}
 use mathlib.Core.Bool.{true, false}
-use mathlib.Core.List.{List}
 use Prim.Native.Nat.{ℕ, zero, suc, _+_, _-_, _≤_, _<_}
 use native.Mathlib.Nat.{add-zero, zero-add}
 use native.Mathlib.Omega.{arith}
@@ -91,11 +90,6 @@ module _ (g : Game) where
   pub made-on : {s x y : Core} → Made 0 s x → Advanced g x y → Made 0 s y
   made-on r a = let z = made-then r a in record { steps = suc (z .more); enough = omega arith; reached = z .reached }
 
-  pub made-some : {s x : Core} {least : ℕ} → 0 < least → Deep (x .walker) → Made least s x → Advanced g s x
-  made-some {s = s} h d r =
-      let less : r .steps ≡ suc (r .steps - 1) = omega (arith, r .enough) in
-      record { more = r .steps - 1; reached = r .reached ∙ ap (λ (n : ℕ). runFor g n s) less; deep = d }
-
   -- at least as many steps as phases were asked for: where the search is over by then, further ones do nothing
   ran : (s x : Core) (phases : ℕ) → Made phases s x → Ran g phases s (result x)
   ran s x phases r = record {
@@ -153,7 +147,7 @@ module _ (g : Game) (s : Core) where
   standing-next n = same-core _ _ refl refl refl refl refl refl refl refl (raised-up n (s .spent) ∙ sym (raised-next n (s .spent)))
       (same-walker _ _ refl refl (omega arith) refl refl refl refl refl)
 
-pub outer-run : (g : Game) (n : ℕ) (s : Core) → s .walker .phase ≡ Outer → (s .walker .height ≡ 0 → ⊥) → Skips (rowOf g (s .walker .cur)) (s .number) (s .walker .next) n
+outer-run : (g : Game) (n : ℕ) (s : Core) → s .walker .phase ≡ Outer → (s .walker .height ≡ 0 → ⊥) → Skips (rowOf g (s .walker .cur)) (s .number) (s .walker .next) n
     → runFor g n s ≡ standing s (s .walker .next + n) (raised n (s .spent))
 outer-run g zero s p high h = run-none g s ∙ sym (standing-here s)
 outer-run g (suc n) s p high h =
@@ -161,7 +155,7 @@ outer-run g (suc n) s p high h =
     run-first g n s ∙ ap (runFor g n) (sym (outer-skips g s refl refl (w .0) high (w .1) ∙ step-at g s Outer p))
     ∙ outer-run g n (passing g s) p high (skips-later (rowOf g (s .walker .cur)) (s .number) (s .walker .next) n h) ∙ standing-next g s n
 
-pub nested-run : (g : Game) (n : ℕ) (s : Core) → s .walker .phase ≡ Nested → s .walker .height ≤ s .walker .top → Skips (rowOf g (s .walker .cur)) (s .stamp) (s .walker .next) n
+nested-run : (g : Game) (n : ℕ) (s : Core) → s .walker .phase ≡ Nested → s .walker .height ≤ s .walker .top → Skips (rowOf g (s .walker .cur)) (s .stamp) (s .walker .next) n
     → runFor g n s ≡ standing s (s .walker .next + n) (raised n (s .spent))
 nested-run g zero s p above h = run-none g s ∙ sym (standing-here s)
 nested-run g (suc n) s p above h =

@@ -1,19 +1,19 @@
 -- That the steps of a phase come to an end on any arrays: each turn numbers a state, or takes one off a path. Assumes nothing.
-use mathlib.Core.Path.{_≡_, refl, sym, ap, subst, _∙_}
+use mathlib.Core.Path.{_≡_, refl, sym, ap, subst}
 use mathlib.Core.Logic.{_⊎_, inl, inr, ⊎-elim}
 use mathlib.Core.Bool.{Bool, true, false, cond}
 use mathlib.Core.List.{List, [], _∷_}
-use Prim.Native.Nat.{ℕ, zero, suc, _+_, _*_, _-_, _≤_, _<_}
+use Prim.Native.Nat.{ℕ, zero, suc, _-_, _≤_, _<_}
 use native.Mathlib.Omega.{arith}
 use lib.Dec.{eqb, leb}
 use lib.ListN.{length, getD, set}
 use borrow.Author.Tests.{eqb-true, eqb-false, eq-eqb, ne-eqb, leb-false}
 use Rattle.plain.proofs.Tests.{either}
-use Rattle.look.specs.Numbers.{noNumber, up, further}
+use Rattle.look.specs.Numbers.{noNumber, up}
 use Rattle.look.proofs.Counting.{up-more, up-most, further-most}
 use Rattle.search.specs.declared.Phase.the-variants.{Outer, Nested, Exhausted, Found}
 use Rattle.search.specs.declared.Walker.{Walker}
-use Rattle.search.specs.Core.{Core, placed, left, nesting, finished, returned, exhausted, closed, withWalker, discover, deepen, leaveRoot, goBack, blanks, Roomy, outerWeight, nestedWeight, OuterTurn, NestedTurn}
+use Rattle.search.specs.Core.{Core, placed, left, nesting, finished, returned, exhausted, closed, withWalker, discover, deepen, leaveRoot, goBack, blanks, Roomy, OuterTurn, NestedTurn}
 
 -- ---- entries without a number
 
@@ -37,13 +37,8 @@ blanks-most (x ∷ xs) = by-test (eqb x noNumber) (blanks-most xs)
     by-test true h = omega arith
     by-test false h = omega arith
 
--- such an entry stands in the list, and is one fewer once it has a number
-pub blank-within : (xs : List ℕ) (t : ℕ) → getD xs t 0 ≡ noNumber → t < length xs
-blank-within [] t e = absurd (omega arith)
-blank-within (x ∷ xs) zero e = omega arith
-blank-within (x ∷ xs) (suc t) e = omega (arith, blank-within xs t e)
-
-pub blank-filled : (xs : List ℕ) (t y : ℕ) → getD xs t 0 ≡ noNumber → (y ≡ noNumber → ⊥) → suc (blanks (set xs t y)) ≡ blanks xs
+-- such an entry is one fewer once it has a number
+blank-filled : (xs : List ℕ) (t y : ℕ) → getD xs t 0 ≡ noNumber → (y ≡ noNumber → ⊥) → suc (blanks (set xs t y)) ≡ blanks xs
 blank-filled [] t y e n = absurd (omega arith)
 blank-filled (x ∷ xs) zero y e n = omega (arith, blank-head x xs e, no-blank-head y xs n)
 blank-filled (x ∷ xs) (suc t) y e n = ⊎-elim

@@ -1,8 +1,8 @@
 -- `lay_ends` meets its contract: the first i entries are the starts behind. Assumes nothing.
-use mathlib.Core.Path.{_≡_, sym, ap, _∙_}
+use mathlib.Core.Path.{_≡_, sym, _∙_}
 use mathlib.Core.Logic.{⊎-elim}
 use mathlib.Core.List.{List}
-use Prim.Native.Nat.{ℕ, suc, _+_, _-_, _≤_, _<_}
+use Prim.Native.Nat.{ℕ, _+_, _-_, _≤_, _<_}
 use native.Mathlib.Omega.{arith}
 use denote.Ref.{now}
 use lib.Dec.{eqb}
@@ -40,10 +40,10 @@ laid-all starts ends i h r =
     (λ j l. r .laid j (omega (arith, r .size)) ∙ sym (entries-at 512 1 starts j (omega (arith, r .size))))
 
 abbrev Inv-loop : tie.InvT-loop
-Inv-loop starts ends₀ i₀ ends i = Laid starts ends i
+Inv-loop starts ends₀ v₀ ends v = Laid starts ends v
 
 abbrev μ-loop : tie.MeasureT-loop
-μ-loop starts ends₀ i₀ ends i = 512 - i
+μ-loop starts ends₀ v₀ ends v = 512 - v
 
 loop-holds : tie.Need-loop-holds Inv-loop μ-loop
 loop-holds c = record { within = omega arith; size = c .pre .1; laid = λ j l. absurd (omega arith) }
@@ -63,17 +63,17 @@ mul-ends-2 c = search needs
 element-write-ends : tie.Need-element-write-ends Inv-loop μ-loop
 element-write-ends c = search needs
 
-add-i : tie.Need-add-i Inv-loop μ-loop
-add-i c = search needs
+add-v : tie.Need-add-v Inv-loop μ-loop
+add-v c = search needs
 
 loop-less : tie.Need-loop-less Inv-loop μ-loop
 loop-less c = search needs
 
 loop-again : tie.Need-loop-again Inv-loop μ-loop
-loop-again c = let h = c .before .before in laid-more (now (h .before .args .starts)) (h .loop .ends) (h .loop .i) (c .before .loop-test .taken) (h .loop .inv)
+loop-again c = let h = c .before .before in laid-more (now (h .before .args .starts)) (h .loop .ends) (h .loop .v) (c .before .loop-test .taken) (h .loop .inv)
 
 returns : tie.Need-returns Inv-loop μ-loop
-returns c = let h = c .before in laid-all (now (h .before .args .starts)) (h .loop .ends) (h .loop .i) (c .loop-test .left) (h .loop .inv)
+returns c = let h = c .before in laid-all (now (h .before .args .starts)) (h .loop .ends) (h .loop .v) (c .loop-test .left) (h .loop .inv)
 
 pub lay-ends-spec : {M : Type 1} → statement M
 lay-ends-spec =
@@ -87,7 +87,7 @@ lay-ends-spec =
     element-copy-out-ends
     mul-ends-2
     element-write-ends
-    add-i
+    add-v
     loop-less
     loop-again
     returns)
