@@ -6,7 +6,7 @@ use Prim.Native.Nat.{ℕ}
 use native.Mathlib.Omega.{arith}
 use Rattle.plain.specs.Lists.{elem}
 use Rattle.plain.specs.Search.{Verdict, none, lasso, unfinished, verdict, count}
-use Rattle.plain.specs.Table.{Table, final}
+use Rattle.plain.specs.Table.{Table, printedVerdict, final}
 use Rattle.plain.specs.Refusals.{Trial, accepted, refused, firstHeld, beyond, Load, loadTrial}
 use Rattle.plain.specs.Machine.{answer, Update, applied, tableOf, loadAnswer, updateAnswer, Call, trialOf, answerTo, tableAfter, Line, gameLine, answerLine}
 use Rattle.plain.specs.Questions.{Question, ways, questionTrial, questionReply, replyTo, replyLine}
@@ -42,7 +42,7 @@ pub load-told : (load : Load) (room : ℕ) (l : Line) → loadTrial load room �
 unfolding loadAnswer
 load-told load room l a e =
     let t = tableOf load in
-    verdict-told t (verdict (final t)) (count (final t)) 0 l (report-right t (loaded load room a)) e
+    verdict-told t (printedVerdict t (verdict (final t))) (count (final t)) 0 l (report-right t (loaded load room a)) e
 
 -- of every call on a table that a session can hold
 pub record Told (c : Call) (t : Table) (l : Line) : Type 0 where
@@ -61,8 +61,8 @@ call-told c t l a e = by-trial (trialOf c t) refl e
         let t′ = applied (c .update) t in
         let b = update-arises (c .update) t (c .room) a k in
         record {
-          truth = rw k (verdict-told t′ (verdict (final t′)) _ _ l (report-right t′ b) f);
-          counts = counts-told (c .update) t (verdict (final t′)) _ _ l (demand-3-kept c t a k) f;
+          truth = rw k (verdict-told t′ (printedVerdict t′ (verdict (final t′))) _ _ l (report-right t′ b) f);
+          counts = counts-told (c .update) t (printedVerdict t′ (verdict (final t′))) _ _ l (demand-3-kept c t a k) f;
         }
     by-trial (refused n) k f = record {
       truth = subst (λ (x : Line). LineTrue x (tableAfter c t)) (ap first-line f) (never-7 n k);

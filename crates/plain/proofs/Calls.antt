@@ -4,7 +4,7 @@ use mathlib.Core.List.{List, [], _∷_, _++_, map}
 use Prim.Native.Nat.{ℕ, _+_, _-_}
 use native.Mathlib.Omega.{arith}
 use Rattle.plain.specs.Search.{verdict, count}
-use Rattle.plain.specs.Table.{Table, final}
+use Rattle.plain.specs.Table.{Table, printedVerdict, final}
 use Rattle.plain.specs.Refusals.{Trial, accepted, refused}
 use Rattle.plain.specs.Machine.{Change, apply, changeTrial, applyAll, Update, single, batch, changesOf, applied, updateTrial, positionIn, kept, Answer, refusal, answer, loadAnswer, after, Call, callFor, trialOf, updateAnswer, answerTo, tableAfter, answers}
 use Rattle.plain.specs.Claims.{Arises, AllAccepted, totalled, Reports, tableBehind, lastOf}
@@ -16,7 +16,7 @@ use Rattle.plain.proofs.Demands.{demand-3-kept}
 
 -- what an accepted call answers and leaves
 pub answer-accepted : (c : Call) (t : Table) → trialOf c t ≡ accepted
-    → answerTo c t ≡ answer (verdict (final (applied (c .update) t))) (count (final (applied (c .update) t)) - kept (c .update) t) (kept (c .update) t)
+    → answerTo c t ≡ answer (printedVerdict (applied (c .update) t) (verdict (final (applied (c .update) t)))) (count (final (applied (c .update) t)) - kept (c .update) t) (kept (c .update) t)
 unfolding answerTo updateAnswer
 answer-accepted c t e = ap (λ (x : Trial). updateAnswer x c t) e
 
@@ -36,7 +36,7 @@ table-refused c t n e = ap (λ (x : Trial). after x (applied (c .update) t) t) e
 -- an accepted call's answer tells the table that it leaves
 call-reports : (c : Call) (t : Table) → Arises t → trialOf c t ≡ accepted → Reports (answerTo c t) (applied (c .update) t)
 unfolding totalled loadAnswer
-call-reports c t a e = ap totalled (answer-accepted c t e) ∙ ap (λ (n : ℕ). answer (verdict (final (applied (c .update) t))) n 0) (demand-3-kept c t a e .adds-up)
+call-reports c t a e = ap totalled (answer-accepted c t e) ∙ ap (λ (n : ℕ). answer (printedVerdict (applied (c .update) t) (verdict (final (applied (c .update) t)))) n 0) (demand-3-kept c t a e .adds-up)
 
 -- a call that makes one change is accepted where the change is
 pub single-trial : (room : ℕ) (c : Change) (t : Table) → trialOf (callFor room c) t ≡ changeTrial c t room
@@ -84,7 +84,7 @@ last-told (c ∷ cs) t a h before w = last-told cs (tableAfter c t) (after-arise
 -- a load's answer tells its table
 pub fresh-reports : (t : Table) → Reports (loadAnswer accepted t) t
 unfolding totalled loadAnswer
-fresh-reports t = ap (λ (n : ℕ). answer (verdict (final t)) n 0) (omega arith)
+fresh-reports t = ap (λ (n : ℕ). answer (printedVerdict t (verdict (final t))) n 0) (omega arith)
 
 -- ---- calls that make one change each
 

@@ -1,16 +1,16 @@
 -- The numbers of the layers: copies, and the states and layers that they tell. Assumes nothing.
-use mathlib.Core.Path.{_≡_, refl, ap, _∙_}
+use mathlib.Core.Path.{_≡_, refl, sym, ap, _∙_}
 use mathlib.Core.Logic.{_≢_, ⊎-elim}
 use mathlib.Core.Bool.{Bool, true, false}
-use mathlib.Core.List.{List, [], _∷_}
+use mathlib.Core.List.{List, [], _∷_, _++_, append-assoc}
 use Prim.Native.Nat.{ℕ, zero, suc, _+_, _-_, _≤_, _<_}
 use native.Mathlib.Omega.{arith}
 use native.Mathlib.Nat.{zero-mul, suc-mul}
 use lib.Dec.{eqb, ltb}
 use borrow.Author.Tests.{lt-ltb, le-ltb, ltb-false, eqb-false, eq-eqb}
-use Rattle.plain.specs.Lists.{In}
+use Rattle.plain.specs.Lists.{elem, In}
 use Rattle.plain.specs.Layers.{copy, stateOf, layerOf, copies, copiesOf, next, landing}
-use Rattle.plain.proofs.Tests.{either, same, in-nil, in-head, in-tail, in-cases, in-left, in-right}
+use Rattle.plain.proofs.Tests.{either, same, in-nil, in-one, in-head, in-tail, in-cases, in-append, in-left, in-right}
 
 pub copy-first : (n s : ℕ) → copy n 0 s ≡ s
 unfolding copy
@@ -82,19 +82,44 @@ layer-most n (suc m) v = ⊎-elim (λ e. omega (arith, layer-below n m v e)) (λ
 
 -- ---- the copies of some states
 
-pub copy-among : (n k l s : ℕ) → l < k → In (copy n l s) (copies n k s)
+pub copy-among : (n m l s : ℕ) → l ≤ m → In (copy n l s) (copies n m s)
 unfolding copies
-copy-among n zero l s h = absurd (omega arith)
-copy-among n (suc k) l s h = ⊎-elim
-    (λ e. let z : l ≡ k = same e in rw z (in-head (copy n k s) (copies n k s)))
-    (λ e. let z : l ≢ k = eqb-false l k e in in-tail (copy n l s) (copy n k s) (copies n k s) (copy-among n k l s (omega arith))) (either (eqb l k))
+copy-among n zero l s h = let z : l ≡ 0 = omega arith in rw z (in-head (copy n 0 s) [])
+copy-among n (suc m) l s h = ⊎-elim
+    (λ e. let z : l ≡ suc m = same e in rw z (in-head (copy n (suc m) s) (copies n m s)))
+    (λ e. let z : l ≢ suc m = eqb-false l (suc m) e in in-tail (copy n l s) (copy n (suc m) s) (copies n m s) (copy-among n m l s (omega arith))) (either (eqb l (suc m)))
 
-pub copies-among : (n k : ℕ) (named : List ℕ) (s v : ℕ) → In s named → In v (copies n k s) → In v (copiesOf n k named)
+-- and no other number is among the copies of a state below n
+pub among-copies : (n m s v : ℕ) → In v (copies n m s) → (l : ℕ) × (l ≤ m) × (v ≡ copy n l s)
+unfolding copies
+among-copies n zero s v i = (0, omega arith, in-one v (copy n 0 s) i)
+among-copies n (suc m) s v i = ⊎-elim
+    (λ e. (suc m, omega arith, e))
+    (λ j. let r = among-copies n m s v j in (r .0, omega (arith, r .1), r .2)) (in-cases v (copy n (suc m) s) (copies n m s) i)
+
+pub copies-among : (n m : ℕ) (named : List ℕ) (s v : ℕ) → In s named → In v (copies n m s) → In v (copiesOf n m named)
 unfolding copiesOf
-copies-among n k [] s v i j = absurd (in-nil s i)
-copies-among n k (x ∷ named) s v i j = ⊎-elim
-    (λ e. in-left v (copies n k x) (copiesOf n k named) (rw e at j))
-    (λ m. in-right v (copies n k x) (copiesOf n k named) (copies-among n k named s v m j)) (in-cases s x named i)
+copies-among n m [] s v i j = absurd (in-nil s i)
+copies-among n m (x ∷ named) s v i j = ⊎-elim
+    (λ e. in-left v (copies n m x) (copiesOf n m named) (rw e at j))
+    (λ k. in-right v (copies n m x) (copiesOf n m named) (copies-among n m named s v k j)) (in-cases s x named i)
+
+-- each of them is a copy of one of the states
+pub among-all : (n m : ℕ) (named : List ℕ) (v : ℕ) → In v (copiesOf n m named) → (s : ℕ) × In s named × In v (copies n m s)
+unfolding copiesOf
+among-all n m [] v i = absurd (in-nil v i)
+among-all n m (x ∷ named) v i = ⊎-elim
+    (λ j. (x, in-head x named, j))
+    (λ j. let r = among-all n m named v j in (r .0, in-tail (r .0) x named (r .1), r .2)) (in-append v (copies n m x) (copiesOf n m named) i)
+
+pub copies-join : (n m : ℕ) (xs ys : List ℕ) → copiesOf n m (xs ++ ys) ≡ copiesOf n m xs ++ copiesOf n m ys
+unfolding copiesOf
+copies-join n m [] ys = refl
+copies-join n m (x ∷ xs) ys = ap (λ zs. copies n m x ++ zs) (copies-join n m xs ys) ∙ sym (append-assoc (copies n m x) (copiesOf n m xs) (copiesOf n m ys))
+
+-- a number is a copy of its state
+pub own-copy : (n m v : ℕ) → In v (copies n m (stateOf n m v))
+own-copy n m v = ap (λ (x : ℕ). elem x (copies n m (stateOf n m v))) (sym (copy-back n m v)) ∙ copy-among n m (layerOf n m v) (stateOf n m v) (layer-most n m v)
 
 -- ---- the next layer
 

@@ -2,24 +2,30 @@
 use mathlib.Core.Path.{_≡_, refl, sym, ap, _∙_}
 use mathlib.Core.Logic.{_≢_, _⊎_, inl, inr, ⊎-elim}
 use mathlib.Core.Bool.{true, false}
-use mathlib.Core.List.{List, [], _∷_, _++_, reverse, reverse-append}
+use mathlib.Core.List.{List, [], _∷_, _++_, map, reverse, reverse-append}
 use Prim.Native.Nat.{ℕ, _+_, _*_, _-_, _≤_, _<_}
+use native.Mathlib.Nat.{mul-comm}
 use native.Mathlib.Omega.{arith}
 use lib.Dec.{eqb}
 use lib.ListN.{length, take, length-append, length-reverse}
 use lib.Seq.{take-at, drop-at}
 use borrow.Author.Tests.{leb-false}
 use Rattle.plain.specs.Lists.{any, elem, In, Once}
-use Rattle.plain.specs.Search.{Graph, Edge, Config, discoveredOf, probesOf, taken, count, meets, run, Verdict, none, lasso, unfinished, verdict}
-use Rattle.plain.specs.Cycles.{FreeRound, Lasso}
-use Rattle.plain.specs.Table.{Table, one, row, graphOf, searched, budget, final, firstMeeting}
+use Rattle.plain.specs.Search.{Graph, Edge, Config, discoveredOf, probesOf, taken, count, meets, begin, run, until, Verdict, none, lasso, unfinished, verdict}
+use Rattle.plain.specs.Cycles.{Lasso, FullRound}
+use Rattle.plain.specs.Layers.{stateOf}
+use Rattle.plain.specs.Table.{Table, one, row, gameOf, searched, copiesIn, printed, printedVerdict, budget, final, firstMeeting}
 use Rattle.plain.specs.Refusals.{badStart, outside, accepted}
 use Rattle.plain.specs.Unexplored.{Shared, bare}
-use Rattle.plain.specs.Machine.{Update, applied, namedBy, keepsAll, keptPart, kept, Call, trialOf}
+use Rattle.plain.specs.Machine.{Update, changesOf, applied, namedBy, keepsAll, keptPart, kept, Call, trialOf}
 use Rattle.plain.specs.Notes.{Notes, notes, Faithful}
 use Rattle.plain.specs.Claims.{Arises, times, VerdictRight, clear, round, reportOf, ReportRight, KeptRight}
 use Rattle.plain.proofs.Tests.{contra, either, not-in, in-head, one-le, none-cons, any-in}
-use Rattle.plain.proofs.Upto.{upto, upto-in, once-upto, length-upto}
+use Rattle.plain.proofs.Upto.{upto, once-upto, length-upto}
+use Rattle.plain.proofs.Lifting.{Inside}
+use Rattle.plain.proofs.LayerRounds.{layers-game, game-layers}
+use Rattle.plain.proofs.LayerWalks.{plain-walk}
+use Rattle.plain.proofs.LayerSizes.{allStates, start-among, stays-among, moves-layers}
 use Rattle.plain.proofs.Runs.{lasso-free, lasso-inside}
 use Rattle.plain.proofs.Lassos.{sound, none-right}
 use Rattle.plain.proofs.Bounds.{left, left-add, left-const, left-alone, once-short, times-reverse, probes-twice, each-twice, ended-by}
@@ -30,7 +36,7 @@ use Rattle.plain.proofs.Rows.{row-nil, row-length, row-has}
 use Rattle.plain.proofs.Tables.{Valid, valid, inside-both}
 use Rattle.plain.proofs.SameRun.{shared-unmet, same-run, same-faithful, alike-discovered, alike-probes, alike-verdict}
 use Rattle.plain.proofs.Unexplored.{rows-once}
-use Rattle.plain.proofs.Batches.{update-valid, update-agree, keeps-shared}
+use Rattle.plain.proofs.Batches.{AllWithin, all-within, update-made, update-valid, update-size, update-kinds, update-copies, update-agree, keeps-shared}
 
 -- ---- the rows of different states hold at most the edges of the table
 
@@ -58,39 +64,38 @@ has-inside n (x ∷ es) e f h =
     let w = none-cons (outside n) x es f in
     ⊎-elim (λ z. rw z (w .0)) (has-inside n es e (w .1)) (has-cases e x es h)
 
--- ---- the graph that is searched, and the game. Today they are one: these facts, and `agree` of Rows.antt, are all that is made of it.
+-- ---- the layers of a table's game
 
--- a walk of the graph is one of the game
-lasso-game : (t : Table) (stem cycle : List ℕ) → Lasso (searched t) stem cycle → Lasso (graphOf t) stem cycle
-lasso-game t stem cycle w = w
-
--- a free round of the game is one of the graph
-free-searched : (t : Table) → FreeRound (graphOf t) → FreeRound (searched t)
-free-searched t f = f
-
--- the states of the graph
-abbrev states : Table → List ℕ
-states t = upto (t .size)
+-- the states of the graph that is searched
+abbrev pub states : Table → List ℕ
+states t = allStates (gameOf t)
 
 states-once : (t : Table) → Once (states t)
-states-once t = once-upto (t .size)
+states-once t = once-upto (t .kinds * t .size)
 
-states-count : (t : Table) → length (states t) ≡ t .size
-states-count t = length-upto (t .size)
+pub states-count : (t : Table) → length (states t) ≡ t .kinds * t .size
+states-count t = length-upto (t .kinds * t .size)
 
 module _ (t : Table) (v : Valid t) where
-  pub start-in : In (searched t .start) (states t)
-  unfolding badStart
-  start-in = upto-in (t .start) (t .size) (leb-false (t .size) (t .start) (v .start-ok))
-
   pub target-below : (x y : ℕ) → In y (row (t .edges) x) → y < t .size
   target-below x y j = inside-both (t .size) (x, y) (has-inside (t .size) (t .edges) (x, y) (v .inside) (row-has (t .edges) x y j)) .1
 
-  pub target-in : (x y : ℕ) → In x (states t) → In y (searched t .successors x) → In y (states t)
-  target-in x y i j = upto-in y (t .size) (target-below x y j)
+  pub source-below : (x y : ℕ) → In y (row (t .edges) x) → x < t .size
+  source-below x y j = inside-both (t .size) (x, y) (has-inside (t .size) (t .edges) (x, y) (v .inside) (row-has (t .edges) x y j)) .0
 
-  edges-few : left (λ x. length (searched t .successors x)) [] (states t) ≤ length (t .edges)
-  edges-few = total-le (t .edges) (states t) (states-once t)
+  -- the game has its start state, and its moves stay among its states
+  pub inside-game : Inside (gameOf t)
+  unfolding badStart
+  inside-game = record { some = v .some-kind; begins = leb-false (t .size) (t .start) (v .start-ok); stays = λ x y b j. target-below x y j }
+
+  pub start-in : In (searched t .start) (states t)
+  start-in = start-among (gameOf t) inside-game
+
+  pub target-in : (x y : ℕ) → In x (states t) → In y (searched t .successors x) → In y (states t)
+  target-in x y i j = stays-among (gameOf t) inside-game x y i j
+
+  pub edges-few : left (λ x. length (searched t .successors x)) [] (states t) ≤ t .kinds * length (t .edges)
+  edges-few = moves-layers (gameOf t) inside-game (length (t .edges)) (total-le (t .edges) (upto (t .size)) (once-upto (t .size)))
 
 -- ---- demand 2
 
@@ -104,9 +109,9 @@ module _ (t : Table) (v : Valid t) where
   unfolding final
   ends = ended-within (budget t) (omega arith)
 
-  looks-few : count (final t) ≤ 2 * length (t .edges)
+  looks-few : count (final t) ≤ 2 * (length (t .edges) * t .kinds)
   unfolding final
-  looks-few = omega (arith, probes-twice (searched t) (states t) (start-in t v) (target-in t v) (budget t), edges-few t v)
+  looks-few = omega (arith, probes-twice (searched t) (states t) (start-in t v) (target-in t v) (budget t), edges-few t v, mul-comm (t .kinds) (length (t .edges)))
 
   each-few : (e : Edge) → times e (taken (final t)) ≤ 2
   unfolding final taken
@@ -120,31 +125,33 @@ module _ (t : Table) (v : Valid t) where
   unfolding final
   walk-right stem cycle e = sound (searched t) (budget t) stem cycle e
 
-  walk-short : (stem cycle : List ℕ) → verdict (final t) ≡ lasso stem cycle → length stem + length cycle ≤ t .size
+  walk-short : (stem cycle : List ℕ) → verdict (final t) ≡ lasso stem cycle → length stem + length cycle ≤ t .size * t .kinds
   walk-short stem cycle e =
       let w = walk-right stem cycle e in
       omega (
         arith,
         length-append stem cycle,
         states-count t,
+        mul-comm (t .kinds) (t .size),
         once-short (stem ++ cycle) (states t) (w .once) (lasso-inside (searched t) (states t) (target-in t v) (start-in t v) stem cycle w),
       )
 
-  none-when : (FreeRound (graphOf t) → ⊥) → verdict (final t) ≡ none
+  none-when : (FullRound (gameOf t) → ⊥) → verdict (final t) ≡ none
   none-when n = by-verdict (verdict (final t)) refl
     where
       by-verdict : (w : Verdict) → verdict (final t) ≡ w → w ≡ none
       by-verdict none e = refl
-      by-verdict (lasso stem cycle) e = absurd (n (lasso-free (graphOf t) stem cycle (lasso-game t stem cycle (walk-right stem cycle e))))
+      by-verdict (lasso stem cycle) e = absurd (n (layers-game (gameOf t) (inside-game t v) (lasso-free (searched t) stem cycle (walk-right stem cycle e))))
       by-verdict unfinished e = absurd (ends e)
 
   pub verdict-right : VerdictRight t
-  unfolding final
+  unfolding final printed
   verdict-right = record {
     ends = ends;
-    none-only = λ e f. none-right (searched t) (budget t) e (free-searched t f);
+    none-only = λ e f. none-right (searched t) (budget t) e (game-layers (gameOf t) (inside-game t v) f);
     none-if = none-when;
-    walk = λ stem cycle e. lasso-game t stem cycle (walk-right stem cycle e);
+    walk = λ stem cycle e. plain-walk (gameOf t) (inside-game t v) stem cycle (walk-right stem cycle e);
+    once = λ stem cycle e. walk-right stem cycle e .once;
     short = walk-short;
     looks = looks-few;
     each = each-few;
@@ -159,14 +166,17 @@ parts : (stem cycle : List ℕ) (a b : ℕ) (walk : List ℕ) → round (length 
 parts stem cycle a b walk e = ((cc), (cc), (cc))
 
 -- and of the verdict as a caller gets it
-pub verdict-report : (t : Table) → VerdictRight t → ReportRight (reportOf (verdict (final t))) t
-unfolding reportOf
+pub verdict-report : (t : Table) → VerdictRight t → ReportRight (reportOf (printedVerdict t (verdict (final t)))) t
+unfolding reportOf printedVerdict
 verdict-report t r = by-verdict (verdict (final t)) refl
   where
     apart : (stem cycle : ℕ) (walk : List ℕ) → round stem cycle walk ≡ clear → ⊥
     apart stem cycle walk e = let z : _≡_ {A = ℕ} 0 1 = cc in omega arith
 
-    by-verdict : (w : Verdict) → verdict (final t) ≡ w → ReportRight (reportOf w) t
+    other-verdict : (stem cycle : List ℕ) → lasso stem cycle ≡ none → ⊥
+    other-verdict stem cycle e = let z : _≡_ {A = ℕ} 0 1 = cc in omega arith
+
+    by-verdict : (w : Verdict) → verdict (final t) ≡ w → ReportRight (reportOf (printedVerdict t w)) t
     by-verdict none e = record {
       clear-only = λ z f. r .none-only e f;
       clear-if = λ n. refl;
@@ -174,15 +184,15 @@ verdict-report t r = by-verdict (verdict (final t)) refl
       lasso-there = λ a b walk z. absurd (apart a b walk (sym z));
     }
     by-verdict (lasso stem cycle) e = record {
-      clear-only = λ z f. apart (length stem) (length cycle) (stem ++ cycle) z;
-      clear-if = λ n. let y : verdict (final t) ≡ none = r .none-if n in cc;
-      lengths = λ a b walk z. let k = parts stem cycle a b walk z in omega (arith, k, length-append stem cycle, ap length (k .2));
-      lasso-there = λ a b walk z. let k = parts stem cycle a b walk z in
-          rw (← k .2, take-at stem cycle a (k .0), drop-at stem cycle a (k .0)) (r .walk stem cycle e);
+      clear-only = λ z f. apart (length (printed t stem)) (length (printed t cycle)) (printed t stem ++ printed t cycle) z;
+      clear-if = λ n. absurd (other-verdict stem cycle (sym e ∙ r .none-if n));
+      lengths = λ a b walk z. let k = parts (printed t stem) (printed t cycle) a b walk z in omega (arith, k, length-append (printed t stem) (printed t cycle), ap length (k .2));
+      lasso-there = λ a b walk z. let k = parts (printed t stem) (printed t cycle) a b walk z in
+          rw (← k .2, take-at (printed t stem) (printed t cycle) a (k .0), drop-at (printed t stem) (printed t cycle) a (k .0)) (r .walk stem cycle e);
     }
     by-verdict unfinished e = absurd (r .ends e)
 
-pub report-right : (t : Table) → Arises t → ReportRight (reportOf (verdict (final t))) t
+pub report-right : (t : Table) → Arises t → ReportRight (reportOf (printedVerdict t (verdict (final t)))) t
 report-right t a = verdict-report t (demand-2 t a)
 
 -- ---- what a change keeps
@@ -191,6 +201,16 @@ report-right t a = verdict-report t (demand-2 t a)
 pub run-final : (t : Table) → Valid t → (n : ℕ) → verdict (run (searched t) n) ≢ unfinished → run (searched t) n ≡ final t
 unfolding final
 run-final t v n h = one-end (searched t) n (budget t) h (ends t v)
+
+-- a verdict is printed alike where there are as many states and kinds, so before and after a call
+pub printed-alike : (t u : Table) → t .size ≡ u .size → t .kinds ≡ u .kinds → (w : Verdict) → printedVerdict t w ≡ printedVerdict u w
+unfolding printedVerdict printed
+printed-alike t u p q none = refl
+printed-alike t u p q (lasso stem cycle) = λ i. lasso (map (stateOf (p i) (q i - 1)) stem) (map (stateOf (p i) (q i - 1)) cycle)
+printed-alike t u p q unfinished = refl
+
+same-printed : (u : Update) (t : Table) (w : Verdict) → printedVerdict (applied u t) w ≡ printedVerdict t w
+same-printed u t w = printed-alike (applied u t) t (update-size u t) (update-kinds u t) w
 
 -- which part of the new search is kept
 pub kept-all : (u : Update) (t : Table) → keepsAll u t ≡ true → keptPart u t ≡ final (applied u t)
@@ -201,12 +221,16 @@ pub kept-meeting : (u : Update) (t : Table) → keepsAll u t ≡ false → keptP
 unfolding keptPart
 kept-meeting u t k = rw (k, keptPart)
 
-module _ (u : Update) (t : Table) (v : Valid t) (v′ : Valid (applied u t)) (n : ℕ) (ended : verdict (run (searched t) n) ≢ unfinished) where
+module _ (u : Update) (t : Table) (v : Valid t) (v′ : Valid (applied u t)) (w : AllWithin (changesOf u) (t .size)) (n : ℕ) (ended : verdict (run (searched t) n) ≢ unfinished) where
   abbrev g : Graph
   g = searched t
 
   abbrev h : Graph
   h = searched (applied u t)
+
+  -- the copies of the states that the call names
+  abbrev pub namedCopies : List ℕ
+  namedCopies = copiesIn t (namedBy u)
 
   -- No named state has come past what its rows have in common: the search on the changed table is the one before, to its end, and the notes stay right; every
   -- look is kept.
@@ -219,51 +243,53 @@ module _ (u : Update) (t : Table) (v : Valid t) (v′ : Valid (applied u t)) (n 
 
   -- the search had not come to what is changed, or has met no named state
   abbrev pub Untouched : Type 0
-  Untouched = (keepsAll u t ≡ true) ⊎ (meets (namedBy u) (run g n) ≡ false)
+  Untouched = (keepsAll u t ≡ true) ⊎ (meets namedCopies (run g n) ≡ false)
 
-  untouched-shared : Untouched → (x : ℕ) → In x (namedBy u) → Shared g h (run g n) x
+  untouched-shared : Untouched → (x : ℕ) → In x namedCopies → Shared g h (run g n) x
   unfolding final
-  untouched-shared (inl k) x i = rw (run-final t v n ended) (keeps-shared u t v k x)
+  untouched-shared (inl k) x i = rw (run-final t v n ended) (keeps-shared u t v w k x)
   untouched-shared (inr f) x i =
-      shared-unmet g h (run g n) x (not-in x (discoveredOf (run g n)) (λ j. contra (any-in (λ s. elem s (discoveredOf (run g n))) x (namedBy u) i j) f))
+      shared-unmet g h (run g n) x (not-in x (discoveredOf (run g n)) (λ j. contra (any-in (λ s. elem s (discoveredOf (run g n))) x namedCopies i j) f))
 
   pub update-same : (r : Notes) → Untouched → Faithful g r n → Same r
   unfolding final firstMeeting
-  update-same r o w =
+  update-same r o held =
       let each = untouched-shared o in
-      let e : bare (run h n) ≡ bare (run g n) = same-run (namedBy u) g h (update-agree u t) n each n (omega arith) in
+      let e : bare (run h n) ≡ bare (run g n) = same-run namedCopies g h (update-agree u t) n each n (omega arith) in
       let ended′ : verdict (run h n) ≢ unfinished = rw (alike-verdict (run g n) (run h n) e) ended in
       let same : bare (final (applied u t)) ≡ bare (final t) = rw (← run-final (applied u t) v′ n ended′, ← run-final t v n ended) e in
       record {
         same-steps = e;
         still-ended = ended′;
-        holds = same-faithful (namedBy u) g h (update-agree u t) n each r w;
+        holds = same-faithful namedCopies g h (update-agree u t) n each r held;
         same-final = same;
-        all-kept = ⊎-elim (kept-all u t) (λ f. kept-meeting u t f ∙ until-end h (namedBy u) (budget (applied u t)) (unmet o f same)) (either (keepsAll u t));
+        all-kept = ⊎-elim (kept-all u t) (λ f. kept-meeting u t f ∙ until-end h (copiesIn (applied u t) (namedBy u)) (budget (applied u t)) (unmet o f same)) (either (keepsAll u t));
       }
     where
       -- where the search had come to what is changed, it has met no named state in the new search either
-      unmet : Untouched → keepsAll u t ≡ false → bare (final (applied u t)) ≡ bare (final t) → meets (namedBy u) (run h (budget (applied u t))) ≡ false
+      unmet : Untouched → keepsAll u t ≡ false → bare (final (applied u t)) ≡ bare (final t) → meets (copiesIn (applied u t) (namedBy u)) (run h (budget (applied u t))) ≡ false
       unmet (inl k) f same = absurd (contra k f)
       unmet (inr m) f same =
-          ap (λ (d : List ℕ). any (λ s. elem s d) (namedBy u)) (alike-discovered (final t) (final (applied u t)) same ∙ ap discoveredOf (sym (run-final t v n ended))) ∙ m
+          ap (λ (l : List ℕ). meets l (run h (budget (applied u t)))) (update-copies u t (namedBy u))
+          ∙ ap (λ (d : List ℕ). any (λ s. elem s d) namedCopies) (alike-discovered (final t) (final (applied u t)) same ∙ ap discoveredOf (sym (run-final t v n ended))) ∙ m
 
   -- A named state is met: the search on the changed table, at its first meeting, stands where the one before stood at its own, and the notes are right there.
   pub record Met (r : Notes) : Type 0 where
-    pub meeting : FirstMeeting (namedBy u) g h (update-agree u t) n
+    pub meeting : FirstMeeting namedCopies g h (update-agree u t) n
     pub holds : Faithful h r (meeting .at)
     pub kept-here : firstMeeting (namedBy u) (applied u t) ≡ run h (meeting .at)
 
-  pub update-met : (r : Notes) → meets (namedBy u) (run g n) ≡ true → Faithful g r n → Met r
+  pub update-met : (r : Notes) → meets namedCopies (run g n) ≡ true → Faithful g r n → Met r
   unfolding final firstMeeting
   update-met r m held =
-      let f = first-meeting (namedBy u) g h (update-agree u t) n m in
-      let w = f .meeting in
-      let k : meets (namedBy u) (run h (f .at)) ≡ true = rw (w .there) (any-in (λ s. elem s (w .state ∷ w .earlier)) (w .state) (namedBy u) (w .is-named) (in-head (w .state) (w .earlier))) in
+      let f = first-meeting namedCopies g h (update-agree u t) n m in
+      let q = f .meeting in
+      let k : meets namedCopies (run h (f .at)) ≡ true = rw (q .there) (any-in (λ s. elem s (q .state ∷ q .earlier)) (q .state) namedCopies (q .is-named) (in-head (q .state) (q .earlier))) in
       record {
         meeting = f;
-        holds = resumed (namedBy u) g h (update-agree u t) r n held f;
-        kept-here = one-until h (namedBy u) (budget (applied u t)) (f .at) (met-at-end h (namedBy u) (f .at) (budget (applied u t)) (ends (applied u t) v′) k) k ∙ f .there-stops;
+        holds = resumed namedCopies g h (update-agree u t) r n held f;
+        kept-here = ap (λ (l : List ℕ). until h l (budget (applied u t)) (begin h)) (update-copies u t (namedBy u))
+            ∙ one-until h namedCopies (budget (applied u t)) (f .at) (met-at-end h namedCopies (f .at) (budget (applied u t)) (ends (applied u t) v′) k) k ∙ f .there-stops;
       }
 
 -- ---- "the run before began with these looks, move for move"
@@ -279,28 +305,28 @@ taken-first c e (new, p) =
 abbrev GoesOn : Config → Config → Type 0
 GoesOn part whole = (new : List Edge) × (probesOf whole ≡ new ++ probesOf part)
 
-module _ (u : Update) (t : Table) (v : Valid t) (v′ : Valid (applied u t)) where
+module _ (u : Update) (t : Table) (v : Valid t) (v′ : Valid (applied u t)) (w : AllWithin (changesOf u) (t .size)) where
   stops : verdict (run (searched t) (budget t)) ≢ unfinished
   stops = ended-within t v (budget t) (omega arith)
 
-  untouched : Untouched u t v v′ (budget t) stops → Same u t v v′ (budget t) stops (notes (searched t) (budget t))
-  untouched o = update-same u t v v′ (budget t) stops (notes (searched t) (budget t)) o (holds-notes (searched t) (budget t))
+  untouched : Untouched u t v v′ w (budget t) stops → Same u t v v′ w (budget t) stops (notes (searched t) (budget t))
+  untouched o = update-same u t v v′ w (budget t) stops (notes (searched t) (budget t)) o (holds-notes (searched t) (budget t))
 
   -- the search before goes on from the part of the new search that is kept
   began : GoesOn (keptPart u t) (final t)
   unfolding final
-  began = ⊎-elim (λ k. all-of-it (inl k)) (λ e. ⊎-elim (met e) (λ f. all-of-it (inr f)) (either (meets (namedBy u) (run (searched t) (budget t))))) (either (keepsAll u t))
+  began = ⊎-elim (λ k. all-of-it (inl k)) (λ e. ⊎-elim (met e) (λ f. all-of-it (inr f)) (either (meets (copiesIn t (namedBy u)) (run (searched t) (budget t))))) (either (keepsAll u t))
     where
-      all-of-it : Untouched u t v v′ (budget t) stops → GoesOn (keptPart u t) (final t)
+      all-of-it : Untouched u t v v′ w (budget t) stops → GoesOn (keptPart u t) (final t)
       all-of-it o =
-          let w = untouched o in
-          ([], sym (ap probesOf (w .all-kept) ∙ alike-probes (final t) (final (applied u t)) (w .same-final)))
+          let s = untouched o in
+          ([], sym (ap probesOf (s .all-kept) ∙ alike-probes (final t) (final (applied u t)) (s .same-final)))
 
-      met : keepsAll u t ≡ false → meets (namedBy u) (run (searched t) (budget t)) ≡ true → GoesOn (keptPart u t) (final t)
+      met : keepsAll u t ≡ false → meets (copiesIn t (namedBy u)) (run (searched t) (budget t)) ≡ true → GoesOn (keptPart u t) (final t)
       met k m =
-          let w = update-met u t v v′ (budget t) stops (notes (searched t) (budget t)) m (holds-notes (searched t) (budget t)) in
-          let f = w .meeting in
-          let e : probesOf (run (searched t) (f .at)) ≡ probesOf (keptPart u t) = ap probesOf (f .meeting .here) ∙ sym (ap probesOf (kept-meeting u t k ∙ w .kept-here ∙ f .meeting .there)) in
+          let s = update-met u t v v′ w (budget t) stops (notes (searched t) (budget t)) m (holds-notes (searched t) (budget t)) in
+          let f = s .meeting in
+          let e : probesOf (run (searched t) (f .at)) ≡ probesOf (keptPart u t) = ap probesOf (f .meeting .here) ∙ sym (ap probesOf (kept-meeting u t k ∙ s .kept-here ∙ f .meeting .there)) in
           let p = probes-grow (searched t) (f .at) (budget t) (f .in-time) in
           (p .0, p .1 ∙ ap (λ (l : List Edge). p .0 ++ l) e)
 
@@ -309,17 +335,17 @@ module _ (u : Update) (t : Table) (v : Valid t) (v′ : Valid (applied u t)) whe
   unfolding final firstMeeting
   goes-on = ⊎-elim
       (λ k. ([], ap probesOf (sym (kept-all u t k))))
-      (λ e. let w = until-at (searched (applied u t)) (namedBy u) (budget (applied u t)) in
-      let p = probes-grow (searched (applied u t)) (w .0) (budget (applied u t)) (w .1) in
-      (p .0, p .1 ∙ ap (λ (x : Config). p .0 ++ probesOf x) (sym (kept-meeting u t e ∙ w .2)))) (either (keepsAll u t))
+      (λ e. let s = until-at (searched (applied u t)) (copiesIn (applied u t) (namedBy u)) (budget (applied u t)) in
+      let p = probes-grow (searched (applied u t)) (s .0) (budget (applied u t)) (s .1) in
+      (p .0, p .1 ∙ ap (λ (x : Config). p .0 ++ probesOf x) (sym (kept-meeting u t e ∙ s .2)))) (either (keepsAll u t))
 
   pub kept-right : KeptRight u t (count (final (applied u t)) - kept u t) (kept u t)
   unfolding kept taken
   kept-right =
       let p = goes-on in
       record {
-        same-run = λ k. let w = untouched (inl k) in
-            (ap reverse (alike-probes (final t) (final (applied u t)) (w .same-final)), alike-verdict (final t) (final (applied u t)) (w .same-final));
+        same-run = λ k. let s = untouched (inl k) in
+            (ap reverse (alike-probes (final t) (final (applied u t)) (s .same-final)), same-printed u t (verdict (final (applied u t))) ∙ ap (printedVerdict t) (alike-verdict (final t) (final (applied u t)) (s .same-final)));
         all-kept = λ k. let e = ap count (kept-all u t k) in (omega (arith, e), e);
         kept-is = λ k. ap count (kept-meeting u t k);
         new-run = taken-first (keptPart u t) (final (applied u t)) p;
@@ -331,4 +357,6 @@ module _ (u : Update) (t : Table) (v : Valid t) (v′ : Valid (applied u t)) whe
 pub demand-3-kept : (c : Call) (t : Table) → Arises t → trialOf c t ≡ accepted
     → KeptRight (c .update) t (count (final (applied (c .update) t)) - kept (c .update) t) (kept (c .update) t)
 unfolding trialOf
-demand-3-kept c t a e = kept-right (c .update) t (valid t a) (update-valid (c .update) t (c .room) (valid t a) e)
+demand-3-kept c t a e =
+    kept-right (c .update) t (valid t a) (update-valid (c .update) t (c .room) (valid t a) e)
+    (all-within (c .room) (changesOf (c .update)) t (update-made (c .update) t (c .room) e .each-accepted))

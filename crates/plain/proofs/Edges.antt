@@ -2,7 +2,7 @@
 use mathlib.Core.Path.{_≡_}
 use mathlib.Core.Logic.{_⊎_, inl, inr, ⊎-elim}
 use mathlib.Core.Bool.{true}
-use mathlib.Core.List.{List, [], _∷_}
+use mathlib.Core.List.{List, [], _∷_, map}
 use lib.Dec.{eqb}
 use Rattle.plain.specs.Search.{Edge}
 use Rattle.plain.specs.Refusals.{sameEdge, present}
@@ -38,3 +38,12 @@ has-cases e f es h = ⊎-elim (λ z. inl (same-edge e f z)) inr (any-cases (same
 pub has-nil : {A : Type 0} (e : Edge) → Has [] e → A
 unfolding present
 has-nil e h = any-nil (sameEdge e) h
+
+pub has-map : (f : Edge → Edge) (es : List Edge) (e : Edge) → Has es e → Has (map f es) (f e)
+has-map f [] e h = has-nil e h
+has-map f (x ∷ es) e h = ⊎-elim (λ z. rw z (has-head (f x) (map f es))) (λ j. has-tail (f e) (f x) (map f es) (has-map f es e j)) (has-cases e x es h)
+
+-- and what stands in the mapped list is what an entry is mapped to
+pub map-has : (f : Edge → Edge) (es : List Edge) (e : Edge) → Has (map f es) e → (x : Edge) × Has es x × (e ≡ f x)
+map-has f [] e h = has-nil e h
+map-has f (x ∷ es) e h = ⊎-elim (λ z. (x, has-head x es, z)) (λ j. let r = map-has f es e j in (r .0, has-tail (r .0) x es (r .1), r .2)) (has-cases e (f x) (map f es) h)

@@ -64,7 +64,7 @@ once-map f one (x ∷ xs) o = (
   once-map f one xs (o .1),
 )
 
-copy-once : (n l x y : ℕ) → copy n l x ≡ copy n l y → x ≡ y
+pub copy-once : (n l x y : ℕ) → copy n l x ≡ copy n l y → x ≡ y
 unfolding copy
 copy-once n l x y e = omega arith
 

@@ -1,5 +1,5 @@
 -- The walk of a search on the layers, in plain states. Assumes nothing.
-use mathlib.Core.Path.{_≡_, refl, sym, ap, _∙_}
+use mathlib.Core.Path.{_≡_, sym, ap, _∙_}
 use mathlib.Core.Logic.{⊎-elim}
 use mathlib.Core.List.{List, [], _∷_, _++_, map}
 use Prim.Native.Nat.{ℕ, _<_}
@@ -8,12 +8,8 @@ use Rattle.plain.specs.Search.{Graph}
 use Rattle.plain.specs.Cycles.{Run, Lasso, Kinded, PassesAll, FullLasso}
 use Rattle.plain.specs.Layers.{stateAt, layers}
 use Rattle.plain.proofs.Tests.{in-head, in-tail, in-cases, in-append, in-left, in-right, in-one}
-use Rattle.plain.proofs.Lifting.{copyAt, Inside, layerAfter, lifted, state-at, after-below, run-below, lower, lifted-states}
+use Rattle.plain.proofs.Lifting.{map-join, copyAt, Inside, layerAfter, lifted, state-at, after-below, run-below, lower, lifted-states}
 use Rattle.plain.proofs.LayerRounds.{closed, closed-passes}
-
-map-join : (f : ℕ → ℕ) (xs ys : List ℕ) → map f (xs ++ ys) ≡ map f xs ++ map f ys
-map-join f [] ys = refl
-map-join f (x ∷ xs) ys = ap (λ a. f x ∷ a) (map-join f xs ys)
 
 -- what stands at the end of a list stands as well at its head
 to-head : (x s : ℕ) (xs : List ℕ) → In s (xs ++ (x ∷ [])) → In s (x ∷ xs)

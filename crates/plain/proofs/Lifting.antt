@@ -21,6 +21,10 @@ in-map f y [] i = absurd (in-nil y i)
 in-map f y (x ∷ xs) i =
     ⊎-elim (λ e. (x, in-head x xs, e)) (λ j. let r = in-map f y xs j in (r .0, in-tail (r .0) x xs (r .1), r .2)) (in-cases y (f x) (map f xs) i)
 
+pub map-join : (f : ℕ → ℕ) (xs ys : List ℕ) → map f (xs ++ ys) ≡ map f xs ++ map f ys
+map-join f [] ys = refl
+map-join f (x ∷ xs) ys = ap (λ zs. f x ∷ zs) (map-join f xs ys)
+
 module _ (a : Kinded) where
   -- the copy of s in layer l
   abbrev pub copyAt : ℕ → ℕ → ℕ

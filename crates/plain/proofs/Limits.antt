@@ -3,7 +3,7 @@ use mathlib.Core.Path.{_≡_}
 use mathlib.Core.Logic.{⊎-elim}
 use mathlib.Core.Bool.{Bool, true, false}
 use mathlib.Core.List.{List, [], _∷_, _++_}
-use Prim.Native.Nat.{ℕ, zero, suc, _≤_, _<_}
+use Prim.Native.Nat.{ℕ, zero, suc, _*_, _≤_, _<_}
 use native.Mathlib.Omega.{arith}
 use lib.Dec.{eqb, ltb}
 use lib.ListN.{length, drop, length-append, length-drop}
@@ -11,16 +11,18 @@ use borrow.Author.Tests.{ltb-false}
 use Rattle.plain.specs.Lists.{elem, In}
 use Rattle.plain.specs.Search.{Graph, Edge, Frame, frame, onPath, Config, outer, nested, exhausted, found, discoveredOf, markedOf, visit, finish, probe, step, steps, run, statesOf}
 use Rattle.plain.specs.Limits.{WalkFew, Limits}
-use Rattle.plain.specs.Table.{Table, searched, budget}
+use Rattle.plain.specs.Table.{Table, gameOf, searched, budget}
+use Rattle.plain.specs.Layers.{stateAt}
 use Rattle.plain.specs.Refusals.{badSize}
 use Rattle.plain.proofs.Tests.{or-false, in-nil, in-tail, in-append}
 use Rattle.plain.proofs.Invariant.{Inv, inv-run}
 use Rattle.plain.proofs.Lassos.{states-on, once-states, walk-once}
 use Rattle.plain.proofs.Bounds.{left, once-short, run-within, discovered-few, probes-twice}
 use Rattle.plain.proofs.Rows.{row-short}
-use Rattle.plain.proofs.Tables.{Valid}
-use Rattle.plain.proofs.Upto.{upto, in-upto, once-upto, length-upto}
-use Rattle.plain.proofs.Demands.{total-le, start-in, target-in}
+use Rattle.plain.proofs.Tables.{Valid, edges-most}
+use Rattle.plain.proofs.Upto.{in-upto}
+use Rattle.plain.proofs.Demands.{states, states-count, start-in, target-in, edges-few}
+use Rattle.plain.proofs.LayerSizes.{row-length}
 use Rattle.plain.proofs.Walks.{states-length}
 
 -- a graph of states below a size of at most 512, with at most 2,048 edges
@@ -122,17 +124,17 @@ size-few n f = ltb-false 512 n (or-false (eqb n 0) (ltb 512 n) f .1)
 -- the bound of the largest table is enough
 pub budget-bound : (t : Table) → Valid t → budget t ≤ 5634
 unfolding budget
-budget-bound t v = omega (arith, v .count-ok, size-few (t .size) (v .size-ok))
+budget-bound t v = omega (arith, v .moves-few, v .states-few)
 
--- a table that arises is a small graph
-pub small : (t : Table) → Valid t → Small (searched t) (t .size)
+-- a table that arises is a small graph: the layers of its game
+pub small : (t : Table) → Valid t → Small (searched t) (t .kinds * t .size)
 small t v = record {
-  us = upto (t .size);
+  us = states t;
   start-in = start-in t v;
   stays = target-in t v;
-  below = λ x i. in-upto x (t .size) i;
-  size-few = size-few (t .size) (v .size-ok);
-  few = omega (arith, length-upto (t .size), size-few (t .size) (v .size-ok));
-  rows-short = λ x. omega (arith, row-short (t .edges) x, v .count-ok);
-  edges-few = omega (arith, total-le (t .edges) (upto (t .size)) (once-upto (t .size)), v .count-ok);
+  below = λ x i. in-upto x (t .kinds * t .size) i;
+  size-few = v .states-few;
+  few = omega (arith, states-count t, v .states-few);
+  rows-short = λ x. omega (arith, row-length (gameOf t) x, row-short (t .edges) (stateAt (gameOf t) x), edges-most t v);
+  edges-few = omega (arith, edges-few t v, v .moves-few);
 }

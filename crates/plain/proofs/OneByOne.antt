@@ -2,22 +2,22 @@
 use mathlib.Core.Path.{_≡_, refl, sym, ap, _∙_}
 use mathlib.Core.Logic.{inr, ⊎-elim}
 use mathlib.Core.Bool.{Bool, true, false, _&&_, _||_, not}
-use mathlib.Core.List.{List, [], _∷_, append-nil, map}
-use Prim.Native.Nat.{ℕ, zero, suc, _+_, _-_, _≤_}
+use mathlib.Core.List.{List, [], _∷_, _++_, append-nil, map}
+use Prim.Native.Nat.{ℕ, zero, suc, _+_, _*_, _-_, _≤_}
 use native.Mathlib.Omega.{arith}
 use lib.ListN.{length, take, length-map}
 use lib.Seq.{take-all}
 use borrow.Author.Tests.{le-ltb, not-true as untrue}
 use Rattle.plain.specs.Lists.{any, all}
 use Rattle.plain.specs.Search.{meets, verdict, count}
-use Rattle.plain.specs.Table.{Table, searched, budget, final, firstMeeting}
+use Rattle.plain.specs.Table.{Table, searched, copiesIn, printedVerdict, budget, final, firstMeeting}
 use Rattle.plain.specs.Refusals.{Trial, accepted, refused, firstHeld, shortRoom, roomCondition}
-use Rattle.plain.specs.Machine.{Change, named, apply, conditions, changeTrial, BatchLine, makes, lineConditions, BatchTrial, changesIn, applyAll, namedAll, linesTrial, batchTrial, single, batch, applied, namedBy, updateTrial, positionIn, atLine, unexplored, passedOver, keepsAll, keptPart, kept, refusal, answer, callFor, batchCall, trialOf, answerTo, tableAfter}
+use Rattle.plain.specs.Machine.{Change, named, apply, conditions, misnamed, changeTrial, BatchLine, makes, lineConditions, BatchTrial, changesIn, applyAll, namedAll, linesTrial, batchTrial, single, batch, changesOf, applied, namedBy, updateTrial, positionIn, atLine, unexplored, passedOver, keepsAll, keptPart, kept, refusal, answer, callFor, batchCall, trialOf, answerTo, tableAfter}
 use Rattle.plain.specs.Notes.{notes}
 use Rattle.plain.specs.Claims.{Arises, OneByOne, AsOne}
 use Rattle.plain.proofs.Tests.{either}
-use Rattle.plain.proofs.Trials.{held-later, accepted-when, last-free}
-use Rattle.plain.proofs.Tables.{Valid, valid, valid-change, room-enough}
+use Rattle.plain.proofs.Trials.{held-first, held-later, accepted-when, last-free}
+use Rattle.plain.proofs.Tables.{Valid, Within, change-within, valid, valid-change, room-enough}
 use Rattle.plain.proofs.Resume.{holds-notes}
 use Rattle.plain.proofs.Batches.{accepted-not, line-accepted, line-refused, line-few, batch-tried, batch-short, batch-few, batch-made}
 use Rattle.plain.proofs.Demands.{ended-within, kept-all, kept-meeting, update-same}
@@ -53,12 +53,16 @@ module _ (c : Change) (t : Table) (room : ℕ) where
   only = makes c ∷ []
 
   -- where there is room, its line's own refusals decide, in the batch as alone
-  own-trial : firstHeld (roomCondition (t .size) room) ≡ accepted → changeTrial c t room ≡ firstHeld (lineConditions 1 (makes c) t)
+  own-trial : firstHeld (roomCondition (t .size) (t .kinds) room) ≡ accepted → changeTrial c t room ≡ firstHeld (lineConditions 1 (makes c) t)
   unfolding changeTrial lineConditions
-  own-trial r = last-free (conditions c t) (roomCondition (t .size) room) r ∙ sym (held-later (15, false) (conditions c t) refl)
+  own-trial r = by-kind (misnamed c) refl
+    where
+      by-kind : (b : Bool) → misnamed c ≡ b → firstHeld ((1, b) ∷ (conditions c t ++ roomCondition (t .size) (t .kinds) room)) ≡ firstHeld ((1, b) ∷ (15, false) ∷ conditions c t)
+      by-kind true e = held-first _ _ refl ∙ sym (held-first _ _ refl)
+      by-kind false e = held-later _ _ refl ∙ last-free (conditions c t) (roomCondition (t .size) (t .kinds) room) r ∙ sym (held-later (15, false) (conditions c t) refl) ∙ sym (held-later _ _ refl)
 
   -- so the batch comes to what the change comes to, at position 1 where it is refused
-  one-tried : firstHeld (roomCondition (t .size) room) ≡ accepted → (w : Trial) → changeTrial c t room ≡ w
+  one-tried : firstHeld (roomCondition (t .size) (t .kinds) room) ≡ accepted → (w : Trial) → changeTrial c t room ≡ w
       → (batchTrial only t room .trial ≡ w) × ((n : ℕ) → w ≡ refused n → batchTrial only t room .position ≡ 1)
   unfolding linesTrial
   one-tried r accepted e =
@@ -86,29 +90,29 @@ module _ (c : Change) (t : Table) (room : ℕ) where
   alone-keeps = refl
 
   -- and so is what is kept: a change of marks that is passed over keeps all alone too, since its state is never met
-  one-kept : Valid t → Valid (apply c t) → keptPart (batch only) t ≡ keptPart (single c) t
-  unfolding passedOver applied final namedBy
-  one-kept v v′ = ⊎-elim passed (λ f. ⊎-elim (unmet f) (met f) (either (not (meets (named c) (final t))))) (either (unexplored c t))
+  one-kept : Valid t → Valid (apply c t) → Within c (t .size) → keptPart (batch only) t ≡ keptPart (single c) t
+  unfolding passedOver applied final changesOf namedBy
+  one-kept v v′ within = ⊎-elim passed (λ f. ⊎-elim (unmet f) (met f) (either (not (meets (copiesIn t (named c)) (final t))))) (either (unexplored c t))
     where
       all-batch : passedOver c t ≡ true → keptPart (batch only) t ≡ final (applied (single c) t)
       all-batch p = kept-all (batch only) t (one-keeps ∙ ap (λ (b : Bool). b && true) p) ∙ ap final one-applied
 
       passed : unexplored c t ≡ true → keptPart (batch only) t ≡ keptPart (single c) t
-      passed k = all-batch (ap (λ (b : Bool). b || not (meets (named c) (final t))) k) ∙ sym (kept-all (single c) t (alone-keeps ∙ k))
+      passed k = all-batch (ap (λ (b : Bool). b || not (meets (copiesIn t (named c)) (final t))) k) ∙ sym (kept-all (single c) t (alone-keeps ∙ k))
 
-      unmet : unexplored c t ≡ false → not (meets (named c) (final t)) ≡ true → keptPart (batch only) t ≡ keptPart (single c) t
+      unmet : unexplored c t ≡ false → not (meets (copiesIn t (named c)) (final t)) ≡ true → keptPart (batch only) t ≡ keptPart (single c) t
       unmet f k =
-          all-batch (ap (λ (b : Bool). b || not (meets (named c) (final t))) f ∙ k)
-          ∙ sym (update-same (single c) t v v′ (budget t) (ended-within t v (budget t) (omega arith)) (notes (searched t) (budget t)) (inr (untrue (meets (named c) (final t)) k)) (holds-notes (searched t) (budget t)) .all-kept)
+          all-batch (ap (λ (b : Bool). b || not (meets (copiesIn t (named c)) (final t))) f ∙ k)
+          ∙ sym (update-same (single c) t v v′ (within, tt) (budget t) (ended-within t v (budget t) (omega arith)) (notes (searched t) (budget t)) (inr (untrue (meets (copiesIn t (named c)) (final t)) k)) (holds-notes (searched t) (budget t)) .all-kept)
 
-      met : unexplored c t ≡ false → not (meets (named c) (final t)) ≡ false → keptPart (batch only) t ≡ keptPart (single c) t
+      met : unexplored c t ≡ false → not (meets (copiesIn t (named c)) (final t)) ≡ false → keptPart (batch only) t ≡ keptPart (single c) t
       met f k =
-          kept-meeting (batch only) t (one-keeps ∙ ap (λ (b : Bool). (b || not (meets (named c) (final t))) && true) f ∙ ap (λ (b : Bool). b && true) k)
+          kept-meeting (batch only) t (one-keeps ∙ ap (λ (b : Bool). (b || not (meets (copiesIn t (named c)) (final t))) && true) f ∙ ap (λ (b : Bool). b && true) k)
           ∙ (λ i. firstMeeting (one-named i) (one-applied i)) ∙ sym (kept-meeting (single c) t (alone-keeps ∙ f))
 
-  pub roomy : t .size ≤ room → firstHeld (roomCondition (t .size) room) ≡ accepted
+  pub roomy : t .size * t .kinds ≤ room → firstHeld (roomCondition (t .size) (t .kinds) room) ≡ accepted
   unfolding shortRoom any
-  roomy h = held-later _ _ (le-ltb room (t .size) h) ∙ accepted-when [] refl
+  roomy h = held-later _ _ (le-ltb room (t .size * t .kinds) h) ∙ accepted-when [] refl
 
   -- the call of the batch is refused where the batch is, at its position
   one-call : (n : ℕ) → batchTrial only t room .trial ≡ refused n
@@ -119,9 +123,9 @@ module _ (c : Change) (t : Table) (room : ℕ) where
   -- where the change is refused, alone it leaves the table as it was, and so does the batch: with its own number, or with 11
   one-refused : (n : ℕ) → changeTrial c t room ≡ refused n → tableAfter (batchCall room only) t ≡ t
   unfolding trialOf updateTrial
-  one-refused n e = by-room (firstHeld (roomCondition (t .size) room)) refl
+  one-refused n e = by-room (firstHeld (roomCondition (t .size) (t .kinds) room)) refl
     where
-      by-room : (w : Trial) → firstHeld (roomCondition (t .size) room) ≡ w → tableAfter (batchCall room only) t ≡ t
+      by-room : (w : Trial) → firstHeld (roomCondition (t .size) (t .kinds) room) ≡ w → tableAfter (batchCall room only) t ≡ t
       by-room accepted k = table-refused (batchCall room only) t n (one-tried k (refused n) e .0)
       by-room (refused m) k = table-refused (batchCall room only) t m (ap (λ (b : BatchTrial). b .trial) (batch-short only t room m k))
 
@@ -144,9 +148,9 @@ module _ (c : Change) (t : Table) (room : ℕ) where
         one-call n (w .0) ∙ ap (λ (i : ℕ). refusal (record { number = n; position = atLine i })) (w .1 n refl);
     same-answer = λ e.
         let v = valid t a in
-        let k : kept (batch only) t ≡ kept (single c) t = ap count (one-kept v (valid-change c t room v e)) in
+        let k : kept (batch only) t ≡ kept (single c) t = ap count (one-kept v (valid-change c t room v e) (change-within c t room e)) in
         answer-accepted (batchCall room only) t (one-accepted e)
-        ∙ (λ i. answer (verdict (final (one-applied i))) (count (final (one-applied i)) - k i) (k i))
+        ∙ (λ i. answer (printedVerdict (one-applied i) (verdict (final (one-applied i)))) (count (final (one-applied i)) - k i) (k i))
         ∙ sym (answer-accepted (callFor room c) t e);
     same-table = one-table (changeTrial c t room) refl;
   }
@@ -166,9 +170,9 @@ lines-held (suc k) i (x ∷ xs) t h m = by-trial (firstHeld (lineConditions i x 
     by-trial (refused n) e below = line-refused i x (take k xs) t n e ∙ sym (line-refused i x xs t n e)
 
 batch-held : (xs : List BatchLine) (t : Table) (room : ℕ) → batchTrial (take 65 xs) t room ≡ batchTrial xs t room
-batch-held xs t room = by-room (firstHeld (roomCondition (t .size) room)) refl
+batch-held xs t room = by-room (firstHeld (roomCondition (t .size) (t .kinds) room)) refl
   where
-    by-room : (w : Trial) → firstHeld (roomCondition (t .size) room) ≡ w → batchTrial (take 65 xs) t room ≡ batchTrial xs t room
+    by-room : (w : Trial) → firstHeld (roomCondition (t .size) (t .kinds) room) ≡ w → batchTrial (take 65 xs) t room ≡ batchTrial xs t room
     by-room accepted k = batch-tried (take 65 xs) t room k ∙ lines-held 65 1 xs t (omega arith) (omega arith) ∙ sym (batch-tried xs t room k)
     by-room (refused n) k = batch-short (take 65 xs) t room n k ∙ sym (batch-short xs t room n k)
 

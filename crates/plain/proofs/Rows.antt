@@ -2,21 +2,23 @@
 use mathlib.Core.Path.{_≡_, refl, sym, ap, _∙_}
 use mathlib.Core.Logic.{_≢_, ⊎-elim}
 use mathlib.Core.Bool.{true, false, not}
-use mathlib.Core.List.{List, [], _∷_, _++_, append-nil}
-use Prim.Native.Nat.{ℕ, suc, _+_, _≤_}
+use mathlib.Core.List.{List, [], _∷_, _++_, map, append-nil}
+use Prim.Native.Nat.{ℕ, suc, _+_, _-_, _≤_}
 use native.Mathlib.Omega.{arith}
 use lib.Dec.{eqb}
 use lib.ListN.{length}
 use borrow.Author.Tests.{eqb-false, ne-eqb}
 use Rattle.plain.specs.Lists.{filter, elem, In, Once}
 use Rattle.plain.specs.Search.{Edge}
-use Rattle.plain.specs.Table.{Table, one, row, searched}
+use Rattle.plain.specs.Table.{Table, carriedBy, withMark, withoutMark, one, row, graphOf, gameOf, searched, copiesIn}
+use Rattle.plain.specs.Layers.{stateAt}
 use Rattle.plain.specs.Refusals.{sameEdge, present, repeated}
 use Rattle.plain.specs.Machine.{Change, add, cut, mark, unmark, named, without, apply}
 use Rattle.plain.proofs.Tests.{contra, either, not-true, same, self, in-nil, in-head, in-tail, in-cases, not-in, or-false, one-le, none-cons, filter-yes, filter-no}
 use Rattle.plain.proofs.Edges.{Has, has-head, has-tail, has-cases, has-nil, same-edge, same-self}
 use Rattle.plain.proofs.Prefix.{Agree}
-use Rattle.plain.proofs.Words.{accepts-marked-other, accepts-unmarked-other}
+use Rattle.plain.proofs.LayerChanges.{AgreeBut, layers-agree-at, layers-agree}
+use Rattle.plain.proofs.Words.{accepts-marked-other, accepts-unmarked-other, carried-other}
 
 pub row-yes : (e : Edge) (es : List Edge) (s : ℕ) → eqb (e .0) s ≡ true → row (e ∷ es) s ≡ e .1 ∷ row es s
 unfolding row
@@ -137,6 +139,15 @@ pub but-none : (y : ℕ) (xs : List ℕ) → elem y xs ≡ false → but y xs �
 unfolding filter
 but-none y xs f = ap (but y) (sym (append-nil xs)) ∙ but-front y xs [] f ∙ append-nil xs
 
+-- taken out of a list whose entries are mapped one to one
+pub but-map : (f : ℕ → ℕ) → ((x y : ℕ) → f x ≡ f y → x ≡ y) → (y : ℕ) (xs : List ℕ) → map f (but y xs) ≡ but (f y) (map f xs)
+unfolding filter
+but-map f one y [] = refl
+but-map f one y (x ∷ xs) = ⊎-elim
+    (λ e. ap (map f) (but-yes y x xs e) ∙ but-map f one y xs ∙ sym (but-yes (f y) (f x) (map f xs) (let z : y ≡ x = same e in rw z (self (f x)))))
+    (λ e. ap (map f) (but-no y x xs e) ∙ ap (λ (l : List ℕ). f x ∷ l) (but-map f one y xs) ∙ sym (but-no (f y) (f x) (map f xs) (ne-eqb (f y) (f x) (λ z. eqb-false y x e (one y x z)))))
+    (either (eqb y x))
+
 cut-gone : (es : List Edge) (e f : Edge) → sameEdge e f ≡ true → row (without e es) (e .0) ≡ but (e .1) (row es (e .0))
     → row (without e (f ∷ es)) (e .0) ≡ but (e .1) (row (f ∷ es) (e .0))
 cut-gone es e f h below =
@@ -215,9 +226,24 @@ not-named s x o e = contra (rw e (in-head s [])) o
 other-source : (e : Edge) (x : ℕ) → elem x (e .0 ∷ []) ≡ false → eqb (e .0) x ≡ false
 other-source e x o = ne-eqb (e .0) x (λ z. not-named (e .0) x o (sym z))
 
-pub agree : (c : Change) (t : Table) → Agree (named c) (searched t) (searched (apply c t))
+agree-but : (c : Change) (t : Table) → AgreeBut (named c) (graphOf t) (graphOf (apply c t)) (carriedBy (t .marks)) (carriedBy (apply c t .marks))
 unfolding named apply
-agree (add e) t = record { start = refl; edges = λ x o. sym (row-add-other (t .edges) e x (other-source e x o)); acceptance = λ x o. refl }
-agree (cut e) t = record { start = refl; edges = λ x o. sym (row-cut-other (t .edges) e x (other-source e x o)); acceptance = λ x o. refl }
-agree (mark s) t = record { start = refl; edges = λ x o. refl; acceptance = λ x o. sym (accepts-marked-other (t .words) s x (not-named s x o)) }
-agree (unmark s) t = record { start = refl; edges = λ x o. refl; acceptance = λ x o. sym (accepts-unmarked-other (t .words) s x (not-named s x o)) }
+agree-but (add e) t = record { start = refl; edges = λ x o. sym (row-add-other (t .edges) e x (other-source e x o)); kinds = λ x o kind. refl }
+agree-but (cut e) t = record { start = refl; edges = λ x o. sym (row-cut-other (t .edges) e x (other-source e x o)); kinds = λ x o kind. refl }
+agree-but (mark s k) t = record { start = refl; edges = λ x o. refl; kinds = λ x o kind. sym (carried-other (t .marks) (k - 1) (λ words. withMark words s) s (λ words. accepts-marked-other words s) kind x (not-named s x o)) }
+agree-but (unmark s k) t = record { start = refl; edges = λ x o. refl; kinds = λ x o kind. sym (carried-other (t .marks) (k - 1) (λ words. withoutMark words s) s (λ words. accepts-unmarked-other words s) kind x (not-named s x o)) }
+
+pub agree-at : (c : Change) (t : Table) (x : ℕ) → elem (stateAt (gameOf t) x) (named c) ≡ false
+    → (searched t .successors x ≡ searched (apply c t) .successors x) × (searched t .accepting x ≡ searched (apply c t) .accepting x)
+unfolding apply
+agree-at (add e) t = layers-agree-at (t .size) (t .kinds) _ _ _ _ _ (agree-but (add e) t)
+agree-at (cut e) t = layers-agree-at (t .size) (t .kinds) _ _ _ _ _ (agree-but (cut e) t)
+agree-at (mark s k) t = layers-agree-at (t .size) (t .kinds) _ _ _ _ _ (agree-but (mark s k) t)
+agree-at (unmark s k) t = layers-agree-at (t .size) (t .kinds) _ _ _ _ _ (agree-but (unmark s k) t)
+
+pub agree : (c : Change) (t : Table) → Agree (copiesIn t (named c)) (searched t) (searched (apply c t))
+unfolding apply
+agree (add e) t = layers-agree (t .size) (t .kinds) _ _ _ _ _ (agree-but (add e) t)
+agree (cut e) t = layers-agree (t .size) (t .kinds) _ _ _ _ _ (agree-but (cut e) t)
+agree (mark s k) t = layers-agree (t .size) (t .kinds) _ _ _ _ _ (agree-but (mark s k) t)
+agree (unmark s k) t = layers-agree (t .size) (t .kinds) _ _ _ _ _ (agree-but (unmark s k) t)

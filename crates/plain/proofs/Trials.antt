@@ -3,15 +3,16 @@ use mathlib.Core.Path.{_≡_, refl, sym, ap, _∙_}
 use mathlib.Core.Logic.{_≢_, ⊎-elim}
 use mathlib.Core.Bool.{Bool, true, false, cond}
 use mathlib.Core.List.{List, [], _∷_, _++_, map}
-use Prim.Native.Nat.{ℕ}
+use Prim.Native.Nat.{ℕ, _-_}
 use native.Mathlib.Omega.{arith}
-use lib.Dec.{eqb}
+use lib.Dec.{eqb, ltb}
+use lib.ListN.{length}
 use borrow.Author.Tests.{eqb-false}
 use Rattle.plain.specs.Lists.{any, elem}
 use Rattle.plain.specs.Search.{Edge}
-use Rattle.plain.specs.Table.{Table, accepts}
-use Rattle.plain.specs.Refusals.{accepted, refused, firstHeld, pairs, present, badSize, badStart, badMarks, badCount, outside, beyond, Load, loadTrial}
-use Rattle.plain.specs.Machine.{Change, add, cut, mark, unmark, conditions, changeTrial}
+use Rattle.plain.specs.Table.{Table, carriedBy}
+use Rattle.plain.specs.Refusals.{accepted, refused, firstHeld, pairs, present, badSize, badStart, badMarks, badCount, badKinds, outside, beyond, Load, loadTrial}
+use Rattle.plain.specs.Machine.{Change, add, cut, mark, unmark, conditions, misnamed, changeTrial}
 use Rattle.plain.specs.Claims.{Handed}
 use Rattle.plain.proofs.Tests.{either, or-false, or-neither, none-cons}
 
@@ -132,28 +133,40 @@ pub change-never-7 : (c : Change) (t : Table) (room : ℕ) → changeTrial c t r
 unfolding changeTrial conditions elem
 change-never-7 (add e) t room = never-handed 7 _ refl
 change-never-7 (cut e) t room = never-handed 7 _ refl
-change-never-7 (mark s) t room = never-handed 7 _ refl
-change-never-7 (unmark s) t room = never-handed 7 _ refl
+change-never-7 (mark s kind) t room = never-handed 7 _ refl
+change-never-7 (unmark s kind) t room = never-handed 7 _ refl
 
 -- ---- orders that are easily mistaken
 
--- a state to be marked that pays already: 13, however short the lent list is
-pub marked-before-short : (t : Table) (s room : ℕ) → beyond (t .size) s ≡ false → accepts (t .words) s ≡ true → changeTrial (mark s) t room ≡ refused 13
+-- a state to be marked that carries the kind already: 13, however short the lent list is
+pub marked-before-short : (t : Table) (s kind room : ℕ) → misnamed (mark s kind) ≡ false → ltb (t .kinds) kind ≡ false → beyond (t .size) s ≡ false → carriedBy (t .marks) (kind - 1) s ≡ true
+    → changeTrial (mark s kind) t room ≡ refused 13
 unfolding changeTrial conditions
-marked-before-short t s room f h = held-later _ _ f ∙ held-first _ _ h
+marked-before-short t s kind room m k f h = held-later _ _ m ∙ held-later _ _ k ∙ held-later _ _ f ∙ held-first _ _ h
+
+-- a kind above K: 4, though the state is outside the game
+pub kind-before-outside : (t : Table) (s kind room : ℕ) → misnamed (mark s kind) ≡ false → ltb (t .kinds) kind ≡ true → changeTrial (mark s kind) t room ≡ refused 4
+unfolding changeTrial conditions
+kind-before-outside t s kind room m h = held-later _ _ m ∙ held-first _ _ h
 
 -- a present move added to a full table: 8, not 9
 pub present-before-full : (t : Table) (e : Edge) (room : ℕ) → outside (t .size) e ≡ false → present (t .edges) e ≡ true → changeTrial (add e) t room ≡ refused 8
-unfolding changeTrial conditions
-present-before-full t e room f h = held-later _ _ f ∙ held-first _ _ h
+unfolding changeTrial conditions misnamed
+present-before-full t e room f h = held-later _ _ refl ∙ held-later _ _ f ∙ held-first _ _ h
 
 -- a cut of a move outside the game: 6, not 10
 pub outside-before-absent : (t : Table) (e : Edge) (room : ℕ) → outside (t .size) e ≡ true → changeTrial (cut e) t room ≡ refused 6
-unfolding changeTrial conditions
-outside-before-absent t e room h = held-first _ _ h
+unfolding changeTrial conditions misnamed
+outside-before-absent t e room h = held-later _ _ refl ∙ held-first _ _ h
 
 -- a loaded move that names a state outside comes before every repeated one, wherever they stand in the list
-pub outside-before-repeated : (l : Load) (room : ℕ) → badSize (l .size) ≡ false → badStart (l .size) (l .start) ≡ false → badMarks (l .size) (l .words) ≡ false → badCount (l .numbers) ≡ false
-    → any (outside (l .size)) (pairs (l .numbers)) ≡ true → loadTrial l room ≡ refused 6
+pub outside-before-repeated : (l : Load) (room : ℕ) → badSize (l .size) ≡ false → badStart (l .size) (l .start) ≡ false → badMarks (l .size) (l .kinds) (l .marks) ≡ false → badCount (l .numbers) ≡ false
+    → badKinds (l .kinds) (l .size) (length (pairs (l .numbers))) ≡ false → any (outside (l .size)) (pairs (l .numbers)) ≡ true → loadTrial l room ≡ refused 6
 unfolding loadTrial
-outside-before-repeated l room a b c d h = held-later _ _ a ∙ held-later _ _ b ∙ held-later _ _ c ∙ held-later _ _ d ∙ held-first _ _ h
+outside-before-repeated l room a b c d k h = held-later _ _ a ∙ held-later _ _ b ∙ held-later _ _ c ∙ held-later _ _ d ∙ held-later _ _ k ∙ held-first _ _ h
+
+-- and an odd list before a bad count of kinds: 5, not 16
+pub count-before-kinds : (l : Load) (room : ℕ) → badSize (l .size) ≡ false → badStart (l .size) (l .start) ≡ false → badMarks (l .size) (l .kinds) (l .marks) ≡ false → badCount (l .numbers) ≡ true
+    → loadTrial l room ≡ refused 5
+unfolding loadTrial
+count-before-kinds l room a b c h = held-later _ _ a ∙ held-later _ _ b ∙ held-later _ _ c ∙ held-first _ _ h

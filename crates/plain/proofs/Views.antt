@@ -2,39 +2,52 @@
 use mathlib.Core.Path.{_≡_, refl, sym, ap, _∙_}
 use mathlib.Core.Logic.{⊎-elim}
 use mathlib.Core.Bool.{Bool, true, false, _||_, not}
-use mathlib.Core.List.{List, [], _∷_, _++_}
+use mathlib.Core.List.{List, [], _∷_, _++_, map}
 use Prim.Native.Nat.{ℕ, suc, _+_, _*_, _-_, _/_, _≤_, _<_}
 use native.Mathlib.Decide.{decLt}
 use native.Mathlib.Omega.{arith}
-use lib.Dec.{eqb, ltb, leb}
-use lib.ListN.{length, length-append, length-set}
-use lib.Seq.{set-out}
-use Rattle.plain.specs.Lists.{all}
-use Rattle.plain.specs.Search.{Edge, begin, probesOf, meets, finished, run, until, verdict, count}
-use Rattle.plain.specs.Table.{Table, accepts, withMark, withoutMark, row, searched, budget, final, firstMeeting}
+use lib.Dec.{eqb, ltb}
+use lib.ListN.{length, getD, set, length-append, length-set, List·getD-eq-default}
+use lib.Seq.{set-out, getD-set-same, getD-set-other}
+use borrow.Author.Tests.{eqb-false}
+use Rattle.plain.specs.Lists.{any, all}
+use Rattle.plain.specs.Search.{Edge, Config, begin, probesOf, meets, finished, run, until, verdict, count}
+use Rattle.plain.specs.Table.{Table, accepts, withMark, withoutMark, carriedBy, row, gameOf, searched, copiesIn, printedVerdict, budget, final, firstMeeting}
+use Rattle.plain.specs.Layers.{copiesOf, stateAt, layers}
 use Rattle.plain.specs.Refusals.{Trial, accepted, refused, firstHeld, present, outside, beyond, full, roomCondition}
-use Rattle.plain.specs.Machine.{Change, add, cut, mark, unmark, named, apply, conditions, changeTrial, BatchLine, makes, other, lineConditions, BatchTrial, changesIn, applyAll, linesTrial, batchTrial, Update, single, batch, applied, namedBy, updateTrial, atLine, positionIn, unexplored, passedOver, keepsAll, kept, refusal, answer, Call, trialOf, answerTo, tableAfter, answers}
+use Rattle.plain.specs.Machine.{Change, add, cut, mark, unmark, named, inKind, apply, conditions, misnamed, changeTrial, BatchLine, makes, other, lineConditions, BatchTrial, changesIn, applyAll, linesTrial, batchTrial, Update, single, batch, applied, namedBy, updateTrial, atLine, positionIn, unexplored, passedOver, keepsAll, kept, refusal, answer, Call, trialOf, answerTo, tableAfter, answers}
 use Rattle.plain.specs.Claims.{tableBehind}
 use Rattle.plain.specs.Questions.{Question, ways, degrees, questionTrial, questionReply, replyTo}
 use Rattle.plain.specs.Orders.{SameView, OnlyRows}
 use Rattle.plain.proofs.Tests.{contra, either, not-true, same, self, filter-short}
 use Rattle.plain.proofs.Words.{accepts-marked, accepts-marked-other, accepts-unmarked, accepts-unmarked-other}
 use Rattle.plain.proofs.Rows.{but, row-has, has-row, row-short, row-add, row-add-other, row-cut, row-cut-other, cut-count}
-use Rattle.plain.proofs.Tables.{changed-size, changed-start}
+use Rattle.plain.proofs.Tables.{changed-size, changed-start, changed-kinds}
 use Rattle.plain.proofs.Batches.{line-accepted, line-refused, batch-tried, batch-short}
-use Rattle.plain.proofs.Demands.{kept-all, kept-meeting}
+use Rattle.plain.proofs.Demands.{printed-alike, kept-all, kept-meeting}
 use Rattle.plain.proofs.Degrees.{same-in, same-out}
 use Rattle.plain.proofs.Calls.{answer-accepted, table-accepted, answer-refused, table-refused}
 
 -- ---- two tables with the same view: what is read of them
 
 module _ (t u : Table) (w : SameView t u) where
+  same-game : gameOf t ≡ gameOf u
+  same-game = λ i. record {
+    graph = record { start = w .same-start i; successors = λ s. w .same-row s i; accepting = λ s. w .same-marks 0 s i };
+    size = w .same-size i;
+    kinds = w .same-kinds i;
+    carries = λ kind s. w .same-marks kind s i;
+  }
+
   same-graph : searched t ≡ searched u
-  same-graph = λ i. record { start = w .same-start i; successors = λ s. w .same-row s i; accepting = λ s. w .same-marks s i }
+  same-graph = ap layers same-game
 
   same-budget : budget t ≡ budget u
   unfolding budget
-  same-budget = λ i. 2 * w .same-count i + 3 * w .same-size i + 2
+  same-budget = λ i. 2 * (w .same-kinds i * w .same-count i) + 3 * (w .same-kinds i * w .same-size i) + 2
+
+  same-copies : (ns : List ℕ) → copiesIn t ns ≡ copiesIn u ns
+  same-copies ns = λ i. copiesOf (w .same-size i) (w .same-kinds i - 1) ns
 
   pub same-final : final t ≡ final u
   unfolding final
@@ -42,7 +55,7 @@ module _ (t u : Table) (w : SameView t u) where
 
   same-meeting : (ns : List ℕ) → firstMeeting ns t ≡ firstMeeting ns u
   unfolding firstMeeting
-  same-meeting ns = λ i. until (same-graph i) ns (same-budget i) (begin (same-graph i))
+  same-meeting ns = λ i. until (same-graph i) (same-copies ns i) (same-budget i) (begin (same-graph i))
 
   same-present : (e : Edge) → present (t .edges) e ≡ present (u .edges) e
   same-present e = ⊎-elim
@@ -52,21 +65,21 @@ module _ (t u : Table) (w : SameView t u) where
 
   same-conditions : (c : Change) → conditions c t ≡ conditions c u
   unfolding conditions full
-  same-conditions (add e) = λ i. (6, outside (w .same-size i) e) ∷ (8, same-present e i) ∷ (9, leb 2048 (w .same-count i)) ∷ []
+  same-conditions (add e) = λ i. (6, outside (w .same-size i) e) ∷ (8, same-present e i) ∷ (9, ltb 2048 ((w .same-count i + 1) * w .same-kinds i)) ∷ []
   same-conditions (cut e) = λ i. (6, outside (w .same-size i) e) ∷ (10, not (same-present e i)) ∷ []
-  same-conditions (mark s) = λ i. (6, beyond (w .same-size i) s) ∷ (13, w .same-marks s i) ∷ []
-  same-conditions (unmark s) = λ i. (6, beyond (w .same-size i) s) ∷ (14, not (w .same-marks s i)) ∷ []
+  same-conditions (mark s kind) = λ i. (4, ltb (w .same-kinds i) kind) ∷ (6, beyond (w .same-size i) s) ∷ (13, w .same-marks (kind - 1) s i) ∷ []
+  same-conditions (unmark s kind) = λ i. (4, ltb (w .same-kinds i) kind) ∷ (6, beyond (w .same-size i) s) ∷ (14, not (w .same-marks (kind - 1) s i)) ∷ []
 
   same-unexplored : (c : Change) → unexplored c t ≡ unexplored c u
   unfolding unexplored
-  same-unexplored (add e) = λ i. not (finished (same-graph i) (same-budget i) (e .0))
-  same-unexplored (cut e) = λ i. not (present (probesOf (same-final i)) e)
-  same-unexplored (mark s) = refl
-  same-unexplored (unmark s) = refl
+  same-unexplored (add e) = λ i. not (any (finished (same-graph i) (same-budget i)) (same-copies (e .0 ∷ []) i))
+  same-unexplored (cut e) = λ i. not (present (map (λ (f : Edge). (stateAt (same-game i) (f .0), stateAt (same-game i) (f .1))) (probesOf (same-final i))) e)
+  same-unexplored (mark s kind) = refl
+  same-unexplored (unmark s kind) = refl
 
   same-passed : (c : Change) → passedOver c t ≡ passedOver c u
   unfolding passedOver
-  same-passed c = λ i. same-unexplored c i || not (meets (named c) (same-final i))
+  same-passed c = λ i. same-unexplored c i || not (meets (same-copies (named c) i) (same-final i))
 
   same-keeps : (x : Update) → keepsAll x t ≡ keepsAll x u
   unfolding keepsAll
@@ -76,141 +89,200 @@ module _ (t u : Table) (w : SameView t u) where
 -- ---- what a change makes of a row, of the count of moves and of a mark: each only by what it finds there
 
 -- the state that it names
-unfoldable pub stateOf : Change → ℕ
-stateOf (add e) = e .0
-stateOf (cut e) = e .0
-stateOf (mark s) = s
-stateOf (unmark s) = s
+unfoldable pub stateNamed : Change → ℕ
+stateNamed (add e) = e .0
+stateNamed (cut e) = e .0
+stateNamed (mark s kind) = s
+stateNamed (unmark s kind) = s
 
-pub named-is : (c : Change) → named c ≡ stateOf c ∷ []
-unfolding named stateOf
+pub named-is : (c : Change) → named c ≡ stateNamed c ∷ []
+unfolding named stateNamed
 named-is (add e) = refl
 named-is (cut e) = refl
-named-is (mark s) = refl
-named-is (unmark s) = refl
+named-is (mark s kind) = refl
+named-is (unmark s kind) = refl
 
 -- the row of that state
 unfoldable rowMade : Change → List ℕ → List ℕ
 rowMade (add e) r = r ++ (e .1 ∷ [])
 rowMade (cut e) r = but (e .1) r
-rowMade (mark s) r = r
-rowMade (unmark s) r = r
+rowMade (mark s kind) r = r
+rowMade (unmark s kind) r = r
 
 -- the moves that come, and those that go where that row is r
 unfoldable comes : Change → ℕ
 comes (add e) = 1
 comes (cut e) = 0
-comes (mark s) = 0
-comes (unmark s) = 0
+comes (mark s kind) = 0
+comes (unmark s kind) = 0
 
 unfoldable goes : Change → List ℕ → ℕ
 goes (add e) r = 0
 goes (cut e) r = length r - length (but (e .1) r)
-goes (mark s) r = 0
-goes (unmark s) r = 0
+goes (mark s kind) r = 0
+goes (unmark s kind) r = 0
 
--- its mark
+-- the kind of pay that it names, from 0 on (of a move any), the words of that kind, and its state's mark in them
+unfoldable kindNamed : Change → ℕ
+kindNamed (add e) = 0
+kindNamed (cut e) = 0
+kindNamed (mark s kind) = kind - 1
+kindNamed (unmark s kind) = kind - 1
+
+unfoldable wordsMade : Change → List ℕ → List ℕ
+wordsMade (add e) words = words
+wordsMade (cut e) words = words
+wordsMade (mark s kind) words = withMark words s
+wordsMade (unmark s kind) words = withoutMark words s
+
 unfoldable markMade : Change → Bool → Bool
 markMade (add e) b = b
 markMade (cut e) b = b
-markMade (mark s) b = true
-markMade (unmark s) b = false
+markMade (mark s kind) b = true
+markMade (unmark s kind) b = false
 
-row-here : (c : Change) (t : Table) → row (apply c t .edges) (stateOf c) ≡ rowMade c (row (t .edges) (stateOf c))
-unfolding apply stateOf rowMade
+row-here : (c : Change) (t : Table) → row (apply c t .edges) (stateNamed c) ≡ rowMade c (row (t .edges) (stateNamed c))
+unfolding apply stateNamed rowMade
 row-here (add e) t = row-add (t .edges) e
 row-here (cut e) t = row-cut (t .edges) e
-row-here (mark s) t = refl
-row-here (unmark s) t = refl
+row-here (mark s kind) t = refl
+row-here (unmark s kind) t = refl
 
-row-elsewhere : (c : Change) (t : Table) (x : ℕ) → eqb (stateOf c) x ≡ false → row (apply c t .edges) x ≡ row (t .edges) x
-unfolding apply stateOf
+row-elsewhere : (c : Change) (t : Table) (x : ℕ) → eqb (stateNamed c) x ≡ false → row (apply c t .edges) x ≡ row (t .edges) x
+unfolding apply stateNamed
 row-elsewhere (add e) t x n = row-add-other (t .edges) e x n
 row-elsewhere (cut e) t x n = row-cut-other (t .edges) e x n
-row-elsewhere (mark s) t x n = refl
-row-elsewhere (unmark s) t x n = refl
+row-elsewhere (mark s kind) t x n = refl
+row-elsewhere (unmark s kind) t x n = refl
 
-count-made : (c : Change) (t : Table) → length (apply c t .edges) ≡ length (t .edges) + comes c - goes c (row (t .edges) (stateOf c))
-unfolding apply stateOf comes goes
+count-made : (c : Change) (t : Table) → length (apply c t .edges) ≡ length (t .edges) + comes c - goes c (row (t .edges) (stateNamed c))
+unfolding apply stateNamed comes goes
 count-made (add e) t = omega (arith, length-append (t .edges) (e ∷ []))
 count-made (cut e) t =
     let shorter = filter-short (λ x. not (eqb (e .1) x)) (row (t .edges) (e .0)) in
     omega (arith, ap length (row-cut (t .edges) e), cut-count (t .edges) e, row-short (t .edges) (e .0), shorter)
-count-made (mark s) t = omega arith
-count-made (unmark s) t = omega arith
+count-made (mark s kind) t = omega arith
+count-made (unmark s kind) t = omega arith
 
 goes-few : (c : Change) (r : List ℕ) → goes c r ≤ length r
 unfolding goes
 goes-few (add e) r = omega arith
 goes-few (cut e) r = omega arith
-goes-few (mark s) r = omega arith
-goes-few (unmark s) r = omega arith
+goes-few (mark s kind) r = omega arith
+goes-few (unmark s kind) r = omega arith
+
+-- the entry that is set, where what is set for no words is none
+set-here : (f : List ℕ → List ℕ) → f [] ≡ [] → (marks : List (List ℕ)) (kind : ℕ) → getD (set marks kind (f (getD marks kind []))) kind [] ≡ f (getD marks kind [])
+set-here f e marks kind = by-length (decLt kind (length marks))
+  where
+    by-length : Dec (kind < length marks) → getD (set marks kind (f (getD marks kind []))) kind [] ≡ f (getD marks kind [])
+    by-length (yes h) = getD-set-same marks kind (f (getD marks kind [])) [] h
+    by-length (no h) =
+        let none = List·getD-eq-default marks [] {n = kind} (omega arith) in
+        ap (λ (ms : List (List ℕ)). getD ms kind []) (set-out marks kind (f (getD marks kind [])) (omega arith)) ∙ none ∙ sym (ap f none ∙ e)
 
 -- a change leaves as many words
-words-kept : (c : Change) (t : Table) → length (apply c t .words) ≡ length (t .words)
-unfolding apply withMark withoutMark
-words-kept (add e) t = refl
-words-kept (cut e) t = refl
-words-kept (mark s) t = length-set (t .words) (s / 64) _
-words-kept (unmark s) t = length-set (t .words) (s / 64) _
+words-kept : (c : Change) (ws : List ℕ) → length (wordsMade c ws) ≡ length ws
+unfolding wordsMade withMark withoutMark
+words-kept (add e) ws = refl
+words-kept (cut e) ws = refl
+words-kept (mark s kind) ws = length-set ws (s / 64) _
+words-kept (unmark s kind) ws = length-set ws (s / 64) _
 
-mark-elsewhere : (c : Change) (t : Table) (x : ℕ) → eqb (stateOf c) x ≡ false → accepts (apply c t .words) x ≡ accepts (t .words) x
-unfolding apply stateOf
-mark-elsewhere (add e) t x n = refl
-mark-elsewhere (cut e) t x n = refl
-mark-elsewhere (mark s) t x n = accepts-marked-other (t .words) s x (λ z. contra (rw z (self s)) n)
-mark-elsewhere (unmark s) t x n = accepts-unmarked-other (t .words) s x (λ z. contra (rw z (self s)) n)
+mark-elsewhere : (c : Change) (ws : List ℕ) (x : ℕ) → eqb (stateNamed c) x ≡ false → accepts (wordsMade c ws) x ≡ accepts ws x
+unfolding wordsMade stateNamed
+mark-elsewhere (add e) ws x n = refl
+mark-elsewhere (cut e) ws x n = refl
+mark-elsewhere (mark s kind) ws x n = accepts-marked-other ws s x (λ z. contra (rw z (self s)) n)
+mark-elsewhere (unmark s kind) ws x n = accepts-unmarked-other ws s x (λ z. contra (rw z (self s)) n)
 
 -- where the state has a word
-mark-here : (c : Change) (t : Table) → stateOf c / 64 < length (t .words) → accepts (apply c t .words) (stateOf c) ≡ markMade c (accepts (t .words) (stateOf c))
-unfolding apply stateOf markMade
-mark-here (add e) t h = refl
-mark-here (cut e) t h = refl
-mark-here (mark s) t h = accepts-marked (t .words) s h s ∙ rw (self s)
-mark-here (unmark s) t h = accepts-unmarked (t .words) s h
+mark-here : (c : Change) (ws : List ℕ) → stateNamed c / 64 < length ws → accepts (wordsMade c ws) (stateNamed c) ≡ markMade c (accepts ws (stateNamed c))
+unfolding wordsMade stateNamed markMade
+mark-here (add e) ws h = refl
+mark-here (cut e) ws h = refl
+mark-here (mark s kind) ws h = accepts-marked ws s h s ∙ rw (self s)
+mark-here (unmark s kind) ws h = accepts-unmarked ws s h
 
 -- where it has none, nothing is changed
-mark-nowhere : (c : Change) (t : Table) → length (t .words) ≤ stateOf c / 64 → apply c t .words ≡ t .words
-unfolding apply stateOf withMark withoutMark
-mark-nowhere (add e) t h = refl
-mark-nowhere (cut e) t h = refl
-mark-nowhere (mark s) t h = set-out (t .words) (s / 64) _ h
-mark-nowhere (unmark s) t h = set-out (t .words) (s / 64) _ h
+mark-nowhere : (c : Change) (ws : List ℕ) → length ws ≤ stateNamed c / 64 → wordsMade c ws ≡ ws
+unfolding wordsMade stateNamed withMark withoutMark
+mark-nowhere (add e) ws h = refl
+mark-nowhere (cut e) ws h = refl
+mark-nowhere (mark s kind) ws h = set-out ws (s / 64) _ h
+mark-nowhere (unmark s kind) ws h = set-out ws (s / 64) _ h
+
+-- the words of a kind, behind a change: that of the kind that it names, and of the others
+abbrev wordsOf : Table → ℕ → List ℕ
+wordsOf t kind = getD (t .marks) kind []
+
+kind-here : (c : Change) (t : Table) (kind : ℕ) → eqb kind (kindNamed c) ≡ true → wordsOf (apply c t) kind ≡ wordsMade c (wordsOf t kind)
+unfolding apply inKind kindNamed wordsMade withMark withoutMark
+kind-here (add e) t kind h = refl
+kind-here (cut e) t kind h = refl
+kind-here (mark s k) t kind h = let z : kind ≡ k - 1 = same h in rw z (set-here (λ (ws : List ℕ). withMark ws s) refl (t .marks) (k - 1))
+kind-here (unmark s k) t kind h = let z : kind ≡ k - 1 = same h in rw z (set-here (λ (ws : List ℕ). withoutMark ws s) refl (t .marks) (k - 1))
+
+kind-elsewhere : (c : Change) (t : Table) (kind : ℕ) → eqb kind (kindNamed c) ≡ false → wordsOf (apply c t) kind ≡ wordsOf t kind
+unfolding apply inKind kindNamed
+kind-elsewhere (add e) t kind f = refl
+kind-elsewhere (cut e) t kind f = refl
+kind-elsewhere (mark s k) t kind f = getD-set-other (t .marks) (k - 1) kind _ [] (eqb-false kind (k - 1) f)
+kind-elsewhere (unmark s k) t kind f = getD-set-other (t .marks) (k - 1) kind _ [] (eqb-false kind (k - 1) f)
 
 -- so a row that is the same in two tables is the same behind the change, and so is a mark, where the tables have as many words
 row-alike : (c : Change) (t u : Table) (x : ℕ) → row (t .edges) x ≡ row (u .edges) x → row (apply c t .edges) x ≡ row (apply c u .edges) x
-row-alike c t u x e = ⊎-elim here (λ f. row-elsewhere c t x f ∙ e ∙ sym (row-elsewhere c u x f)) (either (eqb (stateOf c) x))
+row-alike c t u x e = ⊎-elim here (λ f. row-elsewhere c t x f ∙ e ∙ sym (row-elsewhere c u x f)) (either (eqb (stateNamed c) x))
   where
-    here : eqb (stateOf c) x ≡ true → row (apply c t .edges) x ≡ row (apply c u .edges) x
+    here : eqb (stateNamed c) x ≡ true → row (apply c t .edges) x ≡ row (apply c u .edges) x
     here h =
-        let z : x ≡ stateOf c = sym (same h) in
-        let at : row (t .edges) (stateOf c) ≡ row (u .edges) (stateOf c) = rw z at e in
+        let z : x ≡ stateNamed c = sym (same h) in
+        let at : row (t .edges) (stateNamed c) ≡ row (u .edges) (stateNamed c) = rw z at e in
         rw z (row-here c t ∙ ap (rowMade c) at ∙ sym (row-here c u))
 
-mark-alike : (c : Change) (t u : Table) (x : ℕ) → length (t .words) ≡ length (u .words) → accepts (t .words) x ≡ accepts (u .words) x
-    → accepts (apply c t .words) x ≡ accepts (apply c u .words) x
-mark-alike c t u x n e = ⊎-elim here (λ f. mark-elsewhere c t x f ∙ e ∙ sym (mark-elsewhere c u x f)) (either (eqb (stateOf c) x))
+mark-alike : (c : Change) (ws vs : List ℕ) (x : ℕ) → length ws ≡ length vs → accepts ws x ≡ accepts vs x → accepts (wordsMade c ws) x ≡ accepts (wordsMade c vs) x
+mark-alike c ws vs x n e = ⊎-elim here (λ f. mark-elsewhere c ws x f ∙ e ∙ sym (mark-elsewhere c vs x f)) (either (eqb (stateNamed c) x))
   where
-    by-word : Dec (stateOf c / 64 < length (t .words)) → accepts (t .words) (stateOf c) ≡ accepts (u .words) (stateOf c) → accepts (apply c t .words) (stateOf c) ≡ accepts (apply c u .words) (stateOf c)
-    by-word (yes h) at = mark-here c t h ∙ ap (markMade c) at ∙ sym (mark-here c u (omega (arith, n)))
-    by-word (no h) at = rw (mark-nowhere c t (omega arith), mark-nowhere c u (omega (arith, n))) at
+    by-word : Dec (stateNamed c / 64 < length ws) → accepts ws (stateNamed c) ≡ accepts vs (stateNamed c) → accepts (wordsMade c ws) (stateNamed c) ≡ accepts (wordsMade c vs) (stateNamed c)
+    by-word (yes h) at = mark-here c ws h ∙ ap (markMade c) at ∙ sym (mark-here c vs (omega (arith, n)))
+    by-word (no h) at = rw (mark-nowhere c ws (omega arith), mark-nowhere c vs (omega (arith, n))) at
 
-    here : eqb (stateOf c) x ≡ true → accepts (apply c t .words) x ≡ accepts (apply c u .words) x
+    here : eqb (stateNamed c) x ≡ true → accepts (wordsMade c ws) x ≡ accepts (wordsMade c vs) x
     here h =
-        let z : x ≡ stateOf c = sym (same h) in
-        rw z (by-word (decLt (stateOf c / 64) (length (t .words))) (rw z at e))
+        let z : x ≡ stateNamed c = sym (same h) in
+        rw z (by-word (decLt (stateNamed c / 64) (length ws)) (rw z at e))
+
+-- the same of each kind
+kind-kept : (c : Change) (t : Table) (kind : ℕ) → length (wordsOf (apply c t) kind) ≡ length (wordsOf t kind)
+kind-kept c t kind = ⊎-elim
+    (λ h. ap length (kind-here c t kind h) ∙ words-kept c (wordsOf t kind))
+    (λ f. ap length (kind-elsewhere c t kind f)) (either (eqb kind (kindNamed c)))
+
+carried-elsewhere : (c : Change) (t : Table) (kind x : ℕ) → eqb (stateNamed c) x ≡ false → carriedBy (apply c t .marks) kind x ≡ carriedBy (t .marks) kind x
+unfolding carriedBy
+carried-elsewhere c t kind x n = ⊎-elim
+    (λ h. ap (λ (ws : List ℕ). accepts ws x) (kind-here c t kind h) ∙ mark-elsewhere c (wordsOf t kind) x n)
+    (λ f. ap (λ (ws : List ℕ). accepts ws x) (kind-elsewhere c t kind f)) (either (eqb kind (kindNamed c)))
+
+carried-alike : (c : Change) (t u : Table) (kind x : ℕ) → length (wordsOf t kind) ≡ length (wordsOf u kind) → carriedBy (t .marks) kind x ≡ carriedBy (u .marks) kind x
+    → carriedBy (apply c t .marks) kind x ≡ carriedBy (apply c u .marks) kind x
+unfolding carriedBy
+carried-alike c t u kind x n e = ⊎-elim
+    (λ h. rw (kind-here c t kind h, kind-here c u kind h) (mark-alike c (wordsOf t kind) (wordsOf u kind) x n e))
+    (λ f. rw (kind-elsewhere c t kind f, kind-elsewhere c u kind f) e) (either (eqb kind (kindNamed c)))
 
 pub view-refl : (t : Table) → SameView t t
-view-refl t = record { same-size = refl; same-start = refl; same-count = refl; same-row = λ s. refl; same-words = refl; same-marks = λ s. refl }
+view-refl t = record { same-size = refl; same-start = refl; same-kinds = refl; same-count = refl; same-row = λ s. refl; same-words = λ kind. refl; same-marks = λ kind s. refl }
 
 pub view-trans : {t u v : Table} → SameView t u → SameView u v → SameView t v
 view-trans w x = record {
   same-size = w .same-size ∙ x .same-size;
   same-start = w .same-start ∙ x .same-start;
+  same-kinds = w .same-kinds ∙ x .same-kinds;
   same-count = w .same-count ∙ x .same-count;
   same-row = λ s. w .same-row s ∙ x .same-row s;
-  same-words = w .same-words ∙ x .same-words;
-  same-marks = λ s. w .same-marks s ∙ x .same-marks s;
+  same-words = λ kind. w .same-words kind ∙ x .same-words kind;
+  same-marks = λ kind s. w .same-marks kind s ∙ x .same-marks kind s;
 }
 
 -- a change keeps a view
@@ -218,10 +290,11 @@ pub same-apply : (c : Change) {t u : Table} → SameView t u → SameView (apply
 same-apply c {t} {u} w = record {
   same-size = changed-size c t ∙ w .same-size ∙ sym (changed-size c u);
   same-start = changed-start c t ∙ w .same-start ∙ sym (changed-start c u);
-  same-count = count-made c t ∙ (λ i. w .same-count i + comes c - goes c (w .same-row (stateOf c) i)) ∙ sym (count-made c u);
+  same-kinds = changed-kinds c t ∙ w .same-kinds ∙ sym (changed-kinds c u);
+  same-count = count-made c t ∙ (λ i. w .same-count i + comes c - goes c (w .same-row (stateNamed c) i)) ∙ sym (count-made c u);
   same-row = λ s. row-alike c t u s (w .same-row s);
-  same-words = words-kept c t ∙ w .same-words ∙ sym (words-kept c u);
-  same-marks = λ s. mark-alike c t u s (w .same-words) (w .same-marks s);
+  same-words = λ kind. kind-kept c t kind ∙ w .same-words kind ∙ sym (kind-kept c u kind);
+  same-marks = λ kind s. carried-alike c t u kind s (w .same-words kind) (w .same-marks kind s);
 }
 
 pub same-apply-all : (cs : List Change) {t u : Table} → SameView t u → SameView (applyAll cs t) (applyAll cs u)
@@ -230,26 +303,27 @@ same-apply-all [] w = w
 same-apply-all (c ∷ cs) w = same-apply-all cs (same-apply c w)
 
 -- TWO CHANGES that name different states, in both orders
-pub commute : (c d : Change) (t : Table) → eqb (stateOf c) (stateOf d) ≡ false → SameView (apply d (apply c t)) (apply c (apply d t))
+pub commute : (c d : Change) (t : Table) → eqb (stateNamed c) (stateNamed d) ≡ false → SameView (apply d (apply c t)) (apply c (apply d t))
 commute c d t n = record {
   same-size = changed-size d (apply c t) ∙ changed-size c t ∙ sym (changed-size c (apply d t) ∙ changed-size d t);
   same-start = changed-start d (apply c t) ∙ changed-start c t ∙ sym (changed-start c (apply d t) ∙ changed-start d t);
+  same-kinds = changed-kinds d (apply c t) ∙ changed-kinds c t ∙ sym (changed-kinds c (apply d t) ∙ changed-kinds d t);
   same-count = counts;
   same-row = λ s. ⊎-elim
       (λ h. row-elsewhere d (apply c t) s (apart s h) ∙ row-alike c t (apply d t) s (sym (row-elsewhere d t s (apart s h))))
-      (λ f. row-alike d (apply c t) t s (row-elsewhere c t s f) ∙ sym (row-elsewhere c (apply d t) s f)) (either (eqb (stateOf c) s));
-  same-words = words-kept d (apply c t) ∙ words-kept c t ∙ sym (words-kept c (apply d t) ∙ words-kept d t);
-  same-marks = λ s. ⊎-elim
-      (λ h. mark-elsewhere d (apply c t) s (apart s h) ∙ mark-alike c t (apply d t) s (sym (words-kept d t)) (sym (mark-elsewhere d t s (apart s h))))
-      (λ f. mark-alike d (apply c t) t s (words-kept c t) (mark-elsewhere c t s f) ∙ sym (mark-elsewhere c (apply d t) s f)) (either (eqb (stateOf c) s));
+      (λ f. row-alike d (apply c t) t s (row-elsewhere c t s f) ∙ sym (row-elsewhere c (apply d t) s f)) (either (eqb (stateNamed c) s));
+  same-words = λ kind. kind-kept d (apply c t) kind ∙ kind-kept c t kind ∙ sym (kind-kept c (apply d t) kind ∙ kind-kept d t kind);
+  same-marks = λ kind s. ⊎-elim
+      (λ h. carried-elsewhere d (apply c t) kind s (apart s h) ∙ carried-alike c t (apply d t) kind s (sym (kind-kept d t kind)) (sym (carried-elsewhere d t kind s (apart s h))))
+      (λ f. carried-alike d (apply c t) t kind s (kind-kept c t kind) (carried-elsewhere c t kind s f) ∙ sym (carried-elsewhere c (apply d t) kind s f)) (either (eqb (stateNamed c) s));
 }
   where
     -- what the one names is not what the other names
-    turned : eqb (stateOf d) (stateOf c) ≡ false
-    turned = not-true (eqb (stateOf d) (stateOf c)) (λ h. let z : stateOf d ≡ stateOf c = same h in contra (rw z (self (stateOf c))) n)
+    turned : eqb (stateNamed d) (stateNamed c) ≡ false
+    turned = not-true (eqb (stateNamed d) (stateNamed c)) (λ h. let z : stateNamed d ≡ stateNamed c = same h in contra (rw z (self (stateNamed c))) n)
 
-    apart : (s : ℕ) → eqb (stateOf c) s ≡ true → eqb (stateOf d) s ≡ false
-    apart s h = let z : s ≡ stateOf c = sym (same h) in rw z turned
+    apart : (s : ℕ) → eqb (stateNamed c) s ≡ true → eqb (stateNamed d) s ≡ false
+    apart s h = let z : s ≡ stateNamed c = sym (same h) in rw z turned
 
     counts : length (apply d (apply c t) .edges) ≡ length (apply c (apply d t) .edges)
     counts =
@@ -258,23 +332,23 @@ commute c d t n = record {
           arith,
           count-made c t,
           count-made d t,
-          count-made d (apply c t) ∙ ap (λ (r : List ℕ). length (apply c t .edges) + comes d - goes d r) (row-elsewhere c t (stateOf d) n),
-          count-made c (apply d t) ∙ ap (λ (r : List ℕ). length (apply d t .edges) + comes c - goes c r) (row-elsewhere d t (stateOf c) turned),
-          goes-few c (row es (stateOf c)),
-          goes-few d (row es (stateOf d)),
-          row-short es (stateOf c),
-          row-short es (stateOf d),
+          count-made d (apply c t) ∙ ap (λ (r : List ℕ). length (apply c t .edges) + comes d - goes d r) (row-elsewhere c t (stateNamed d) n),
+          count-made c (apply d t) ∙ ap (λ (r : List ℕ). length (apply d t .edges) + comes c - goes c r) (row-elsewhere d t (stateNamed c) turned),
+          goes-few c (row es (stateNamed c)),
+          goes-few d (row es (stateNamed d)),
+          row-short es (stateNamed c),
+          row-short es (stateNamed d),
         )
 
 -- ---- so every call is answered alike, and leaves the same view
 
 same-change : (c : Change) {t u : Table} → SameView t u → (room : ℕ) → changeTrial c t room ≡ changeTrial c u room
 unfolding changeTrial
-same-change c {t} {u} w room = λ i. firstHeld (same-conditions t u w c i ++ roomCondition (w .same-size i) room)
+same-change c {t} {u} w room = λ i. firstHeld ((1, misnamed c) ∷ (same-conditions t u w c i ++ roomCondition (w .same-size i) (w .same-kinds i) room))
 
 same-line : (n : ℕ) (x : BatchLine) {t u : Table} → SameView t u → lineConditions n x t ≡ lineConditions n x u
 unfolding lineConditions
-same-line n (makes c) {t} {u} w = ap (λ (cs : List (ℕ × Bool)). (15, ltb 64 n) ∷ cs) (same-conditions t u w c)
+same-line n (makes c) {t} {u} w = ap (λ (cs : List (ℕ × Bool)). (1, misnamed c) ∷ (15, ltb 64 n) ∷ cs) (same-conditions t u w c)
 same-line n other w = refl
 
 same-lines : (n : ℕ) (xs : List BatchLine) {t u : Table} → SameView t u → linesTrial n xs t ≡ linesTrial n xs u
@@ -288,12 +362,12 @@ same-lines n (x ∷ xs) {t} {u} w = by-trial (firstHeld (lineConditions n x t)) 
     by-trial (refused m) e rest = line-refused n x xs t m e ∙ sym (line-refused n x xs u m (ap firstHeld (sym (same-line n x w)) ∙ e))
 
 same-batch : (xs : List BatchLine) {t u : Table} → SameView t u → (room : ℕ) → batchTrial xs t room ≡ batchTrial xs u room
-same-batch xs {t} {u} w room = by-trial (firstHeld (roomCondition (t .size) room)) refl
+same-batch xs {t} {u} w room = by-trial (firstHeld (roomCondition (t .size) (t .kinds) room)) refl
   where
-    here : firstHeld (roomCondition (u .size) room) ≡ firstHeld (roomCondition (t .size) room)
-    here = ap (λ (n : ℕ). firstHeld (roomCondition n room)) (sym (w .same-size))
+    here : firstHeld (roomCondition (u .size) (u .kinds) room) ≡ firstHeld (roomCondition (t .size) (t .kinds) room)
+    here = λ i. firstHeld (roomCondition (sym (w .same-size) i) (sym (w .same-kinds) i) room)
 
-    by-trial : (y : Trial) → firstHeld (roomCondition (t .size) room) ≡ y → batchTrial xs t room ≡ batchTrial xs u room
+    by-trial : (y : Trial) → firstHeld (roomCondition (t .size) (t .kinds) room) ≡ y → batchTrial xs t room ≡ batchTrial xs u room
     by-trial accepted e = batch-tried xs t room e ∙ same-lines 1 xs w ∙ sym (batch-tried xs u room (here ∙ e))
     by-trial (refused m) e = batch-short xs t room m e ∙ sym (batch-short xs u room m (here ∙ e))
 
@@ -323,6 +397,10 @@ same-kept x {t} {u} w = ap count (⊎-elim
     (λ k. kept-meeting x t k ∙ same-meeting (applied x t) (applied x u) (same-applied x w) (namedBy x) ∙ sym (kept-meeting x u (sym (same-keeps t u w x) ∙ k)))
     (either (keepsAll x t)))
 
+-- the verdict, as it is printed
+pub same-shown : (t u : Table) → SameView t u → printedVerdict t (verdict (final t)) ≡ printedVerdict u (verdict (final u))
+same-shown t u w = ap (λ (c : Config). printedVerdict t (verdict c)) (same-final t u w) ∙ printed-alike t u (w .same-size) (w .same-kinds) (verdict (final u))
+
 -- one call
 pub record OneCall (c : Call) (t u : Table) : Type 0 where
   pub same-answer : answerTo c t ≡ answerTo c u
@@ -336,8 +414,9 @@ same-call c {t} {u} w = by-trial (trialOf c t) refl
         let f : trialOf c u ≡ accepted = sym (same-trial c w) ∙ e in
         let end = same-final (applied (c .update) t) (applied (c .update) u) (same-applied (c .update) w) in
         let k = same-kept (c .update) w in
+        let shown = same-shown (applied (c .update) t) (applied (c .update) u) (same-applied (c .update) w) in
         record {
-          same-answer = answer-accepted c t e ∙ (λ i. answer (verdict (end i)) (count (end i) - k i) (k i)) ∙ sym (answer-accepted c u f);
+          same-answer = answer-accepted c t e ∙ (λ i. answer (shown i) (count (end i) - k i) (k i)) ∙ sym (answer-accepted c u f);
           same-view = rw (table-accepted c t e, table-accepted c u f) (same-applied (c .update) w);
         }
     by-trial (refused n) e =

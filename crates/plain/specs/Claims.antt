@@ -4,12 +4,13 @@ use mathlib.Core.Path.{_≡_}
 use mathlib.Core.Logic.{_≢_}
 use mathlib.Core.Bool.{Bool, true, false}
 use mathlib.Core.List.{List, [], _∷_, _++_, map}
+use lib.Dec.{leb}
 use lib.ListN.{length, take, drop}
-use Rattle.plain.specs.Lists.{any, filter}
+use Rattle.plain.specs.Lists.{any, filter, Once}
 use Rattle.plain.specs.Search.{Edge, Verdict, none, lasso, unfinished, verdict, count, taken}
-use Rattle.plain.specs.Cycles.{FreeRound, AcceptingLoop, Lasso}
-use Rattle.plain.specs.Table.{Table, graphOf, final, firstMeeting}
-use Rattle.plain.specs.Refusals.{accepted, refused, flat, Load, loadTrial, sameEdge}
+use Rattle.plain.specs.Cycles.{FreeRound, FullRound, FullLoop, FullLasso}
+use Rattle.plain.specs.Table.{Table, graphOf, gameOf, searched, copiesIn, printed, printedVerdict, plainEdge, final, firstMeeting}
+use Rattle.plain.specs.Refusals.{accepted, refused, flat, full, Load, loadTrial, sameEdge}
 use Rattle.plain.specs.Machine.{Change, apply, changeTrial, BatchLine, makes, changesIn, Update, applied, namedBy, atLine, keepsAll, keptPart, Answer, refusal, answer, tableOf, loadAnswer, Call, callFor, batchCall, trialOf, answerTo, tableAfter, answers, Line, gameLine, roundLine, noneLine, noLine, waysLine}
 use Rattle.plain.specs.Questions.{outDegree, inDegree}
 
@@ -23,15 +24,16 @@ unfoldable pub times : Edge → List Edge → ℕ
 times e looks = length (filter (sameEdge e) looks)
 
 -- Demand 2: ""None" exactly when no free round can be reached from the start state; otherwise a walk that the present table really has, into a
--- free round and once along it." With it, from the plain search's section: the walk has at most N states; the looks are at most twice the moves, and
--- no move is looked at more than twice.
+-- free round and once along it." Ticket 9: ""None" must mean that no reachable closed run passes all kinds, whatever states it repeats." With it, from the plain search's section
+-- and the ticket: "no layered state occurs twice in the walk", which so has at most N × K entries; the looks are "those of the layers, at most two at each move in each layer".
 pub record VerdictRight (t : Table) : Type 0 where
   pub ends : verdict (final t) ≢ unfinished
-  pub none-only : verdict (final t) ≡ none → FreeRound (graphOf t) → ⊥
-  pub none-if : (FreeRound (graphOf t) → ⊥) → verdict (final t) ≡ none
-  pub walk : (stem cycle : List ℕ) → verdict (final t) ≡ lasso stem cycle → Lasso (graphOf t) stem cycle
-  pub short : (stem cycle : List ℕ) → verdict (final t) ≡ lasso stem cycle → length stem + length cycle ≤ t .size
-  pub looks : count (final t) ≤ 2 * length (t .edges)
+  pub none-only : verdict (final t) ≡ none → FullRound (gameOf t) → ⊥
+  pub none-if : (FullRound (gameOf t) → ⊥) → verdict (final t) ≡ none
+  pub walk : (stem cycle : List ℕ) → verdict (final t) ≡ lasso stem cycle → FullLasso (gameOf t) (printed t stem) (printed t cycle)
+  pub once : (stem cycle : List ℕ) → verdict (final t) ≡ lasso stem cycle → Once (stem ++ cycle)
+  pub short : (stem cycle : List ℕ) → verdict (final t) ≡ lasso stem cycle → length stem + length cycle ≤ t .size * t .kinds
+  pub looks : count (final t) ≤ 2 * (length (t .edges) * t .kinds)
   pub each : (e : Edge) → times e (taken (final t)) ≤ 2
 
 -- A verdict as a caller gets it: "none", or "round" with the lengths of stem and round, and the walk.
@@ -39,7 +41,7 @@ pub data Report : Type 0 where
   clear : Report
   round : ℕ → ℕ → List ℕ → Report
 
--- The verdict of the plain search as a caller gets it. Of no table that a session can hold is it `unfinished` (VerdictRight, `ends`): that would be
+-- A printed verdict as a caller gets it. Of no table that a session can hold is it `unfinished` (VerdictRight, `ends`): that would be
 -- a round without a state, which is right of no table.
 unfoldable pub reportOf : Verdict → Report
 reportOf none = clear
@@ -47,12 +49,12 @@ reportOf (lasso stem cycle) = round (length stem) (length cycle) (stem ++ cycle)
 reportOf unfinished = round 0 0 []
 
 -- Demand 2 of such a verdict: "none" exactly when no free round can be reached; otherwise the walk has the lengths told, and is a stem and a round of
--- the table.
+-- the table, which passes all kinds.
 pub record ReportRight (r : Report) (t : Table) : Type 0 where
-  pub clear-only : r ≡ clear → FreeRound (graphOf t) → ⊥
-  pub clear-if : (FreeRound (graphOf t) → ⊥) → r ≡ clear
+  pub clear-only : r ≡ clear → FullRound (gameOf t) → ⊥
+  pub clear-if : (FullRound (gameOf t) → ⊥) → r ≡ clear
   pub lengths : (stem cycle : ℕ) (walk : List ℕ) → r ≡ round stem cycle walk → length walk ≡ stem + cycle
-  pub lasso-there : (stem cycle : ℕ) (walk : List ℕ) → r ≡ round stem cycle walk → Lasso (graphOf t) (take stem walk) (drop stem walk)
+  pub lasso-there : (stem cycle : ℕ) (walk : List ℕ) → r ≡ round stem cycle walk → FullLasso (gameOf t) (take stem walk) (drop stem walk)
 
 -- the changes are accepted one by one, each on the table that those before it leave
 abbrev pub AllAccepted : ℕ → List Change → Table → Type 0
@@ -63,7 +65,7 @@ AllAccepted room (c ∷ cs) t = (changeTrial c t room ≡ accepted) × AllAccept
 pub record KeptRight (u : Update) (t : Table) (spent kept : ℕ) : Type 0 where
   -- Ticket 4, of moves that the search had not come to, and ticket 5 of a batch of such: "the new run is the old one", the same looks, move for move, and the same
   -- verdict and walk. "Spent is then 0 and kept is the full count."
-  pub same-run : keepsAll u t ≡ true → (taken (final (applied u t)) ≡ taken (final t)) × (verdict (final (applied u t)) ≡ verdict (final t))
+  pub same-run : keepsAll u t ≡ true → (taken (final (applied u t)) ≡ taken (final t)) × (printedVerdict (applied u t) (verdict (final (applied u t))) ≡ printedVerdict t (verdict (final t)))
   pub all-kept : keepsAll u t ≡ true → (spent ≡ 0) × (kept ≡ count (final (applied u t)))
   -- "In all other cases kept is counted as before": "Kept is the looks which that search makes before it first meets the state that the changed move leaves (all if
   -- never)", or the state marked or unmarked; of a batch, "a state that any of them names"
@@ -82,7 +84,7 @@ totalled (answer v spent kept) = answer v (kept + spent) 0
 
 -- the load of a table as it stands: its marks and its moves are those of that moment
 unfoldable pub loadFrom : Table → Load
-loadFrom t = record { size = t .size; start = t .start; words = t .words; numbers = flat (t .edges) }
+loadFrom t = record { size = t .size; start = t .start; kinds = t .kinds; marks = t .marks; numbers = flat (t .edges) }
 
 -- Of an accepted call, and the table t that it finds: "Anyone comparing with a fresh load uses the marks of that moment" (document 02, ticket 2). A load of the
 -- table as the call leaves it answers with the same verdict and walk; its looks, all spent, are those kept and those spent.
@@ -113,8 +115,8 @@ pub record OneByOne (xs : List BatchLine) (t : Table) (room : ℕ) : Type 0 wher
 -- A batch of one change is that change: where the lent list has room it is refused with the same number, the line's position being 1, and where it is accepted the
 -- answer is the same, the counts too. Either way it leaves the same table.
 pub record AsOne (c : Change) (t : Table) (room : ℕ) : Type 0 where
-  pub same-number : t .size ≤ room → trialOf (batchCall room (makes c ∷ [])) t ≡ trialOf (callFor room c) t
-  pub position-1 : t .size ≤ room → (n : ℕ) → trialOf (callFor room c) t ≡ refused n → answerTo (batchCall room (makes c ∷ [])) t ≡ refusal (record { number = n; position = atLine 1 })
+  pub same-number : t .size * t .kinds ≤ room → trialOf (batchCall room (makes c ∷ [])) t ≡ trialOf (callFor room c) t
+  pub position-1 : t .size * t .kinds ≤ room → (n : ℕ) → trialOf (callFor room c) t ≡ refused n → answerTo (batchCall room (makes c ∷ [])) t ≡ refusal (record { number = n; position = atLine 1 })
   pub same-answer : trialOf (callFor room c) t ≡ accepted → answerTo (batchCall room (makes c ∷ [])) t ≡ answerTo (callFor room c) t
   pub same-table : tableAfter (batchCall room (makes c ∷ [])) t ≡ tableAfter (callFor room c) t
 
@@ -135,9 +137,9 @@ NotNone (noneLine spent kept) = ⊥
 NotNone (noLine r) = Unit {0}
 NotNone (waysLine s leaving entering) = Unit {0}
 
--- Document 02, ticket 1, "The trade counts such a repeat as a round": where a paying state with a move to itself can be reached, the line does not say "none".
+-- Document 02, ticket 1, "The trade counts such a repeat as a round": where a paying state with a move to itself can be reached, which carries every kind in use, the line does not say "none".
 abbrev pub LoopTold : Line → Table → Type 0
-LoopTold l t = AcceptingLoop (graphOf t) → NotNone l
+LoopTold l t = FullLoop (gameOf t) → NotNone l
 
 -- The looks that the line of an accepted call tells are right; t is the table as the call finds it.
 abbrev pub LineCounted : Line → Update → Table → Type 0
@@ -154,3 +156,21 @@ pub record Handed (n : ℕ) (cs : List (ℕ × Bool)) : Type 0 where
   pub later : List (ℕ × Bool)
   pub tried : cs ≡ earlier ++ ((n, true) ∷ later)
   pub none-earlier : any (λ (c : ℕ × Bool). c .1) earlier ≡ false
+
+-- ---- ticket 9, with one kind
+
+-- "K = 1, also where the line is missing, gives the old results": the graph that is searched is the game's own, whose free rounds are those of document 01; each state is its only copy, a look is at
+-- the move itself, and what is found is printed as it is; 9 and 11 are document 01's.
+pub record OldResults (t : Table) : Type 0 where
+  pub same-graph : searched t ≡ graphOf t
+  pub rounds-free : FullRound (gameOf t) → FreeRound (graphOf t)
+  pub free-rounds : FreeRound (graphOf t) → FullRound (gameOf t)
+  pub same-states : (named : List ℕ) → copiesIn t named ≡ named
+  pub same-looks : (e : Edge) → plainEdge t e ≡ e
+  pub same-verdict : (v : Verdict) → printedVerdict t v ≡ v
+  pub same-full : (es : List Edge) → full (t .kinds) es ≡ leb 2048 (length es)
+  pub same-room : t .size * t .kinds ≡ t .size
+
+-- and no load is refused with 16
+abbrev pub Never16 : Type 0
+Never16 = (l : Load) (room : ℕ) → l .kinds ≡ 1 → loadTrial l room ≢ refused 16

@@ -17,13 +17,17 @@ unfoldable pub wordOf : List ℕ → ℕ
 wordOf [] = 0
 wordOf (s ∷ ss) = 2 ^ s + wordOf ss
 
--- N states, start 0, the paying states, the moves as numbers
+-- the marks of four kinds: of each, the states that carry it, each below 64
+unfoldable pub marksOf : List ℕ → List ℕ → List ℕ → List ℕ → List (List ℕ)
+marksOf first second third fourth = map (λ states. wordOf states ∷ replicate 7 0) (first ∷ second ∷ third ∷ fourth ∷ [])
+
+-- N states, start 0, K, the marks, the moves as numbers
+unfoldable pub knownIn : ℕ → ℕ → List (List ℕ) → List ℕ → List Update → List Line → Known
+knownIn n k marks numbers us ls = record { load = record { size = n; start = 0; kinds = k; marks = marks; numbers = numbers }; updates = us; lines = ls }
+
+-- one kind of pay: N states, start 0, the paying states, the moves as numbers
 unfoldable pub knownBy : ℕ → List ℕ → List ℕ → List Update → List Line → Known
-knownBy n paying numbers us ls = record {
-  load = record { size = n; start = 0; words = wordOf paying ∷ replicate 7 0; numbers = numbers };
-  updates = us;
-  lines = ls;
-}
+knownBy n paying numbers us ls = knownIn n 1 (marksOf paying [] [] []) numbers us ls
 
 -- the same with changes, each a call of its own
 unfoldable pub known : ℕ → List ℕ → List ℕ → List Change → List Line → Known
@@ -45,7 +49,7 @@ returning = known 2 (1 ∷ []) (0 ∷ 1 ∷ 1 ∷ 0 ∷ 1 ∷ 1 ∷ []) [] (game
 -- a state's pay goes on and off, so many times
 unfoldable pub switching : ℕ → List BatchLine
 switching zero = []
-switching (suc n) = makes (mark 0) ∷ makes (unmark 0) ∷ switching n
+switching (suc n) = makes (mark 0 1) ∷ makes (unmark 0 1) ∷ switching n
 
 unfoldable pub games : List Known
 games =
@@ -99,7 +103,7 @@ games =
     -- a move to itself on the paying state, beside a longer round that is found first
     ∷ returning
     -- Ticket 2: game A with its round; the paying state is unmarked, and marked again; then the start state
-    ∷ known 4 (2 ∷ []) (0 ∷ 1 ∷ 1 ∷ 2 ∷ []) (add (2, 1) ∷ unmark 2 ∷ unmark 2 ∷ mark 2 ∷ mark 2 ∷ mark 0 ∷ unmark 0 ∷ [])
+    ∷ known 4 (2 ∷ []) (0 ∷ 1 ∷ 1 ∷ 2 ∷ []) (add (2, 1) ∷ unmark 2 1 ∷ unmark 2 1 ∷ mark 2 1 ∷ mark 2 1 ∷ mark 0 1 ∷ unmark 0 1 ∷ [])
     (gameLine 4 2 1
     ∷ noneLine 2 0
     ∷ roundLine 2 2 1 2 (0 ∷ 1 ∷ 2 ∷ [])
@@ -112,7 +116,7 @@ games =
     ∷ [])
     -- a state never met, one on the stem, the payer, one on the round, the start state, states outside
     ∷ known 5 (3 ∷ []) (0 ∷ 1 ∷ 1 ∷ 2 ∷ 2 ∷ 3 ∷ 3 ∷ 2 ∷ [])
-    (mark 4 ∷ mark 4 ∷ mark 1 ∷ unmark 3 ∷ unmark 3 ∷ mark 2 ∷ mark 0 ∷ mark 5 ∷ unmark 512 ∷ unmark 1 ∷ [])
+    (mark 4 1 ∷ mark 4 1 ∷ mark 1 1 ∷ unmark 3 1 ∷ unmark 3 1 ∷ mark 2 1 ∷ mark 0 1 ∷ mark 5 1 ∷ unmark 512 1 ∷ unmark 1 1 ∷ [])
     (gameLine 5 4 1
     ∷ roundLine 5 0 2 2 (0 ∷ 1 ∷ 2 ∷ 3 ∷ [])
     ∷ roundLine 0 5 2 2 (0 ∷ 1 ∷ 2 ∷ 3 ∷ [])
@@ -127,7 +131,7 @@ games =
     ∷ roundLine 5 1 2 2 (0 ∷ 1 ∷ 2 ∷ 3 ∷ [])
     ∷ [])
     -- a mark by which another round is found first, and without it the old one
-    ∷ known 3 (2 ∷ []) (0 ∷ 1 ∷ 0 ∷ 2 ∷ 1 ∷ 0 ∷ 2 ∷ 0 ∷ []) (mark 1 ∷ unmark 1 ∷ unmark 2 ∷ mark 1 ∷ [])
+    ∷ known 3 (2 ∷ []) (0 ∷ 1 ∷ 0 ∷ 2 ∷ 1 ∷ 0 ∷ 2 ∷ 0 ∷ []) (mark 1 1 ∷ unmark 1 1 ∷ unmark 2 1 ∷ mark 1 1 ∷ [])
     (gameLine 3 4 1
     ∷ roundLine 5 0 0 2 (0 ∷ 2 ∷ [])
     ∷ roundLine 2 1 0 2 (0 ∷ 1 ∷ [])
@@ -138,7 +142,7 @@ games =
     -- Ticket 4: moves behind the one along the stem go and come, one at a state whose last move leads along it, one at a state never met; then moves of a state
     -- that has finished, behind the stem again, a mark, a move of the tip, the move along the stem, a move after "none", and one that was looked at first
     ∷ known 5 (3 ∷ []) (0 ∷ 1 ∷ 0 ∷ 2 ∷ 0 ∷ 4 ∷ 2 ∷ 3 ∷ 3 ∷ 2 ∷ [])
-    (cut (0, 4) ∷ add (0, 3) ∷ add (2, 4) ∷ add (4, 0) ∷ add (1, 4) ∷ cut (2, 4) ∷ cut (0, 3) ∷ mark 2 ∷ add (3, 0) ∷ cut (2, 3) ∷ add (2, 0) ∷ cut (0, 1) ∷ [])
+    (cut (0, 4) ∷ add (0, 3) ∷ add (2, 4) ∷ add (4, 0) ∷ add (1, 4) ∷ cut (2, 4) ∷ cut (0, 3) ∷ mark 2 1 ∷ add (3, 0) ∷ cut (2, 3) ∷ add (2, 0) ∷ cut (0, 1) ∷ [])
     (gameLine 5 5 1
     ∷ roundLine 5 0 1 2 (0 ∷ 2 ∷ 3 ∷ [])
     ∷ roundLine 0 5 1 2 (0 ∷ 2 ∷ 3 ∷ [])
@@ -168,7 +172,7 @@ games =
     -- Ticket 5: 64 changes in a batch, and the 65th line: a change, a change that names a state outside, one that is no change; and 66 changes
     ∷ knownBy 1 [] []
     (batch (switching 32)
-    ∷ batch (switching 32 ++ (makes (mark 0) ∷ []))
+    ∷ batch (switching 32 ++ (makes (mark 0 1) ∷ []))
     ∷ batch (switching 32 ++ (makes (add (9, 9)) ∷ []))
     ∷ batch (switching 32 ++ (other ∷ []))
     ∷ batch (switching 33)
@@ -188,7 +192,7 @@ games =
     ∷ batch (makes (add (4, 0)) ∷ makes (add (1, 4)) ∷ [])
     ∷ batch (makes (cut (2, 3)) ∷ makes (add (3, 0)) ∷ [])
     ∷ batch (makes (add (2, 3)) ∷ [])
-    ∷ batch (makes (mark 1) ∷ makes (add (3, 1)) ∷ [])
+    ∷ batch (makes (mark 1 1) ∷ makes (add (3, 1)) ∷ [])
     ∷ [])
     (gameLine 5 5 1
     ∷ roundLine 5 0 1 2 (0 ∷ 2 ∷ 3 ∷ [])
@@ -199,4 +203,16 @@ games =
     ∷ roundLine 5 4 1 2 (0 ∷ 2 ∷ 3 ∷ [])
     ∷ roundLine 4 1 0 3 (0 ∷ 1 ∷ 4 ∷ [])
     ∷ [])
+    -- Ticket 9: two kinds; the round goes, comes shorter, and comes another way; a state is marked with the other kind
+    ∷ knownIn 3 2 (marksOf (0 ∷ 2 ∷ []) (1 ∷ []) [] []) (0 ∷ 1 ∷ 1 ∷ 2 ∷ 2 ∷ 0 ∷ []) (map single (cut (2, 0) ∷ add (2, 1) ∷ add (1, 0) ∷ mark 2 2 ∷ []))
+    (gameLine 3 3 3
+    ∷ roundLine 6 0 1 3 (0 ∷ 1 ∷ 2 ∷ 0 ∷ [])
+    ∷ noneLine 2 2
+    ∷ roundLine 2 2 1 2 (0 ∷ 1 ∷ 2 ∷ [])
+    ∷ roundLine 0 4 1 2 (0 ∷ 1 ∷ 2 ∷ [])
+    ∷ roundLine 2 2 1 2 (0 ∷ 1 ∷ 2 ∷ [])
+    ∷ [])
+    -- three kinds: a round that passes state 0 three times
+    ∷ knownIn 4 3 (marksOf (1 ∷ []) (2 ∷ []) (3 ∷ []) []) (0 ∷ 1 ∷ 1 ∷ 0 ∷ 0 ∷ 2 ∷ 2 ∷ 0 ∷ 0 ∷ 3 ∷ []) (map single (add (3, 0) ∷ cut (0, 2) ∷ []))
+    (gameLine 4 5 3 ∷ noneLine 26 0 ∷ roundLine 14 11 0 6 (0 ∷ 1 ∷ 0 ∷ 2 ∷ 0 ∷ 3 ∷ []) ∷ noneLine 13 0 ∷ [])
     ∷ []

@@ -20,14 +20,14 @@ unfoldable pub stateOf : ℕ → ℕ → ℕ → ℕ
 stateOf n zero v = v
 stateOf n (suc m) v = elim (ltb v n) [ true ↦ v | false ↦ stateOf n m (v - n) ]
 
--- the copies of a state in k layers, and of several states: "any copy of the named state"
+-- the copies of a state, one in each layer, and of several states: "any copy of the named state"
 unfoldable pub copies : ℕ → ℕ → ℕ → List ℕ
-copies n zero s = []
-copies n (suc k) s = copy n k s ∷ copies n k s
+copies n zero s = copy n 0 s ∷ []
+copies n (suc m) s = copy n (suc m) s ∷ copies n m s
 
 unfoldable pub copiesOf : ℕ → ℕ → List ℕ → List ℕ
-copiesOf n k [] = []
-copiesOf n k (s ∷ ss) = copies n k s ++ copiesOf n k ss
+copiesOf n m [] = []
+copiesOf n m (s ∷ ss) = copies n m s ++ copiesOf n m ss
 
 -- the next of k layers, "and from the last .. the first"
 unfoldable pub next : ℕ → ℕ → ℕ

@@ -1,39 +1,43 @@
 -- Document 01, "The plain table" and "Load, add, cut": what each call answers, and what it leaves. Document 02, ticket 2: the paying marks can be switched too;
--- ticket 4: what is kept of moves that the search had not come to; ticket 5: batches of changes. Assumes nothing.
+-- ticket 4: what is kept of moves that the search had not come to; ticket 5: batches of changes; ticket 9: kinds of pay. Assumes nothing.
 use Prim.Native.Nat.{ℕ, suc, _+_, _-_}
 use mathlib.Core.Bool.{Bool, true, false, _||_, not}
-use mathlib.Core.List.{List, [], _∷_, _++_}
-use lib.Dec.{ltb}
-use lib.ListN.{length, drop}
-use Rattle.plain.specs.Lists.{all, filter}
+use mathlib.Core.List.{List, [], _∷_, _++_, map}
+use lib.Dec.{eqb, ltb}
+use lib.ListN.{length, drop, getD, set}
+use Rattle.plain.specs.Lists.{any, all, filter}
 use Rattle.plain.specs.Search.{Edge, Config, probesOf, meets, finished, Verdict, none, lasso, unfinished, verdict, count}
-use Rattle.plain.specs.Table.{Table, accepts, withMark, withoutMark, searched, budget, final, firstMeeting, acceptingCount}
+use Rattle.plain.specs.Table.{Table, carriedBy, withMark, withoutMark, searched, copiesIn, plainEdge, printedVerdict, budget, final, firstMeeting, acceptingCount}
 use Rattle.plain.specs.Refusals.{Trial, accepted, refused, firstHeld, pairs, sameEdge, present, outside, beyond, full, roomCondition, Load, loadTrial}
 
 -- A change of a session. Tickets of document 02 bring more kinds.
 pub data Change : Type 0 where
   add : Edge → Change
   cut : Edge → Change
-  -- ticket 2: "turns a state's pay on or off in mid-session"
-  mark : ℕ → Change
-  unmark : ℕ → Change
+  -- ticket 2: "turns a state's pay on or off in mid-session"; ticket 9: the state and the kind, which counts from 1 as on the lines
+  mark : ℕ → ℕ → Change
+  unmark : ℕ → ℕ → Change
 
 -- the states that it names: "the state that the move leaves"; of a mark, "that state"
 unfoldable pub named : Change → List ℕ
 named (add e) = e .0 ∷ []
 named (cut e) = e .0 ∷ []
-named (mark s) = s ∷ []
-named (unmark s) = s ∷ []
+named (mark s kind) = s ∷ []
+named (unmark s kind) = s ∷ []
 
 -- "An accepted load sets these as given, its moves in their order."
 unfoldable pub tableOf : Load → Table
-tableOf l = record { size = l .size; start = l .start; words = l .words; edges = pairs (l .numbers) }
+tableOf l = record { size = l .size; start = l .start; kinds = l .kinds; marks = l .marks; edges = pairs (l .numbers) }
 
 abbrev pub withEdges : Table → List Edge → Table
-withEdges t es = record { size = t .size; start = t .start; words = t .words; edges = es }
+withEdges t es = record { size = t .size; start = t .start; kinds = t .kinds; marks = t .marks; edges = es }
 
-abbrev pub withWords : Table → List ℕ → Table
-withWords t words = record { size = t .size; start = t .start; words = words; edges = t .edges }
+abbrev pub withMarks : Table → List (List ℕ) → Table
+withMarks t marks = record { size = t .size; start = t .start; kinds = t .kinds; marks = marks; edges = t .edges }
+
+-- the marks with those of one kind, from 0 on, changed
+unfoldable pub inKind : ℕ → (List ℕ → List ℕ) → List (List ℕ) → List (List ℕ)
+inKind kind f marks = set marks kind (f (getD marks kind []))
 
 -- "takes its move out; the others keep their order"
 unfoldable pub without : Edge → List Edge → List Edge
@@ -43,19 +47,27 @@ without e es = filter (λ f. not (sameEdge e f)) es
 unfoldable pub apply : Change → Table → Table
 apply (add e) t = withEdges t (t .edges ++ (e ∷ []))
 apply (cut e) t = withEdges t (without e (t .edges))
-apply (mark s) t = withWords t (withMark (t .words) s)
-apply (unmark s) t = withWords t (withoutMark (t .words) s)
+apply (mark s kind) t = withMarks t (inKind (kind - 1) (λ words. withMark words s) (t .marks))
+apply (unmark s kind) t = withMarks t (inKind (kind - 1) (λ words. withoutMark words s) (t .marks))
 
 -- The conditions of a change itself, in the order tried: "an add 6 to 9 and 11, a cut 6, 7, 10 and 11" (7 no more), 11 being behind them. Ticket 2:
 -- "13, the state to be marked already pays; 14, the state to be unmarked does not; both are tried after 6 and before 11".
+-- Ticket 9: a kind "above K gets 4, also for `mark` and `unmark`, before 6"; 13 and 14 "look at the kind named only".
 unfoldable pub conditions : Change → Table → List (ℕ × Bool)
-conditions (add e) t = (6, outside (t .size) e) ∷ (8, present (t .edges) e) ∷ (9, full (t .edges)) ∷ []
+conditions (add e) t = (6, outside (t .size) e) ∷ (8, present (t .edges) e) ∷ (9, full (t .kinds) (t .edges)) ∷ []
 conditions (cut e) t = (6, outside (t .size) e) ∷ (10, not (present (t .edges) e)) ∷ []
-conditions (mark s) t = (6, beyond (t .size) s) ∷ (13, accepts (t .words) s) ∷ []
-conditions (unmark s) t = (6, beyond (t .size) s) ∷ (14, not (accepts (t .words) s)) ∷ []
+conditions (mark s kind) t = (4, ltb (t .kinds) kind) ∷ (6, beyond (t .size) s) ∷ (13, carriedBy (t .marks) (kind - 1) s) ∷ []
+conditions (unmark s kind) t = (4, ltb (t .kinds) kind) ∷ (6, beyond (t .size) s) ∷ (14, not (carriedBy (t .marks) (kind - 1) s)) ∷ []
+
+-- Ticket 9: "A kind outside 1 to 4 gets 1", ahead of all else.
+unfoldable pub misnamed : Change → Bool
+misnamed (add e) = false
+misnamed (cut e) = false
+misnamed (mark s kind) = eqb kind 0 || ltb 4 kind
+misnamed (unmark s kind) = eqb kind 0 || ltb 4 kind
 
 unfoldable pub changeTrial : Change → Table → ℕ → Trial
-changeTrial c t room = firstHeld (conditions c t ++ roomCondition (t .size) room)
+changeTrial c t room = firstHeld ((1, misnamed c) ∷ (conditions c t ++ roomCondition (t .size) (t .kinds) room))
 
 -- ---- ticket 5
 
@@ -67,7 +79,7 @@ pub data BatchLine : Type 0 where
 -- The conditions of the i-th line of a batch, in the order tried: "Any other line inside gets 1"; "15, a 65th change stands in a batch; it is tried after 1 and before
 -- that change's other refusals". The lines before it are changes, since none of them is refused: the 65th line is the 65th change.
 unfoldable pub lineConditions : ℕ → BatchLine → Table → List (ℕ × Bool)
-lineConditions i (makes c) t = (15, ltb 64 i) ∷ conditions c t
+lineConditions i (makes c) t = (1, misnamed c) ∷ (15, ltb 64 i) ∷ conditions c t
 lineConditions i other t = (1, true) ∷ []
 
 -- what trying a batch comes to, and the position of the line with which it ends
@@ -101,7 +113,7 @@ linesTrial i (x ∷ xs) t = elim (firstHeld (lineConditions i x t)) [
 
 -- "Refusal 11 is tried once, ahead of the changes, with position 0"; "the line's position from 1"
 unfoldable pub batchTrial : List BatchLine → Table → ℕ → BatchTrial
-batchTrial xs t room = elim (firstHeld (roomCondition (t .size) room)) [
+batchTrial xs t room = elim (firstHeld (roomCondition (t .size) (t .kinds) room)) [
   | accepted ↦ linesTrial 1 xs t
   | refused n ↦ record { trial = refused n; position = 0 }
 ]
@@ -155,17 +167,18 @@ pub data Answer : Type 0 where
   answer : Verdict → ℕ → ℕ → Answer
 
 -- Ticket 4, moves "that the last run never reached": "If that run had not looked at a cut move, or had not finished the outer moves of the state that an added one
--- leaves". That run is the plain search on t, the table as the change finds it. A state never met has not finished. The ticket speaks of moves alone.
+-- leaves". That run is the plain search on t, the table as the change finds it. A state never met has not finished. The ticket speaks of moves alone. Ticket 9: it "needs
+-- its condition in every layer": no copy of the state has finished, and no look, in whatever layer, was at that move.
 unfoldable pub unexplored : Change → Table → Bool
-unexplored (add e) t = not (finished (searched t) (budget t) (e .0))
-unexplored (cut e) t = not (present (probesOf (final t)) e)
-unexplored (mark s) t = false
-unexplored (unmark s) t = false
+unexplored (add e) t = not (any (finished (searched t) (budget t)) (copiesIn t (e .0 ∷ [])))
+unexplored (cut e) t = not (present (map (plainEdge t) (probesOf (final t))) e)
+unexplored (mark s kind) t = false
+unexplored (unmark s kind) t = false
 
 -- Ticket 5, of a change in a batch: it "falls under Ticket 4, or marks or unmarks a state never met, by the run before the batch". Moves of a state never met fall
 -- under Ticket 4. t is the table as the batch finds it.
 unfoldable pub passedOver : Change → Table → Bool
-passedOver c t = unexplored c t || not (meets (named c) (final t))
+passedOver c t = unexplored c t || not (meets (copiesIn t (named c)) (final t))
 
 -- Does the call keep every look by ticket 4, or as a batch by ticket 5? "An empty batch keeps every look, and so does one whose every change .."
 unfoldable pub keepsAll : Update → Table → Bool
@@ -184,7 +197,7 @@ kept u t = count (keptPart u t)
 
 -- "After a load, kept is 0."
 unfoldable pub loadAnswer : Trial → Table → Answer
-loadAnswer accepted t = answer (verdict (final t)) (count (final t)) 0
+loadAnswer accepted t = answer (printedVerdict t (verdict (final t))) (count (final t)) 0
 loadAnswer (refused n) t = refusal (numbered n)
 
 -- "a refused call leaves it as it was"
@@ -211,7 +224,7 @@ trialOf c t = updateTrial (c .update) t (c .room)
 unfoldable pub updateAnswer : Trial → Call → Table → Answer
 updateAnswer accepted c t =
     let u = c .update in
-    answer (verdict (final (applied u t))) (count (final (applied u t)) - kept u t) (kept u t)
+    answer (printedVerdict (applied u t) (verdict (final (applied u t)))) (count (final (applied u t)) - kept u t) (kept u t)
 updateAnswer (refused n) c t = refusal (record { number = n; position = positionIn (c .update) t (c .room) })
 
 unfoldable pub answerTo : Call → Table → Answer
@@ -259,7 +272,7 @@ answerLines (a ∷ rest) = answerLine a ++ answerLines rest
 -- the lines of a load and the calls after it; a refused load ends the session
 unfoldable pub transcript : Load → ℕ → List Call → List Line
 transcript l room cs = elim (loadTrial l room) [
-  | accepted ↦ gameLine (l .size) (length (pairs (l .numbers))) (acceptingCount (l .words))
+  | accepted ↦ gameLine (l .size) (length (pairs (l .numbers))) (acceptingCount (l .marks))
       ∷ answerLines (loadAnswer accepted (tableOf l) ∷ answers cs (tableOf l))
   | refused n ↦ noLine (numbered n) ∷ []
 ]

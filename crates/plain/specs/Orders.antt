@@ -3,10 +3,10 @@ use Prim.Native.Nat.{ℕ, _+_, _≤_}
 use mathlib.Core.Path.{_≡_}
 use mathlib.Core.Logic.{_≢_}
 use mathlib.Core.List.{List, [], _∷_, _++_}
-use lib.ListN.{length}
+use lib.ListN.{length, getD}
 use Rattle.plain.specs.Lists.{Once}
 use Rattle.plain.specs.Search.{Edge}
-use Rattle.plain.specs.Table.{Table, accepts, row, final}
+use Rattle.plain.specs.Table.{Table, carriedBy, row, final}
 use Rattle.plain.specs.Refusals.{accepted}
 use Rattle.plain.specs.Machine.{Change, add, cut, tableOf, changesOf, namedAll, Answer, loadAnswer, Call, callFor, trialOf, answerTo, tableAfter, answers, Line, gameLine, roundLine, noneLine, noLine, waysLine, answerLine}
 use Rattle.plain.specs.Questions.{Question, replyTo}
@@ -15,14 +15,15 @@ use Rattle.plain.specs.Games.{gameH}
 
 -- ---- what a call sees of a table
 
--- The same rows and the same marks; as many states, moves and words, and the same start state. The order of the whole list of moves is no part of it: only that of each row.
+-- The same rows and the same marks; as many states, kinds and moves, as many words of each kind, and the same start state. The order of the whole list of moves is no part of it: only that of each row.
 pub record SameView (t u : Table) : Type 0 where
   pub same-size : t .size ≡ u .size
   pub same-start : t .start ≡ u .start
+  pub same-kinds : t .kinds ≡ u .kinds
   pub same-count : length (t .edges) ≡ length (u .edges)
   pub same-row : (s : ℕ) → row (t .edges) s ≡ row (u .edges) s
-  pub same-words : length (t .words) ≡ length (u .words)
-  pub same-marks : (s : ℕ) → accepts (t .words) s ≡ accepts (u .words) s
+  pub same-words : (kind : ℕ) → length (getD (t .marks) kind []) ≡ length (getD (u .marks) kind [])
+  pub same-marks : (kind s : ℕ) → carriedBy (t .marks) kind s ≡ carriedBy (u .marks) kind s
 
 -- No list of calls tells two tables apart, and no question does, before, between or behind the calls.
 pub record AnsweredAlike (t u : Table) : Type 0 where
