@@ -2,7 +2,7 @@
 // Every function is safe for any contents of the arrays.
 use rows::wide;
 ghost use mathlib.Core.Path.{_≡_};
-ghost use Prim.Native.Nat.{_+_, _-_, _%_, _<_};
+ghost use Prim.Native.Nat.{_+_, _*_, _-_, _%_, _<_};
 ghost use lib.ListN.{length, getD, set, replicate};
 ghost use Rattle.rows.specs.Rows.{entries, placeOf};
 ghost use Rattle.look.specs.Numbers.{up as upped, further as oneFurther, plus as added};
@@ -70,6 +70,20 @@ pub fn down(x: u16) -> u16
     ensures { λ r. ⌜ r ≡ x - 1 ⌝ }
 {
     if 0 < x { x - 1 } else { 0 }
+}
+
+// A product of two numbers of 16 bits.
+pub fn times(a: u16, b: u16) -> usize
+    ensures { λ r. ⌜ (r ≡ a * b) × (r < 4294967296) ⌝ }
+{
+    wide(a) * wide(b)
+}
+
+// The same, modulo 65,536.
+pub fn times_within(a: u16, b: u16) -> u16
+    ensures { λ r. ⌜ r ≡ a * b % 65536 ⌝ }
+{
+    narrow(times(a, b) % 65536)
 }
 
 // Entry v; 0 past the end.
@@ -174,7 +188,7 @@ pub fn lay_ends(starts: &[u16; 513], ends: &mut [u16; 512])
 }
 
 // The row of v, as a search reads it. A state of 512 or more counts as the one that it leaves when divided by 512: no table has such a state.
-fn stretch_of(begins: &[u16; 513], ends: &[u16; 512], bases: &[u16; 512], v: u16) -> Stretch
+pub fn stretch_of(begins: &[u16; 513], ends: &[u16; 512], bases: &[u16; 512], v: u16) -> Stretch
     requires { ⌜ (length (now begins) ≡ 513) × (length (now ends) ≡ 512) × (length (now bases) ≡ 512) ⌝ }
     ensures { λ r. ⌜ Stretches (layoutOf (now (begins .entry)) (now (ends .entry)) (now (bases .entry))) v r ⌝ }
 {

@@ -1,7 +1,7 @@
-// The paying marks: eight 64-bit words. State s has bit (s mod 64) of word (s div 64).
+// The paying marks: eight 64-bit words for each kind. State s has bit (s mod 64) of word (s div 64).
 ghost use mathlib.Core.Path.{_≡_};
 ghost use Prim.Native.Nat.{_%_, _^_};
-ghost use Rattle.plain.specs.Table.{accepts, withMark, withoutMark, acceptingCount};
+ghost use Rattle.plain.specs.Table.{accepts, withMark, withoutMark, byKind, acceptingCount};
 
 // The mask of state s: 2 to the power of its position, which is s mod 64.
 fn mask(s: usize) -> u64
@@ -44,23 +44,15 @@ pub fn clear_mark(words: &mut [u64], s: usize)
     }
 }
 
-// The words with the mark of s set.
-pub fn with_mark(words: [u64; 8], s: usize) -> [u64; 8]
-    ensures { λ r. ⌜ r ≡ withMark words s ⌝ }
-{
-    let mut marked = words;
-    set_mark(&mut marked, s);
-    marked
-}
-
-// The count of paying states: the ones of each word, added.
-pub fn count(words: [u64; 8]) -> u32
-    ensures { λ r. ⌜ r ≡ acceptingCount words ⌝ }
+// The count of paying states, of any kind: the ones of each word, the four kinds taken together, added.
+pub fn count(marks: [u64; 32]) -> u32
+    ensures { λ r. ⌜ r ≡ acceptingCount (byKind marks) ⌝ }
 {
     let mut sum: u32 = 0;
     let mut i: usize = 0;
     while i < 8 {
-        sum += u64::count_ones(words[i]);
+        let any = marks[i] | marks[i + 8] | marks[i + 16] | marks[i + 24];
+        sum += u64::count_ones(any);
         i += 1;
     }
     sum

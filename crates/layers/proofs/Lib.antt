@@ -1,0 +1,6 @@
+pub mod Standing
+pub mod Listing
+pub mod Laying
+pub mod Marking
+pub mod Packing
+pub mod Rows
