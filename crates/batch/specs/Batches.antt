@@ -1,12 +1,12 @@
 -- Document 02, ticket 5: the lines of a batch as numbers, and trying them on the arrays of a table. A change alone is a list of one line. Assumes nothing.
 use Prim.Native.Nat.{ℕ, suc, _%_}
 use mathlib.Core.Path.{_≡_}
-use mathlib.Core.Bool.{Bool, true, false, _&&_, not, cond}
+use mathlib.Core.Bool.{Bool, true, false, _&&_, _||_, not, cond}
 use mathlib.Core.List.{List, [], _∷_, _++_}
 use lib.Dec.{eqb, ltb, leb}
 use lib.ListN.{length}
 use Rattle.plain.specs.Refusals.{Trial as PlainTrial, accepted, refused, firstHeld, roomCondition}
-use Rattle.plain.specs.Machine.{Change, add, cut, mark, unmark, BatchLine as PlainLine, makes, other}
+use Rattle.plain.specs.Machine.{Change, add, cut, mark, unmark, misnamed, BatchLine as PlainLine, makes, other}
 use Rattle.table.specs.declared.Op.{Op}
 use Rattle.table.specs.declared.Op.the-variants.{Add, Cut, Mark, Unmark}
 use Rattle.table.specs.declared.Subject.{Subject}
@@ -30,25 +30,33 @@ lineFor what first second = record { what = what; first = first; second = second
 abbrev pub lineTo : Op → BatchLine
 lineTo (Add from to) = lineFor 1 from to
 lineTo (Cut from to) = lineFor 2 from to
-lineTo (Mark state) = lineFor 3 state 0
-lineTo (Unmark state) = lineFor 4 state 0
+lineTo (Mark state kind) = lineFor 3 state kind
+lineTo (Unmark state kind) = lineFor 4 state kind
 
 -- the change that a line makes: a move is added or cut, a state marked or unmarked; with any other number it makes none
 unfoldable pub lineIn : BatchLine → PlainLine
 lineIn l =
     cond (eqb (l .what) 1) (makes (add (l .first, l .second)))
     (cond (eqb (l .what) 2) (makes (cut (l .first, l .second)))
-    (cond (eqb (l .what) 3) (makes (mark (l .first)))
-    (cond (eqb (l .what) 4) (makes (unmark (l .first)))
+    (cond (eqb (l .what) 3) (makes (mark (l .first) (l .second)))
+    (cond (eqb (l .what) 4) (makes (unmark (l .first) (l .second)))
     other)))
 
 -- does it make one?
 unfoldable pub isChange : BatchLine → Bool
 isChange l = not (eqb (l .what) 0) && leb (l .what) 4
 
+-- is the kind that it then names none of the four? Of a move none is named.
+unfoldable pub misnamedIn : BatchLine → Bool
+misnamedIn l = not (leb (l .what) 2) && (eqb (l .second) 0 || ltb 4 (l .second))
+
+-- does it make a change that is not refused for its kind?
+unfoldable pub isValid : BatchLine → Bool
+isValid l = isChange l && not (misnamedIn l)
+
 -- what it then switches, and which way
 unfoldable pub subjectIn : BatchLine → Subject
-subjectIn l = cond (leb (l .what) 2) (Subject.Edge (l .first) (l .second)) (Subject.Mark (l .first))
+subjectIn l = cond (leb (l .what) 2) (Subject.Edge (l .first) (l .second)) (Subject.Mark (l .first) (l .second))
 
 abbrev pub switchIn : BatchLine → Switch
 switchIn l = record { on = eqb (l .what % 2) 1; subject = subjectIn l }
@@ -90,13 +98,13 @@ endIn false ns = length ns
 abbrev pub opFor : Change → Op
 opFor (add e) = Add (e .0) (e .1)
 opFor (cut e) = Cut (e .0) (e .1)
-opFor (mark s) = Mark s
-opFor (unmark s) = Unmark s
+opFor (mark s kind) = Mark s kind
+opFor (unmark s kind) = Unmark s kind
 
 -- The trial of the i-th line, read off the arrays. 11 comes behind a change's own refusals: it is tried ahead of a batch, so that it never strikes there.
-abbrev pub lineTrialIn : ℕ → PlainLine → ℕ → Arrays → ℕ → PlainTrial
-lineTrialIn i (makes c) size a room = firstHeld ((15, ltb 64 i) ∷ (conditionsIn (opFor c) size (a .rows) (a .words) ++ roomCondition size room))
-lineTrialIn i other size a room = refused 1
+abbrev pub lineTrialIn : ℕ → PlainLine → ℕ → ℕ → Arrays → ℕ → PlainTrial
+lineTrialIn i (makes c) size kinds a room = firstHeld ((1, misnamed c) ∷ (15, ltb 64 i) ∷ (conditionsIn (opFor c) size kinds (a .rows) (a .words) ++ roomCondition size kinds room))
+lineTrialIn i other size kinds a room = refused 1
 
 abbrev pub filedLine : PlainLine → ℕ → Arrays → Arrays
 filedLine (makes c) size a = filedIn (opFor c) size a
@@ -108,20 +116,20 @@ pub record TriedIn : Type 0 where
   pub position : ℕ
   pub arrays : Arrays
 
-unfoldable pub triedIn : ℕ → List PlainLine → ℕ → Arrays → ℕ → TriedIn
-triedIn i [] size a room = record { trial = accepted; position = i; arrays = a }
-triedIn i (x ∷ xs) size a room = elim (lineTrialIn i x size a room) [
-  | accepted ↦ triedIn (suc i) xs size (filedLine x size a) room
+unfoldable pub triedIn : ℕ → List PlainLine → ℕ → ℕ → Arrays → ℕ → TriedIn
+triedIn i [] size kinds a room = record { trial = accepted; position = i; arrays = a }
+triedIn i (x ∷ xs) size kinds a room = elim (lineTrialIn i x size kinds a room) [
+  | accepted ↦ triedIn (suc i) xs size kinds (filedLine x size a) room
   | refused n ↦ record { trial = refused n; position = i; arrays = a }
 ]
 
 -- What is tried ahead: of a batch 11, and before it that there is a game, which no table of a session lacks.
-unfoldable pub aheadTrial : Bool → ℕ → ℕ → PlainTrial
-aheadTrial alone size room = cond alone accepted (firstHeld ((2, eqb size 0) ∷ roomCondition size room))
+unfoldable pub aheadTrial : Bool → ℕ → ℕ → ℕ → PlainTrial
+aheadTrial alone size kinds room = cond alone accepted (firstHeld ((2, eqb size 0) ∷ roomCondition size kinds room))
 
-unfoldable pub callTriedIn : Bool → List PlainLine → ℕ → Arrays → ℕ → TriedIn
-callTriedIn alone xs size a room = elim (aheadTrial alone size room) [
-  | accepted ↦ triedIn 1 xs size a room
+unfoldable pub callTriedIn : Bool → List PlainLine → ℕ → ℕ → Arrays → ℕ → TriedIn
+callTriedIn alone xs size kinds a room = elim (aheadTrial alone size kinds room) [
+  | accepted ↦ triedIn 1 xs size kinds a room
   | refused n ↦ record { trial = refused n; position = 0; arrays = a }
 ]
 
@@ -137,8 +145,8 @@ positionAt true i = Position.Alone
 positionAt false i = Position.Line i
 
 -- a line that was tried: its change is made where it is accepted
-pub record AttemptedLine (x : PlainLine) (i size room : ℕ) (a : Arrays) (r : Trial) (a′ : Arrays) : Type 0 where
-  pub trial-is : r ≡ tried (lineTrialIn i x size a room)
+pub record AttemptedLine (x : PlainLine) (i size kinds room : ℕ) (a : Arrays) (r : Trial) (a′ : Arrays) : Type 0 where
+  pub trial-is : r ≡ tried (lineTrialIn i x size kinds a room)
   pub filed : r ≡ Accepted → a′ ≡ filedLine x size a
   pub unfiled : (n : ℕ) → r ≡ Refused n → a′ ≡ a
 

@@ -10,7 +10,7 @@ ghost use Prim.Native.Nat.{_<_};
 ghost use lib.ListN.{length, drop};
 ghost use Rattle.rows.specs.Rows.{Tabled};
 ghost use Rattle.table.specs.Trials.{arraysOf, tried};
-ghost use Rattle.batch.specs.Batches.{lineFor, lineTo, isChange, subjectIn, switchIn, lineIn, numbersIn, endIn, headLine, linesIn, isRefused, positionAt, triedIn, aheadTrial, callTriedIn, AttemptedLine, AttemptedLines, AttemptedCall};
+ghost use Rattle.batch.specs.Batches.{lineFor, lineTo, isChange, isValid, subjectIn, switchIn, lineIn, numbersIn, endIn, headLine, linesIn, isRefused, positionAt, triedIn, aheadTrial, callTriedIn, AttemptedLine, AttemptedLines, AttemptedCall};
 
 // What a call on a session asks for: one change, or a batch, whose lines a lent list holds.
 pub enum Update {
@@ -18,7 +18,8 @@ pub enum Update {
     Batch,
 }
 
-// A line of a batch: what it does, and its states. 1 adds a move, 2 cuts one, 3 marks a state, 4 unmarks one. With any other number it makes no change.
+// A line of a batch: what it does, and two numbers. 1 adds a move, 2 cuts one, 3 marks a state, 4 unmarks one; of a move the numbers are its states, of a mark the state and the kind.
+// With any other number it makes no change.
 pub struct BatchLine {
     pub what: u16,
     pub first: u16,
@@ -36,6 +37,9 @@ pub const LINE: usize = 3;
 
 // The most changes of a batch.
 const CHANGES: u16 = 64;
+
+// The most kinds of pay.
+const KINDS: u16 = 4;
 
 // It comes, or it goes.
 fn switched(on: bool, subject: Subject) -> Switch
@@ -61,8 +65,8 @@ pub fn line_of(op: Op) -> BatchLine
     match op {
         Op::Add { from, to } => line(1, from, to),
         Op::Cut { from, to } => line(2, from, to),
-        Op::Mark { state } => line(3, state, 0),
-        Op::Unmark { state } => line(4, state, 0),
+        Op::Mark { state, kind } => line(3, state, kind),
+        Op::Unmark { state, kind } => line(4, state, kind),
     }
 }
 
@@ -86,7 +90,26 @@ fn subject_in(line: BatchLine) -> Subject
             to: line.second,
         };
     }
-    Subject::Mark { state: line.first }
+    Subject::Mark {
+        state: line.first,
+        kind: line.second,
+    }
+}
+
+// Does a line make a change whose kind, if it names one, is one of the four?
+fn is_valid(line: BatchLine) -> bool
+    ensures { λ r. ⌜ r ≡ isValid line ⌝ }
+{
+    if !is_change(line) {
+        return false;
+    }
+    if line.what <= 2 {
+        return true;
+    }
+    if line.second == 0 {
+        return false;
+    }
+    line.second <= KINDS
 }
 
 // The change that a line makes, as what it switches and which way.
@@ -132,6 +155,7 @@ fn attempt_line(
     line: BatchLine,
     position: u16,
     size: u16,
+    kinds: u16,
     targets: &mut [u16; 2048],
     starts: &mut [u16; 513],
     words: &mut [u64; 8],
@@ -139,9 +163,9 @@ fn attempt_line(
     room: usize,
 ) -> Trial
     requires { ⌜ Tabled (now targets) (now starts) × (length (now indegree) ≡ 512) ⌝ }
-    ensures { λ r. ⌜ AttemptedLine (lineIn line) position size room (arraysOf (now (targets .entry)) (now (starts .entry)) (now (words .entry)) (now (indegree .entry))) r (arraysOf (now (targets .exit)) (now (starts .exit)) (now (words .exit)) (now (indegree .exit))) ⌝ }
+    ensures { λ r. ⌜ AttemptedLine (lineIn line) position size kinds room (arraysOf (now (targets .entry)) (now (starts .entry)) (now (words .entry)) (now (indegree .entry))) r (arraysOf (now (targets .exit)) (now (starts .exit)) (now (words .exit)) (now (indegree .exit))) ⌝ }
 {
-    if !is_change(line) {
+    if !is_valid(line) {
         return Trial::Refused(1);
     }
     if CHANGES < position {
@@ -150,6 +174,7 @@ fn attempt_line(
     table::attempt_change(
         switch_in(line),
         size,
+        kinds,
         targets,
         starts,
         words,
@@ -189,6 +214,7 @@ fn attempt_lines(
     only: BatchLine,
     lines: &[u16],
     size: u16,
+    kinds: u16,
     targets: &mut [u16; 2048],
     starts: &mut [u16; 513],
     words: &mut [u64; 8],
@@ -196,14 +222,24 @@ fn attempt_lines(
     room: usize,
 ) -> Attempt
     requires { ⌜ Tabled (now targets) (now starts) × (length (now indegree) ≡ 512) ⌝ }
-    ensures { λ r. ⌜ AttemptedLines alone (triedIn 1 (linesIn (numbersIn alone only (now (lines .entry)))) size (arraysOf (now (targets .entry)) (now (starts .entry)) (now (words .entry)) (now (indegree .entry))) room) r (arraysOf (now (targets .exit)) (now (starts .exit)) (now (words .exit)) (now (indegree .exit))) ⌝ }
+    ensures { λ r. ⌜ AttemptedLines alone (triedIn 1 (linesIn (numbersIn alone only (now (lines .entry)))) size kinds (arraysOf (now (targets .entry)) (now (starts .entry)) (now (words .entry)) (now (indegree .entry))) room) r (arraysOf (now (targets .exit)) (now (starts .exit)) (now (words .exit)) (now (indegree .exit))) ⌝ }
 {
     let end = lines_end(alone, lines);
     let mut at: usize = 0;
     let mut position: u16 = 1;
     while at < end {
         let line = line_at(alone, only, lines, at);
-        let trial = attempt_line(line, position, size, targets, starts, words, indegree, room);
+        let trial = attempt_line(
+            line,
+            position,
+            size,
+            kinds,
+            targets,
+            starts,
+            words,
+            indegree,
+            room,
+        );
         if is_refused(trial) {
             return ended(alone, trial, position);
         }
@@ -214,8 +250,8 @@ fn attempt_lines(
 }
 
 // What is tried ahead of a batch: that there is a game, and 11.
-fn ahead_trial(alone: bool, size: u16, room: usize) -> Trial
-    ensures { λ r. ⌜ r ≡ tried (aheadTrial alone size room) ⌝ }
+fn ahead_trial(alone: bool, size: u16, kinds: u16, room: usize) -> Trial
+    ensures { λ r. ⌜ r ≡ tried (aheadTrial alone size kinds room) ⌝ }
 {
     if alone {
         return Trial::Accepted;
@@ -223,7 +259,7 @@ fn ahead_trial(alone: bool, size: u16, room: usize) -> Trial
     if size == 0 {
         return Trial::Refused(2);
     }
-    table::room_trial(size, room)
+    table::room_trial(size, kinds, room)
 }
 
 // Tries a call, and makes its changes in the arrays where all are accepted. Where a line of a batch is refused, the arrays are put back as they were. The old ones
@@ -233,6 +269,7 @@ pub fn attempt_call(
     only: BatchLine,
     lines: &[u16],
     size: u16,
+    kinds: u16,
     targets: &mut [u16; 2048],
     starts: &mut [u16; 513],
     words: &mut [u64; 8],
@@ -240,9 +277,9 @@ pub fn attempt_call(
     room: usize,
 ) -> Attempt
     requires { ⌜ Tabled (now targets) (now starts) × (length (now indegree) ≡ 512) ⌝ }
-    ensures { λ r. ⌜ AttemptedCall alone (callTriedIn alone (linesIn (numbersIn alone only (now (lines .entry)))) size (arraysOf (now (targets .entry)) (now (starts .entry)) (now (words .entry)) (now (indegree .entry))) room) (arraysOf (now (targets .entry)) (now (starts .entry)) (now (words .entry)) (now (indegree .entry))) r (arraysOf (now (targets .exit)) (now (starts .exit)) (now (words .exit)) (now (indegree .exit))) ⌝ }
+    ensures { λ r. ⌜ AttemptedCall alone (callTriedIn alone (linesIn (numbersIn alone only (now (lines .entry)))) size kinds (arraysOf (now (targets .entry)) (now (starts .entry)) (now (words .entry)) (now (indegree .entry))) room) (arraysOf (now (targets .entry)) (now (starts .entry)) (now (words .entry)) (now (indegree .entry))) r (arraysOf (now (targets .exit)) (now (starts .exit)) (now (words .exit)) (now (indegree .exit))) ⌝ }
 {
-    let ahead = ahead_trial(alone, size, room);
+    let ahead = ahead_trial(alone, size, kinds, room);
     if is_refused(ahead) {
         return ended(alone, ahead, 0);
     }
@@ -252,6 +289,7 @@ pub fn attempt_call(
             only,
             lines,
             size,
+            kinds,
             targets,
             starts,
             words,
@@ -268,6 +306,7 @@ pub fn attempt_call(
         only,
         lines,
         size,
+        kinds,
         targets,
         starts,
         words,

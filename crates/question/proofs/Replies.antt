@@ -2,13 +2,13 @@
 use mathlib.Core.Path.{_≡_, refl, sym, ap, _∙_}
 use mathlib.Core.Logic.{⊎-elim}
 use mathlib.Core.Bool.{Bool, true, false, cond}
-use mathlib.Core.List.{List, [], _∷_}
+use mathlib.Core.List.{List}
 use Prim.Native.Nat.{ℕ, _≤_, _<_}
 use lib.Dec.{leb}
 use lib.ListN.{length, getD}
 use borrow.Author.Tests.{le-leb, lt-leb}
 use Rattle.plain.specs.Table.{Table}
-use Rattle.plain.specs.Refusals.{Trial, accepted, refused, firstHeld, beyond}
+use Rattle.plain.specs.Refusals.{firstHeld, beyond}
 use Rattle.plain.specs.Questions.{Question as PlainQuestion, ways, outDegree, Reply as PlainReply, noReply, degrees, questionTrial, questionReply, replyTo, replyLine}
 use Rattle.plain.proofs.Tests.{either}
 use Rattle.plain.proofs.Degrees.{out-row}
@@ -19,7 +19,6 @@ use Rattle.table.specs.Filing.{Stored}
 use Rattle.question.specs.declared.Topic.{Topic}
 use Rattle.question.specs.declared.Topic.the-variants.{Ways}
 use Rattle.question.specs.declared.Question.{Question}
-use Rattle.question.specs.declared.Reply.{Reply}
 use Rattle.question.specs.declared.Reply.the-variants.{Refused, Degrees}
 use Rattle.question.specs.Replies.{topicOf, questionOf, replied, replyShown, waysIn, replyAt, replyIn}
 

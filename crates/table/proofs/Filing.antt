@@ -11,7 +11,7 @@ use lib.ListN.{length, drop, replicate, length-append}
 use borrow.Author.Tests.{ltb-false, ne-eqb}
 use Rattle.plain.specs.Lists.{any, elem}
 use Rattle.plain.specs.Search.{Edge}
-use Rattle.plain.specs.Table.{row}
+use Rattle.plain.specs.Table.{row, byKind}
 use Rattle.plain.specs.Refusals.{firstHeld, badSize, badCount, outside, roomCondition, pairs, present, repeated, Load}
 use Rattle.plain.proofs.Tests.{or-first, or-second, or-false, none-cons}
 use Rattle.plain.proofs.Edges.{Has, has-head, has-tail, has-cases, has-nil}
@@ -169,16 +169,19 @@ not-refused e = let z : _≡_ {A = ℕ} 0 1 = cc in omega arith
 pub not-accepted : {n : ℕ} → Refused n ≡ Accepted → ⊥
 not-accepted e = let z : _≡_ {A = ℕ} 0 1 = cc in omega arith
 
-module _ (l : Load) (room : ℕ) (early : Trial) (e : early ≡ tried (earlyTrial (l .size) (l .start) (l .words) (l .numbers))) where
+module _ (size start kinds : ℕ) (marks numbers : List ℕ) (room : ℕ) (early : Trial) (e : early ≡ tried (earlyTrial size start kinds marks numbers)) where
+  abbrev l : Load
+  l = record { size = size; start = start; kinds = kinds; marks = byKind marks; numbers = numbers }
+
   pub tried-early : (targets starts : List ℕ) → (early ≡ Accepted → ⊥) → Tried l room early targets starts
   tried-early targets starts n = record {
-    trial-is = e ∙ early-held (l .size) (l .start) (l .words) (l .numbers) room (λ z. n (e ∙ z));
+    trial-is = e ∙ early-held size start kinds marks numbers room (λ z. n (e ∙ z));
     filed = λ z. absurd (n z);
   }
 
   module _ (z : early ≡ Accepted) where
-    passed : Early (l .size) (l .start) (l .words) (l .numbers) room
-    passed = early-free (l .size) (l .start) (l .words) (l .numbers) room (sym e ∙ z)
+    passed : Early size start kinds marks numbers room
+    passed = early-free size start kinds marks numbers room (sym e ∙ z)
 
     states : l .size ≤ 512
     unfolding badSize
@@ -201,7 +204,7 @@ module _ (l : Load) (room : ℕ) (early : Trial) (e : early ≡ tried (earlyTria
 
       module _ (t : b ≡ false) where
         -- nothing stands twice: 11 decides
-        pub tried-filed : (r : Trial) → r ≡ tried (firstHeld (roomCondition (l .size) room)) → Tried l room r targets starts
+        pub tried-filed : (r : Trial) → r ≡ tried (firstHeld (roomCondition (l .size) (l .kinds) room)) → Tried l room r targets starts
         tried-filed r h = record {
           trial-is = passed .rest r (skip r 8 _ _ (sym (f .repeats) ∙ t) h);
           filed = λ n. f .filed t;

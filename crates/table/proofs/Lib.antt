@@ -4,3 +4,4 @@ pub mod Trying
 pub mod Filing
 pub mod Counting
 pub mod Changing
+pub mod Holding

@@ -2,7 +2,7 @@
 use mathlib.Core.Path.{_≡_, refl, sym, ap, _∙_}
 use mathlib.Core.Bool.{Bool, true, false, _&&_, _||_}
 use mathlib.Core.List.{List, [], _∷_}
-use Prim.Native.Nat.{ℕ, zero, suc, _+_, _-_, _≤_, _<_}
+use Prim.Native.Nat.{ℕ, zero, suc, _+_, _-_, _/_, _%_, _≤_, _<_}
 use native.Mathlib.Omega.{arith}
 use lib.Dec.{leb}
 use lib.ListN.{length, getD, drop, length-drop}
@@ -10,9 +10,10 @@ use lib.Seq.{drop-cons}
 use borrow.Author.Tests.{le-leb, lt-leb}
 use Rattle.plain.specs.Lists.{any, anyBelow}
 use Rattle.plain.specs.Search.{Edge}
-use Rattle.plain.specs.Table.{accepts}
+use Rattle.plain.specs.Table.{carriedBy}
 use Rattle.plain.specs.Refusals.{pairs, outside}
 use Rattle.plain.proofs.Tests.{or-first, or-second, or-neither, any-head}
+use Rattle.table.specs.Trials.{badMark}
 
 -- the move at place i
 abbrev pub moveAt : List ℕ → ℕ → Edge
@@ -27,6 +28,13 @@ pairs-more ns i h =
     ap (λ (k : ℕ). drop k ns) (sym one) ∙ drop-cons ns (i + 1) 0 h ∙ ap (λ (k : ℕ). getD ns (i + 1) 0 ∷ drop k ns) two
     in
     ap pairs (drop-cons ns i 0 (omega arith) ∙ ap (λ (l : List ℕ). getD ns i 0 ∷ l) next)
+
+-- an even count of numbers makes half as many moves
+pub pairs-half : (ns : List ℕ) → (length ns % 2 ≡ 1 → ⊥) → length (pairs ns) ≡ length ns / 2
+unfolding pairs
+pairs-half [] e = refl
+pairs-half (a ∷ []) e = absurd (e refl)
+pairs-half (a ∷ b ∷ ns) e = omega (arith, pairs-half ns (λ z. e (omega arith)))
 
 short : (ns : List ℕ) → length ns ≤ 1 → pairs ns ≡ []
 unfolding pairs
@@ -91,16 +99,20 @@ module _ (p : ℕ → Bool) where
   below-none zero h = refl
   below-none (suc n) h = absurd (omega arith)
 
--- a paying mark of a number not below n
-abbrev pub badMark : ℕ → List ℕ → ℕ → Bool
-badMark n words s = leb n s && accepts words s
+-- a mark of a number not below n, or of a kind not below k
+module _ (n k : ℕ) (marks : List (List ℕ)) (kind s : ℕ) where
+  pub mark-far : carriedBy marks kind s ≡ true → n ≤ s → badMark n k marks kind s ≡ true
+  mark-far e h = rw (le-leb n s h) e
 
-module _ (n : ℕ) (words : List ℕ) (s : ℕ) where
-  pub mark-bad : n ≤ s → accepts words s ≡ true → badMark n words s ≡ true
-  mark-bad h e = rw (le-leb n s h) e
+  pub mark-unused : carriedBy marks kind s ≡ true → k ≤ kind → badMark n k marks kind s ≡ true
+  mark-unused e h = rw (or-second (leb n s) (leb k kind) (le-leb k kind h)) e
 
-  pub mark-inside : s < n → badMark n words s ≡ false
-  mark-inside h = rw (lt-leb n s h)
+  pub mark-fine : s < n → kind < k → badMark n k marks kind s ≡ false
+  mark-fine h j = rw (lt-leb n s h, lt-leb k kind j)
 
-  pub mark-unset : n ≤ s → accepts words s ≡ false → badMark n words s ≡ false
-  mark-unset h e = rw (le-leb n s h) e
+  pub mark-unset : carriedBy marks kind s ≡ false → badMark n k marks kind s ≡ false
+  mark-unset e = rw e (and-no (leb n s || leb k kind))
+    where
+      and-no : (b : Bool) → (b && false) ≡ false
+      and-no true = refl
+      and-no false = refl

@@ -9,7 +9,8 @@ use lib.Dec.{eqb, ltb}
 use lib.ListN.{length}
 use borrow.Author.Tests.{eq-eqb, ne-eqb, lt-ltb, le-ltb}
 use Rattle.plain.specs.Lists.{any}
-use Rattle.plain.specs.Refusals.{Trial as PlainTrial, accepted, refused, firstHeld, badSize, badCount, outside, shortRoom, roomCondition, pairs, repeated, loadTrial}
+use Rattle.plain.specs.Table.{byKind}
+use Rattle.plain.specs.Refusals.{Trial as PlainTrial, accepted, refused, firstHeld, badSize, badCount, badKinds, outside, shortRoom, roomCondition, pairs, repeated, loadTrial}
 use Rattle.plain.proofs.Tests.{either, or-first, or-second, or-neither}
 use Rattle.plain.proofs.Trials.{unheld}
 use Rattle.table.specs.declared.Trial.{Trial}
@@ -105,29 +106,31 @@ module _ (ns : List ℕ) where
 
 -- ---- the early trial of a load
 
-module _ (size start : ℕ) (words numbers : List ℕ) (room : ℕ) where
+module _ (size start kinds : ℕ) (marks numbers : List ℕ) (room : ℕ) where
   abbrev whole : Trial
-  whole = tried (loadTrial (record { size = size; start = start; words = words; numbers = numbers }) room)
+  whole = tried (loadTrial (record { size = size; start = start; kinds = kinds; marks = byKind marks; numbers = numbers }) room)
 
   -- it stands where it hands a number back
-  pub early-held : (tried (earlyTrial size start words numbers) ≡ Accepted → ⊥) → tried (earlyTrial size start words numbers) ≡ whole
+  pub early-held : (tried (earlyTrial size start kinds marks numbers) ≡ Accepted → ⊥) → tried (earlyTrial size start kinds marks numbers) ≡ whole
   unfolding earlyTrial loadTrial
-  early-held n = held-before _ ((8, repeated (pairs numbers)) ∷ roomCondition size room) n
+  early-held n = held-before _ ((8, repeated (pairs numbers)) ∷ roomCondition size kinds room) n
 
   -- else the rest of the trial decides
   pub record Early : Type 0 where
     pub size-ok : badSize size ≡ false
     pub count-ok : badCount numbers ≡ false
+    pub kinds-ok : badKinds kinds size (length (pairs numbers)) ≡ false
     pub inside-ok : any (outside size) (pairs numbers) ≡ false
-    pub rest : (k : Trial) → k ≡ tried (firstHeld ((8, repeated (pairs numbers)) ∷ roomCondition size room)) → k ≡ whole
+    pub rest : (k : Trial) → k ≡ tried (firstHeld ((8, repeated (pairs numbers)) ∷ roomCondition size kinds room)) → k ≡ whole
 
-  pub early-free : tried (earlyTrial size start words numbers) ≡ Accepted → Early
+  pub early-free : tried (earlyTrial size start kinds marks numbers) ≡ Accepted → Early
   unfolding earlyTrial loadTrial
   early-free e =
       let a = tried-accepted _ e in
       record {
         size-ok = unheld 2 _ a;
         count-ok = unheld 5 _ a;
+        kinds-ok = unheld 16 _ a;
         inside-ok = unheld 6 _ a;
-        rest = λ k h. h ∙ free-before _ ((8, repeated (pairs numbers)) ∷ roomCondition size room) e;
+        rest = λ k h. h ∙ free-before _ ((8, repeated (pairs numbers)) ∷ roomCondition size kinds room) e;
       }

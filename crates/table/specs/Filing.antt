@@ -1,5 +1,5 @@
 -- The table in its arrays: what they hold, and what filing leaves. Assumes nothing.
-use Prim.Native.Nat.{ℕ, _-_, _≤_}
+use Prim.Native.Nat.{ℕ, _-_, _≤_, _<_}
 use mathlib.Core.Path.{_≡_}
 use mathlib.Core.Bool.{Bool, true, false}
 use mathlib.Core.List.{List, [], _∷_}
@@ -8,11 +8,12 @@ use Rattle.plain.specs.Lists.{any}
 use Rattle.plain.specs.Search.{Edge}
 use Rattle.plain.specs.Table.{Table, row, withMark, withoutMark}
 use Rattle.plain.specs.Refusals.{outside, pairs, repeated, Load, loadTrial}
-use Rattle.plain.specs.Machine.{Change, add, cut, mark, unmark}
+use Rattle.plain.specs.Layers.{copy}
 use Rattle.plain.specs.Questions.{inDegree}
 use Rattle.rows.specs.Rows.{rowAt, edgeCount, placeOf, Compressed}
 use Rattle.rows.specs.Change.{Rows, rowsOf, inserted, removed}
 use Rattle.look.specs.Numbers.{further}
+use Rattle.layers.specs.Packed.{Packed}
 use Rattle.table.specs.declared.Op.{Op}
 use Rattle.table.specs.declared.Op.the-variants.{Add, Cut, Mark, Unmark}
 use Rattle.table.specs.declared.Trial.{Trial}
@@ -30,27 +31,26 @@ pub record Counted (edges : List Edge) (indegree : List ℕ) : Type 0 where
   pub counts-size : length indegree ≡ 512
   pub counts-are : (s : ℕ) → getD indegree s 0 ≡ inDegree edges s
 
+-- marks have the form in which a load takes them: eight words for each of four kinds
+pub record FourKinds (marks : List (List ℕ)) : Type 0 where
+  pub four : length marks ≡ 4
+  pub eight : (kind : ℕ) → kind < 4 → length (getD marks kind []) ≡ 8
+
 -- the arrays hold the table: its moves, its paying marks, and the counts of its moves
 pub record Stored (t : Table) (a : Arrays) : Type 0 where
   pub filed : Filed (t .size) (t .edges) (a .rows)
-  pub words-are : a .words ≡ t .words
+  pub packed : Packed (t .size) (t .kinds) (t .marks) (a .words)
+  pub form : FourKinds (t .marks)
   pub counted : Counted (t .edges) (a .indegree)
 
 -- ---- a change
-
--- the change of the plain table
-abbrev pub changeOf : Op → Change
-changeOf (Add from to) = add (from, to)
-changeOf (Cut from to) = cut (from, to)
-changeOf (Mark state) = mark state
-changeOf (Unmark state) = unmark state
 
 -- the state that a change names
 abbrev pub namedBy : Op → ℕ
 namedBy (Add from to) = from
 namedBy (Cut from to) = from
-namedBy (Mark state) = state
-namedBy (Unmark state) = state
+namedBy (Mark state kind) = state
+namedBy (Unmark state kind) = state
 
 -- one edge more enters a state, or one fewer; within 16 bits, and where the state has a count
 abbrev pub recounted : Bool → ℕ → List ℕ → List ℕ
@@ -72,12 +72,12 @@ withWords a words = record { rows = a .rows; words = words; indegree = a .indegr
 abbrev pub filedIn : Op → ℕ → Arrays → Arrays
 filedIn (Add from to) size a = withRows a (inserted size from to (a .rows)) (recounted true to (a .indegree))
 filedIn (Cut from to) size a = withRows a (removed size from (placeOf to (rowAt (a .rows .targets) (a .rows .starts) from)) (a .rows)) (recounted false to (a .indegree))
-filedIn (Mark state) size a = withWords a (withMark (a .words) state)
-filedIn (Unmark state) size a = withWords a (withoutMark (a .words) state)
+filedIn (Mark state kind) size a = withWords a (withMark (a .words) (copy size (kind - 1) state))
+filedIn (Unmark state kind) size a = withWords a (withoutMark (a .words) (copy size (kind - 1) state))
 
 -- a change that was tried: the arrays are changed where it is accepted, else as they were
-pub record Attempted (op : Op) (size room : ℕ) (a : Arrays) (r : Trial) (a′ : Arrays) : Type 0 where
-  pub trial-is : r ≡ tried (trialIn op size (a .rows) (a .words) room)
+pub record Attempted (op : Op) (size kinds room : ℕ) (a : Arrays) (r : Trial) (a′ : Arrays) : Type 0 where
+  pub trial-is : r ≡ tried (trialIn op size kinds (a .rows) (a .words) room)
   pub filed : r ≡ Accepted → a′ ≡ filedIn op size a
   pub unfiled : (n : ℕ) → r ≡ Refused n → a′ ≡ a
 

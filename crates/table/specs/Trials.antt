@@ -1,13 +1,15 @@
 -- The trials of calls, read off the arrays of a table. Assumes nothing.
-use Prim.Native.Nat.{ℕ}
+use Prim.Native.Nat.{ℕ, _+_, _*_, _-_}
 use mathlib.Core.Path.{_≡_}
-use mathlib.Core.Bool.{Bool, true, false, not}
+use mathlib.Core.Bool.{Bool, true, false, _&&_, _||_, not}
 use mathlib.Core.List.{List, [], _∷_, _++_}
 use lib.Dec.{ltb, leb}
 use lib.ListN.{length}
 use Rattle.plain.specs.Lists.{any}
-use Rattle.plain.specs.Table.{accepts}
-use Rattle.plain.specs.Refusals.{Trial as PlainTrial, accepted, refused, firstHeld, badSize, badStart, badMarks, badCount, outside, beyond, roomCondition, pairs}
+use Rattle.plain.specs.Table.{accepts, byKind, carriedBy}
+use Rattle.plain.specs.Layers.{copy}
+use Rattle.plain.specs.Refusals.{Trial as PlainTrial, accepted, refused, firstHeld, badSize, badStart, badMarks, badCount, badKinds, outside, beyond, roomCondition, pairs}
+use Rattle.plain.specs.Machine.{Change, add, cut, mark, unmark}
 use Rattle.rows.specs.Rows.{rowAt, degreeAt, edgeCount, placeOf, Tabled}
 use Rattle.rows.specs.Change.{Rows, rowsOf}
 use Rattle.table.specs.declared.Op.{Op}
@@ -36,8 +38,8 @@ Sized a = Tabled (a .rows .targets) (a .rows .starts) × (length (a .indegree) �
 abbrev pub switching : Bool → Subject → Op
 switching true (Subject.Edge from to) = Add from to
 switching false (Subject.Edge from to) = Cut from to
-switching true (Subject.Mark state) = Mark state
-switching false (Subject.Mark state) = Unmark state
+switching true (Subject.Mark state kind) = Mark state kind
+switching false (Subject.Mark state kind) = Unmark state kind
 
 abbrev pub opOf : Switch → Op
 opOf s = switching (s .on) (s .subject)
@@ -47,44 +49,60 @@ abbrev pub tried : PlainTrial → Trial
 tried accepted = Accepted
 tried (refused n) = Refused n
 
--- refusals 2 to 6 of a load
-unfoldable pub earlyTrial : ℕ → ℕ → List ℕ → List ℕ → PlainTrial
-earlyTrial size start words numbers = firstHeld (
+-- refusals 2 to 6 of a load, 16 among them; the marks are eight words for each of four kinds
+unfoldable pub earlyTrial : ℕ → ℕ → ℕ → List ℕ → List ℕ → PlainTrial
+earlyTrial size start kinds marks numbers = firstHeld (
     (2, badSize size)
     ∷ (3, badStart size start)
-    ∷ (4, badMarks size words)
+    ∷ (4, badMarks size kinds (byKind marks))
     ∷ (5, badCount numbers)
+    ∷ (16, badKinds kinds size (length (pairs numbers)))
     ∷ (6, any (outside size) (pairs numbers))
     ∷ [])
+
+-- a mark of a kind in use, from 0 on, for a number not below the count of states, or of a kind that is not in use
+abbrev pub badMark : ℕ → ℕ → List (List ℕ) → ℕ → ℕ → Bool
+badMark n k marks kind s = (leb n s || leb k kind) && carriedBy marks kind s
+
+-- the change of the plain table
+abbrev pub changeOf : Op → Change
+changeOf (Add from to) = add (from, to)
+changeOf (Cut from to) = cut (from, to)
+changeOf (Mark state kind) = mark state kind
+changeOf (Unmark state kind) = unmark state kind
 
 -- is the edge in the rows?
 abbrev pub there : List ℕ → List ℕ → ℕ → ℕ → Bool
 there targets starts from to = ltb (placeOf to (rowAt targets starts from)) (degreeAt starts from)
 
 -- 6, 8 and 9 of an add, read off the rows
-unfoldable pub addConditions : ℕ → List ℕ → List ℕ → ℕ → ℕ → List (ℕ × Bool)
-addConditions size targets starts from to =
-    (6, outside size (from, to)) ∷ (8, there targets starts from to) ∷ (9, leb 2048 (edgeCount starts size)) ∷ []
+unfoldable pub addConditions : ℕ → ℕ → List ℕ → List ℕ → ℕ → ℕ → List (ℕ × Bool)
+addConditions size kinds targets starts from to =
+    (6, outside size (from, to)) ∷ (8, there targets starts from to) ∷ (9, ltb 2048 ((edgeCount starts size + 1) * kinds)) ∷ []
 
 -- 6 and 10 of a cut
 unfoldable pub cutConditions : ℕ → List ℕ → List ℕ → ℕ → ℕ → List (ℕ × Bool)
 cutConditions size targets starts from to = (6, outside size (from, to)) ∷ (10, not (there targets starts from to)) ∷ []
 
--- 6 and 13 of a mark, read off the words
-unfoldable pub markConditions : ℕ → List ℕ → ℕ → List (ℕ × Bool)
-markConditions size words state = (6, beyond size state) ∷ (13, accepts words state) ∷ []
+-- does a state carry a kind, by the words of a game of so many states? Its copy in the layer of that kind has the bit.
+abbrev pub carriesIn : ℕ → List ℕ → ℕ → ℕ → Bool
+carriesIn size words state kind = accepts words (copy size (kind - 1) state)
 
--- 6 and 14 of an unmark
-unfoldable pub unmarkConditions : ℕ → List ℕ → ℕ → List (ℕ × Bool)
-unmarkConditions size words state = (6, beyond size state) ∷ (14, not (accepts words state)) ∷ []
+-- 4, 6 and 13 of a mark, read off the words
+unfoldable pub markConditions : ℕ → ℕ → List ℕ → ℕ → ℕ → List (ℕ × Bool)
+markConditions size kinds words state kind = (4, ltb kinds kind) ∷ (6, beyond size state) ∷ (13, carriesIn size words state kind) ∷ []
+
+-- 4, 6 and 14 of an unmark
+unfoldable pub unmarkConditions : ℕ → ℕ → List ℕ → ℕ → ℕ → List (ℕ × Bool)
+unmarkConditions size kinds words state kind = (4, ltb kinds kind) ∷ (6, beyond size state) ∷ (14, not (carriesIn size words state kind)) ∷ []
 
 -- the conditions of a change itself
-abbrev pub conditionsIn : Op → ℕ → Rows → List ℕ → List (ℕ × Bool)
-conditionsIn (Add from to) size rows words = addConditions size (rows .targets) (rows .starts) from to
-conditionsIn (Cut from to) size rows words = cutConditions size (rows .targets) (rows .starts) from to
-conditionsIn (Mark state) size rows words = markConditions size words state
-conditionsIn (Unmark state) size rows words = unmarkConditions size words state
+abbrev pub conditionsIn : Op → ℕ → ℕ → Rows → List ℕ → List (ℕ × Bool)
+conditionsIn (Add from to) size kinds rows words = addConditions size kinds (rows .targets) (rows .starts) from to
+conditionsIn (Cut from to) size kinds rows words = cutConditions size (rows .targets) (rows .starts) from to
+conditionsIn (Mark state kind) size kinds rows words = markConditions size kinds words state kind
+conditionsIn (Unmark state kind) size kinds rows words = unmarkConditions size kinds words state kind
 
--- the trial of a change: 11 behind its own conditions
-unfoldable pub trialIn : Op → ℕ → Rows → List ℕ → ℕ → PlainTrial
-trialIn op size rows words room = firstHeld (conditionsIn op size rows words ++ roomCondition size room)
+-- the trial of a change: 11 behind its own conditions; 1, that its kind is none, is tried ahead of it (crates/batch/specs/Batches.antt)
+unfoldable pub trialIn : Op → ℕ → ℕ → Rows → List ℕ → ℕ → PlainTrial
+trialIn op size kinds rows words room = firstHeld (conditionsIn op size kinds rows words ++ roomCondition size kinds room)

@@ -2,11 +2,13 @@
 use rows::wide;
 ghost use mathlib.Core.Path.{_≡_};
 ghost use lib.ListN.{length};
-ghost use Rattle.plain.specs.Lists.{any};
-ghost use Rattle.plain.specs.Refusals.{firstHeld, badMarks, outside, roomCondition, pairs};
+ghost use Prim.Native.Nat.{_≤_, _<_};
+ghost use Rattle.plain.specs.Lists.{any, anyBelow};
+ghost use Rattle.plain.specs.Table.{byKind};
+ghost use Rattle.plain.specs.Refusals.{firstHeld, badMarks, badKinds, outside, roomCondition, pairs};
 ghost use Rattle.rows.specs.Rows.{Tabled};
 ghost use Rattle.rows.specs.Change.{rowsOf};
-ghost use Rattle.table.specs.Trials.{arraysOf, opOf, tried, earlyTrial, there, addConditions, cutConditions, markConditions, unmarkConditions, conditionsIn, trialIn};
+ghost use Rattle.table.specs.Trials.{arraysOf, opOf, tried, badMark, earlyTrial, there, carriesIn, addConditions, cutConditions, markConditions, unmarkConditions, conditionsIn, trialIn};
 ghost use Rattle.table.specs.Filing.{recounted, countedAll, filedIn, Attempted, Empty, Limits, FiledAll, Tried};
 
 // Where a refusal stands: it is that of the call, or that of a line of a batch, with its position.
@@ -21,18 +23,18 @@ pub struct Refusal {
     pub position: Position,
 }
 
-// A change of the table: of its moves, or of its paying marks.
+// A change of the table: of its moves, or of its paying marks. Kinds of pay count from 1.
 pub enum Op {
     Add { from: u16, to: u16 },
     Cut { from: u16, to: u16 },
-    Mark { state: u16 },
-    Unmark { state: u16 },
+    Mark { state: u16, kind: u16 },
+    Unmark { state: u16, kind: u16 },
 }
 
 // What a change switches on or off: an edge (move), or a state's paying mark.
 pub enum Subject {
     Edge { from: u16, to: u16 },
-    Mark { state: u16 },
+    Mark { state: u16, kind: u16 },
 }
 
 // A change as it is made: what is switched, and whether it comes or goes. Every test of it has two ways out: a match of the four kinds between the copies of the
@@ -48,22 +50,47 @@ pub enum Trial {
     Refused(u16),
 }
 
-// The most moves of a game, and the numbers of so many moves.
-const MOVES: u16 = 2048;
+// The most states and moves of a game, each times its kinds, the numbers of so many moves, and the most kinds.
+const COPIES: usize = 512;
+
+const MOVES: usize = 2048;
 
 pub const NUMBERS: usize = 4096;
 
-// Is a paying mark set for a number not below the count of states?
-fn marks_outside(words: &[u64; 8], size: u16) -> bool
-    ensures { λ r. ⌜ r ≡ badMarks size (now (words .entry)) ⌝ }
+const KINDS: u16 = 4;
+
+// The bits of a kind's eight words.
+const BITS: usize = 512;
+
+// Is a mark of a kind, which counts from 0, set for a number not below the count of states, or of a kind that is not in use?
+fn kind_outside(marks: &[u64; 32], kind: usize, size: u16, kinds: u16) -> bool
+    requires { ⌜ kind < 4 ⌝ }
+    ensures { λ r. ⌜ r ≡ anyBelow 512 (badMark size kinds (byKind (now (marks .entry))) kind) ⌝ }
 {
-    let mut s: usize = 512;
+    let mut s: usize = BITS;
     while 0 < s {
         s -= 1;
-        if wide(size) <= s {
-            if marks::accepts_in(words, s) {
+        if marks::accepts_in(marks, BITS * kind + s) {
+            if wide(kinds) <= kind {
                 return true;
             }
+            if wide(size) <= s {
+                return true;
+            }
+        }
+    }
+    false
+}
+
+// Is such a mark set, of any kind?
+fn marks_outside(marks: &[u64; 32], size: u16, kinds: u16) -> bool
+    ensures { λ r. ⌜ r ≡ badMarks size kinds (byKind (now (marks .entry))) ⌝ }
+{
+    let mut kind: usize = wide(KINDS);
+    while 0 < kind {
+        kind -= 1;
+        if kind_outside(marks, kind, size, kinds) {
+            return true;
         }
     }
     false
@@ -86,9 +113,26 @@ fn any_outside(numbers: &[u16], size: u16) -> bool
     false
 }
 
-// Refusals 2 to 6 of a load.
-fn early_trial(size: u16, start: u16, words: &[u64; 8], numbers: &[u16]) -> Trial
-    ensures { λ r. ⌜ r ≡ tried (earlyTrial size start (now (words .entry)) (now (numbers .entry))) ⌝ }
+// Refusal 16: no kind or more than four, or so many that the copies of states or moves are too many. The moves are those of a list that keeps its limit.
+fn kinds_outside(kinds: u16, size: u16, moves: usize) -> bool
+    requires { ⌜ moves ≤ 2048 ⌝ }
+    ensures { λ r. ⌜ r ≡ badKinds kinds size moves ⌝ }
+{
+    if kinds == 0 {
+        return true;
+    }
+    if KINDS < kinds {
+        return true;
+    }
+    if COPIES < look::times(size, kinds) {
+        return true;
+    }
+    MOVES < moves * wide(kinds)
+}
+
+// Refusals 2 to 6 of a load, 16 among them.
+fn early_trial(size: u16, start: u16, kinds: u16, marks: &[u64; 32], numbers: &[u16]) -> Trial
+    ensures { λ r. ⌜ r ≡ tried (earlyTrial size start kinds (now (marks .entry)) (now (numbers .entry))) ⌝ }
 {
     if size == 0 {
         return Trial::Refused(2);
@@ -99,7 +143,7 @@ fn early_trial(size: u16, start: u16, words: &[u64; 8], numbers: &[u16]) -> Tria
     if size <= start {
         return Trial::Refused(3);
     }
-    if marks_outside(words, size) {
+    if marks_outside(marks, size, kinds) {
         return Trial::Refused(4);
     }
     if numbers.len() % 2 == 1 {
@@ -107,6 +151,9 @@ fn early_trial(size: u16, start: u16, words: &[u64; 8], numbers: &[u16]) -> Tria
     }
     if NUMBERS < numbers.len() {
         return Trial::Refused(5);
+    }
+    if kinds_outside(kinds, size, numbers.len() / 2) {
+        return Trial::Refused(16);
     }
     if any_outside(numbers, size) {
         return Trial::Refused(6);
@@ -140,11 +187,11 @@ fn file_all(numbers: &[u16], size: u16, targets: &mut [u16; 2048], starts: &mut 
     false
 }
 
-// Refusal 11: the list lent for the walk has fewer entries than the game has states.
-pub fn room_trial(size: u16, room: usize) -> Trial
-    ensures { λ r. ⌜ r ≡ tried (firstHeld (roomCondition size room)) ⌝ }
+// Refusal 11: the list lent for the walk has fewer entries than the game has states, in all its layers.
+pub fn room_trial(size: u16, kinds: u16, room: usize) -> Trial
+    ensures { λ r. ⌜ r ≡ tried (firstHeld (roomCondition size kinds room)) ⌝ }
 {
-    if room < wide(size) {
+    if room < look::times(size, kinds) {
         return Trial::Refused(11);
     }
     Trial::Accepted
@@ -154,23 +201,24 @@ pub fn room_trial(size: u16, room: usize) -> Trial
 pub fn load_trial(
     size: u16,
     start: u16,
-    words: &[u64; 8],
+    kinds: u16,
+    marks: &[u64; 32],
     numbers: &[u16],
     targets: &mut [u16; 2048],
     starts: &mut [u16; 513],
     room: usize,
 ) -> Trial
     requires { ⌜ Empty (now targets) (now starts) ⌝ }
-    ensures { λ r. ⌜ Tried (record { size = size; start = start; words = now (words .entry); numbers = now (numbers .entry) }) room r (now (targets .exit)) (now (starts .exit)) ⌝ }
+    ensures { λ r. ⌜ Tried (record { size = size; start = start; kinds = kinds; marks = byKind (now (marks .entry)); numbers = now (numbers .entry) }) room r (now (targets .exit)) (now (starts .exit)) ⌝ }
 {
-    let early = early_trial(size, start, words, numbers);
+    let early = early_trial(size, start, kinds, marks, numbers);
     if let Trial::Refused(n) = early {
         return Trial::Refused(n);
     }
     if file_all(numbers, size, targets, starts) {
         return Trial::Refused(8);
     }
-    room_trial(size, room)
+    room_trial(size, kinds, room)
 }
 
 // Does a move name a number that is not below the count of states?
@@ -184,9 +232,16 @@ fn is_outside(size: u16, from: u16, to: u16) -> bool
 }
 
 // Refusals 6, 8 and 9 of an add.
-fn add_trial(size: u16, targets: &[u16; 2048], starts: &[u16; 513], from: u16, to: u16) -> Trial
+fn add_trial(
+    size: u16,
+    kinds: u16,
+    targets: &[u16; 2048],
+    starts: &[u16; 513],
+    from: u16,
+    to: u16,
+) -> Trial
     requires { ⌜ Tabled (now targets) (now starts) ⌝ }
-    ensures { λ r. ⌜ r ≡ tried (firstHeld (addConditions size (now (targets .entry)) (now (starts .entry)) from to)) ⌝ }
+    ensures { λ r. ⌜ r ≡ tried (firstHeld (addConditions size kinds (now (targets .entry)) (now (starts .entry)) from to)) ⌝ }
 {
     if is_outside(size, from, to) {
         return Trial::Refused(6);
@@ -194,7 +249,8 @@ fn add_trial(size: u16, targets: &[u16; 2048], starts: &[u16; 513], from: u16, t
     if is_there(targets, starts, from, to) {
         return Trial::Refused(8);
     }
-    if MOVES <= rows::edge_count(starts, size) {
+    let present = rows::edge_count(starts, size);
+    if MOVES < look::times(present, kinds) + wide(kinds) {
         return Trial::Refused(9);
     }
     Trial::Accepted
@@ -214,27 +270,40 @@ fn cut_trial(size: u16, targets: &[u16; 2048], starts: &[u16; 513], from: u16, t
     Trial::Accepted
 }
 
-// Refusals 6 and 13 of a mark.
-fn mark_trial(size: u16, words: &[u64; 8], state: u16) -> Trial
-    ensures { λ r. ⌜ r ≡ tried (firstHeld (markConditions size (now (words .entry)) state)) ⌝ }
+// Does a state carry a kind? Its copy in the layer of that kind has the bit.
+fn carries(size: u16, words: &[u64; 8], state: u16, kind: u16) -> bool
+    ensures { λ r. ⌜ r ≡ carriesIn size (now (words .entry)) state kind ⌝ }
 {
+    marks::accepts_in(words, layers::copy_of(size, look::down(kind), state))
+}
+
+// Refusals 4, 6 and 13 of a mark.
+fn mark_trial(size: u16, kinds: u16, words: &[u64; 8], state: u16, kind: u16) -> Trial
+    ensures { λ r. ⌜ r ≡ tried (firstHeld (markConditions size kinds (now (words .entry)) state kind)) ⌝ }
+{
+    if kinds < kind {
+        return Trial::Refused(4);
+    }
     if size <= state {
         return Trial::Refused(6);
     }
-    if marks::accepts_in(words, wide(state)) {
+    if carries(size, words, state, kind) {
         return Trial::Refused(13);
     }
     Trial::Accepted
 }
 
-// Refusals 6 and 14 of an unmark.
-fn unmark_trial(size: u16, words: &[u64; 8], state: u16) -> Trial
-    ensures { λ r. ⌜ r ≡ tried (firstHeld (unmarkConditions size (now (words .entry)) state)) ⌝ }
+// Refusals 4, 6 and 14 of an unmark.
+fn unmark_trial(size: u16, kinds: u16, words: &[u64; 8], state: u16, kind: u16) -> Trial
+    ensures { λ r. ⌜ r ≡ tried (firstHeld (unmarkConditions size kinds (now (words .entry)) state kind)) ⌝ }
 {
+    if kinds < kind {
+        return Trial::Refused(4);
+    }
     if size <= state {
         return Trial::Refused(6);
     }
-    if !marks::accepts_in(words, wide(state)) {
+    if !carries(size, words, state, kind) {
         return Trial::Refused(14);
     }
     Trial::Accepted
@@ -244,47 +313,49 @@ fn unmark_trial(size: u16, words: &[u64; 8], state: u16) -> Trial
 fn own_trial(
     switch: Switch,
     size: u16,
+    kinds: u16,
     targets: &[u16; 2048],
     starts: &[u16; 513],
     words: &[u64; 8],
 ) -> Trial
     requires { ⌜ Tabled (now targets) (now starts) ⌝ }
-    ensures { λ r. ⌜ r ≡ tried (firstHeld (conditionsIn (opOf switch) size (rowsOf (now (targets .entry)) (now (starts .entry))) (now (words .entry)))) ⌝ }
+    ensures { λ r. ⌜ r ≡ tried (firstHeld (conditionsIn (opOf switch) size kinds (rowsOf (now (targets .entry)) (now (starts .entry))) (now (words .entry)))) ⌝ }
 {
     let subject = switch.subject;
     match subject {
         Subject::Edge { from, to } => {
             if switch.on {
-                return add_trial(size, targets, starts, from, to);
+                return add_trial(size, kinds, targets, starts, from, to);
             }
             cut_trial(size, targets, starts, from, to)
         }
-        Subject::Mark { state } => {
+        Subject::Mark { state, kind } => {
             if switch.on {
-                return mark_trial(size, words, state);
+                return mark_trial(size, kinds, words, state, kind);
             }
-            unmark_trial(size, words, state)
+            unmark_trial(size, kinds, words, state, kind)
         }
     }
 }
 
-// Tries a change: 11 comes behind its own refusals.
+// Tries a change whose kind, if it has one, is 1 to 4: 11 comes behind its own refusals.
 fn change_trial(
     switch: Switch,
     size: u16,
+    kinds: u16,
     targets: &[u16; 2048],
     starts: &[u16; 513],
     words: &[u64; 8],
     room: usize,
 ) -> Trial
     requires { ⌜ Tabled (now targets) (now starts) ⌝ }
-    ensures { λ r. ⌜ r ≡ tried (trialIn (opOf switch) size (rowsOf (now (targets .entry)) (now (starts .entry))) (now (words .entry)) room) ⌝ }
+    ensures { λ r. ⌜ r ≡ tried (trialIn (opOf switch) size kinds (rowsOf (now (targets .entry)) (now (starts .entry))) (now (words .entry)) room) ⌝ }
 {
-    let own = own_trial(switch, size, targets, starts, words);
+    let own = own_trial(switch, size, kinds, targets, starts, words);
     if let Trial::Refused(n) = own {
         return Trial::Refused(n);
     }
-    room_trial(size, room)
+    room_trial(size, kinds, room)
 }
 
 // One edge more enters a state, or one fewer.
@@ -335,12 +406,13 @@ fn file_one(
             let k = rows::place(targets, starts, from, to);
             rows::remove(targets, starts, size, from, k);
         }
-        Subject::Mark { state } => {
+        Subject::Mark { state, kind } => {
+            let copy = layers::copy_of(size, look::down(kind), state);
             if switch.on {
-                marks::set_mark(words, wide(state));
+                marks::set_mark(words, copy);
                 return;
             }
-            marks::clear_mark(words, wide(state));
+            marks::clear_mark(words, copy);
         }
     }
 }
@@ -349,6 +421,7 @@ fn file_one(
 pub fn attempt_change(
     switch: Switch,
     size: u16,
+    kinds: u16,
     targets: &mut [u16; 2048],
     starts: &mut [u16; 513],
     words: &mut [u64; 8],
@@ -356,9 +429,9 @@ pub fn attempt_change(
     room: usize,
 ) -> Trial
     requires { ⌜ Tabled (now targets) (now starts) × (length (now indegree) ≡ 512) ⌝ }
-    ensures { λ r. ⌜ Attempted (opOf switch) size room (arraysOf (now (targets .entry)) (now (starts .entry)) (now (words .entry)) (now (indegree .entry))) r (arraysOf (now (targets .exit)) (now (starts .exit)) (now (words .exit)) (now (indegree .exit))) ⌝ }
+    ensures { λ r. ⌜ Attempted (opOf switch) size kinds room (arraysOf (now (targets .entry)) (now (starts .entry)) (now (words .entry)) (now (indegree .entry))) r (arraysOf (now (targets .exit)) (now (starts .exit)) (now (words .exit)) (now (indegree .exit))) ⌝ }
 {
-    let trial = change_trial(switch, size, targets, starts, words, room);
+    let trial = change_trial(switch, size, kinds, targets, starts, words, room);
     if let Trial::Refused(n) = trial {
         return Trial::Refused(n);
     }

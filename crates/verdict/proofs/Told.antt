@@ -1,22 +1,27 @@
 -- The answer and the written walk are those of the verdict; an answer that is told is the only one told so. Assumes nothing.
 use mathlib.Core.Path.{_≡_, refl, sym, ap, _∙_}
 use mathlib.Core.Bool.{Bool, true, false, cond}
-use mathlib.Core.List.{List, [], _∷_, _++_, append-assoc}
-use Prim.Native.Nat.{ℕ, _+_, _-_, _≤_, _<_}
+use mathlib.Core.List.{List, [], _∷_, _++_, append-assoc, map, map-append}
+use Prim.Native.Nat.{ℕ, _+_, _*_, _-_, _≤_, _<_}
+use native.Mathlib.Nat.{mul-comm}
 use native.Mathlib.Omega.{arith}
 use lib.Dec.{eqb}
-use lib.ListN.{length, take, drop, length-append}
+use lib.ListN.{length, take, drop, length-append, length-map}
 use lib.Seq.{take-at, take-append-seam}
 use borrow.Author.Tests.{eq-eqb, ne-eqb}
-use Rattle.plain.specs.Search.{Verdict, none, lasso, unfinished}
+use Rattle.plain.specs.Search.{Verdict, none, lasso, unfinished, verdict}
+use Rattle.plain.specs.Table.{Table, printed, printedVerdict, final}
+use Rattle.plain.specs.Layers.{stateOf}
 use Rattle.plain.specs.Machine.{alone, Refusal as PlainRefusal, Answer as PlainAnswer, answer, numbered, written, Line, gameLine, roundLine, noneLine, noLine, waysLine, answerLine}
 use Rattle.plain.proofs.Answers.{first-line}
+use Rattle.plain.proofs.Tables.{Valid}
+use Rattle.plain.proofs.Demands.{verdict-right}
 use Rattle.table.specs.declared.Refusal.{Refusal}
 use Rattle.table.specs.declared.Position.{Position}
 use Rattle.table.specs.declared.Position.the-variants as Position
 use Rattle.verdict.specs.declared.Answer.{Answer}
 use Rattle.verdict.specs.declared.Answer.the-variants.{Refused, Clear, Round}
-use Rattle.verdict.specs.Answers.{answerIs, refusing, shownWalk, positionOf, refusalOf, shown, NoRefusal, WalkOf, Tells, Answered}
+use Rattle.verdict.specs.Answers.{answerIs, refusing, shownWalk, positionOf, refusalOf, shown, NoRefusal, lowered, WalkOf, Tells, Answered}
 
 two-parts : (stem cycle rest : List ℕ) → take (length stem + length cycle) (stem ++ (cycle ++ rest)) ≡ stem ++ cycle
 two-parts stem cycle rest = rw (← length-append stem cycle, ← append-assoc stem cycle rest) (take-append-seam (stem ++ cycle) rest)
@@ -27,6 +32,19 @@ walk-fits : (stem len : ℕ) (w : Verdict) (walk : List ℕ) (size : ℕ) → Wa
 walk-fits stem len none walk size t short = (omega (arith, t .0), omega (arith, t .1))
 walk-fits stem len (lasso first round) walk size t short = (omega (arith, t .0, t .1), omega (arith, t .1, short first round refl))
 walk-fits stem len unfinished walk size t short = absurd t
+
+-- a walk that is that of a verdict is, in plain states, that of the verdict as it is printed
+walk-printed : (t : Table) (stem len : ℕ) (walk : List ℕ) (w : Verdict) → WalkOf stem len walk w → WalkOf stem len (lowered (t .size) (t .kinds - 1) walk) (printedVerdict t w)
+unfolding lowered printed printedVerdict
+walk-printed t stem len walk none k = k
+walk-printed t stem len walk (lasso first round) k =
+    let f = stateOf (t .size) (t .kinds - 1) in (
+      k .0 ∙ sym (length-map first f),
+      omega (arith, k .1, length-map first f, length-map round f),
+      (map f (k .2 .0), ap (map f) (k .2 .1) ∙ map-append f (first ++ round) (k .2 .0) ∙ ap (λ (l : List ℕ). l ++ map f (k .2 .0)) (map-append f first round)),
+      omega (arith, k .3, length-map round f),
+    )
+walk-printed t stem len walk unfinished k = k
 
 -- a search has come to the lengths of stem and walk, with so many looks
 module _ (spent kept stem len : ℕ) where
@@ -60,14 +78,17 @@ module _ (spent kept stem len : ℕ) where
       ap (λ (l : List ℕ). l ++ drop len lent) head ∙ append-assoc first round (drop len lent) ∙ ap (λ (i : ℕ). first ++ (round ++ drop i lent)) (t .1)
   tells-written unfinished walk lent t = absurd t
 
-  -- what was told of a walk that fits is the plain table's answer
-  pub told : (w : Verdict) (walk lent lent′ : List ℕ) (r : Answer) (size : ℕ) → WalkOf stem len walk w → Tells spent kept stem len walk lent r lent′
-      → ((first round : List ℕ) → w ≡ lasso first round → length first + length round ≤ size) → size ≤ 512 → size ≤ length lent → Answered (answer w spent kept) lent r lent′
-  told w walk lent lent′ r size t s short few room =
-      let fit = walk-fits stem len w walk size t short in
-      let list : lent′ ≡ written (answer w spent kept) lent = s .wrote (fit .0) (omega (arith, fit .1)) (omega (arith, fit .1)) ∙ tells-written w walk lent t in
+  -- what was told of the walk to which the search on a table has come, in plain states, is the plain table's answer
+  pub told : (t : Table) → Valid t → (walk lent lent′ : List ℕ) (r : Answer) → WalkOf stem len walk (verdict (final t)) → Tells spent kept stem len (lowered (t .size) (t .kinds - 1) walk) lent r lent′
+      → t .size * t .kinds ≤ length lent → Answered (answer (printedVerdict t (verdict (final t))) spent kept) lent r lent′
+  told t ok walk lent lent′ r k s room =
+      let fit = walk-fits stem len (verdict (final t)) walk (t .size * t .kinds) k (verdict-right t ok .short) in
+      let w = printedVerdict t (verdict (final t)) in
+      let p : WalkOf stem len (lowered (t .size) (t .kinds - 1) walk) w = walk-printed t stem len walk (verdict (final t)) k in
+      let few : len ≤ 512 = omega (arith, fit .1, mul-comm (t .size) (t .kinds), ok .states-few) in
+      let list : lent′ ≡ written (answer w spent kept) lent = s .wrote (fit .0) few (omega (arith, fit .1)) ∙ tells-written w (lowered (t .size) (t .kinds - 1) walk) lent p in
       record {
-        line = tells-answer w walk lent t ∙ (λ i. shown (sym (s .answer-is) i) (sym list i) ∷ []);
+        line = tells-answer w (lowered (t .size) (t .kinds - 1) walk) lent p ∙ (λ i. shown (sym (s .answer-is) i) (sym list i) ∷ []);
         list = list;
       }
 

@@ -1,13 +1,14 @@
 -- A walk written into a list: the first entries of one list in place of those of another. Assumes nothing.
 use mathlib.Core.Path.{_≡_, refl, sym, ap, _∙_}
-use mathlib.Core.List.{List, [], _∷_, _++_, append-nil, append-assoc}
+use mathlib.Core.List.{List, [], _∷_, _++_, append-nil, append-assoc, map}
 use Prim.Native.Nat.{ℕ, zero, suc, _+_, _-_, _≤_, _<_}
 use native.Mathlib.Nat.{not-suc-le-zero, le-of-suc-le-suc}
 use native.Mathlib.Omega.{arith}
 use lib.ListN.{length, getD, set, take, drop, length-drop, drop-of-length-le}
 use lib.Seq.{getD-drop, length-take-le, take-at, drop-at, take-all, take-add, drop-drop}
 use borrow.Rule.Slice.PartMut.{putMid}
-use Rattle.verdict.specs.Answers.{shownWalk}
+use Rattle.plain.specs.Layers.{stateOf}
+use Rattle.verdict.specs.Answers.{shownWalk, lowered}
 
 -- the first n entries of xs, the rest as it was
 abbrev pub over : ℕ → List ℕ → List ℕ → List ℕ
@@ -59,3 +60,33 @@ module _ (walk lent : List ℕ) (stem len : ℕ) (size : length walk ≡ 512) (l
       ∙ ap (λ (l : List ℕ). take stem walk ++ l) (append-nil second ∙ tail)
       ∙ sym (append-assoc (take stem walk) (take (len - stem) (drop stem walk)) (drop len lent))
       ∙ ap (λ (l : List ℕ). l ++ drop len lent) (sym (take-add stem (len - stem) walk) ∙ ap (λ (n : ℕ). take n walk) sum)
+
+-- ---- in plain states
+
+-- a turn: the entry at i, which is as it was, is lowered
+pub lowered-next : (f : ℕ → ℕ) (ys : List ℕ) (i : ℕ) → i < length ys → set (over i (map f ys) ys) i (f (getD (over i (map f ys) ys) i 0)) ≡ over (suc i) (map f ys) ys
+lowered-next f [] i h = absurd (not-suc-le-zero h)
+lowered-next f (y ∷ ys) zero h = refl
+lowered-next f (y ∷ ys) (suc i) h = ap (λ (l : List ℕ). f y ∷ l) (lowered-next f ys i (le-of-suc-le-suc h))
+
+take-map : (f : ℕ → ℕ) (xs : List ℕ) (n : ℕ) → take n (map f xs) ≡ map f (take n xs)
+take-map f xs zero = refl
+take-map f [] (suc n) = refl
+take-map f (x ∷ xs) (suc n) = ap (λ (l : List ℕ). f x ∷ l) (take-map f xs n)
+
+-- a game of one kind has one layer
+pub lowered-one : (size above : ℕ) (walk : List ℕ) → above ≤ 0 → lowered size above walk ≡ walk
+unfolding lowered stateOf
+lowered-one size above [] h = refl
+lowered-one size zero (x ∷ walk) h = ap (λ (l : List ℕ). x ∷ l) (lowered-one size 0 walk h)
+lowered-one size (suc above) (x ∷ walk) h = absurd (omega arith)
+
+-- a walk that was written and then lowered is the lowered walk, written
+pub lowered-written : (size above len : ℕ) (walk lent : List ℕ) → len ≤ length walk → shownWalk len (lowered size above (shownWalk len walk lent)) (shownWalk len walk lent) ≡ shownWalk len (lowered size above walk) lent
+unfolding shownWalk lowered
+lowered-written size above len walk lent h =
+    let f = stateOf size above in
+    let head : length (take len walk) ≡ len = length-take-le len walk h in
+    let first : take len (map f (over len walk lent)) ≡ take len (map f walk) =
+    take-map f (over len walk lent) len ∙ ap (map f) (take-at (take len walk) (drop len lent) len head) ∙ sym (take-map f walk len) in
+    λ i. first i ++ drop-at (take len walk) (drop len lent) len head i

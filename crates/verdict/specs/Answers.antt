@@ -2,11 +2,12 @@
 use Prim.Native.Nat.{ℕ, _+_, _-_, _≤_, _<_}
 use mathlib.Core.Path.{_≡_}
 use mathlib.Core.Bool.{Bool, true, false, cond}
-use mathlib.Core.List.{List, [], _∷_, _++_}
+use mathlib.Core.List.{List, [], _∷_, _++_, map}
 use lib.Dec.{eqb}
 use lib.ListN.{length, take, drop}
 use Rattle.plain.specs.Lists.{Begins}
 use Rattle.plain.specs.Search.{Verdict, none, lasso, unfinished}
+use Rattle.plain.specs.Layers.{stateOf}
 use Rattle.plain.specs.Refusals.{Load, loadTrial}
 use Rattle.plain.specs.Machine.{Position as PlainPosition, alone, atLine, Refusal as PlainRefusal, Answer as PlainAnswer, loadAnswer, tableOf, written, Line, roundLine, noneLine, noLine, answerLine}
 use Rattle.table.specs.declared.Refusal.{Refusal}
@@ -33,6 +34,10 @@ answerIs spent kept stem len = cond (eqb len 0) (Clear spent kept) (Round spent 
 -- what is written of a walk: its first entries
 unfoldable pub shownWalk : ℕ → List ℕ → List ℕ → List ℕ
 shownWalk n walk lent = take n walk ++ drop n lent
+
+-- "The walk is printed in plain states": the states of which its entries are copies
+unfoldable pub lowered : ℕ → ℕ → List ℕ → List ℕ
+lowered size above walk = map (stateOf size above) walk
 
 -- What telling leaves: the answer, and the walk at the head of the list, where it fits. Only a forged session has a walk that does not: of what the list then holds nothing is said.
 pub record Tells (spent kept stem len : ℕ) (walk lent : List ℕ) (r : Answer) (lent′ : List ℕ) : Type 0 where

@@ -6,7 +6,7 @@ ghost use mathlib.Core.Path.{_≡_};
 ghost use mathlib.Core.List.{_++_};
 ghost use Prim.Native.Nat.{_+_, _≤_};
 ghost use lib.ListN.{length, take, drop};
-ghost use Rattle.verdict.specs.Answers.{answerIs, refusing, isRefused, shownWalk, Tells};
+ghost use Rattle.verdict.specs.Answers.{answerIs, refusing, isRefused, shownWalk, lowered, Tells};
 
 // The answer to a call: a refusal, or the probes spent and kept, and with a round the lengths of stem and round.
 pub enum Answer {
@@ -73,19 +73,48 @@ fn write_walk(walk: &[u16; 512], stem: u16, len: u16, lent: &mut [u16])
     }
 }
 
-// Answers what a search has come to, and writes its walk into the lent list.
+// The first entries of the list, as the states of which they are copies. A pass of its own, so that the walk of a game of one kind is copied many entries at a time.
+fn lower(size: u16, above: u16, count: usize, list: &mut [u16])
+    requires { ⌜ count ≤ length (now list) ⌝ }
+    ensures { λ r. ⌜ now (list .exit) ≡ shownWalk count (lowered size above (now (list .entry))) (now (list .entry)) ⌝ }
+{
+    let mut i: usize = 0;
+    while i < count {
+        list[i] = layers::state_of(size, above, list[i]);
+        i += 1;
+    }
+}
+
+// Writes the walk in plain states. `above` is how many layers lie above the first: of a game of one kind the walk's states are plain.
+fn show_walk(walk: &[u16; 512], stem: u16, len: u16, size: u16, above: u16, lent: &mut [u16])
+    requires { ⌜ length (now walk) ≡ 512 ⌝ }
+    ensures { λ r. ⌜ (stem ≤ len → len ≤ 512 → len ≤ length (now (lent .entry)) → now (lent .exit) ≡ shownWalk len (lowered size above (now (walk .entry))) (now (lent .entry))) ⌝ }
+{
+    write_walk(walk, stem, len, lent);
+    if above == 0 {
+        return;
+    }
+    if lent.len() < wide(len) {
+        return;
+    }
+    lower(size, above, wide(len), lent);
+}
+
+// Answers what a search has come to, and writes its walk into the lent list, in plain states.
 pub fn tell(
     spent: u16,
     kept: u16,
     stem: u16,
     len: u16,
+    size: u16,
+    above: u16,
     walk: &[u16; 512],
     lent: &mut [u16],
 ) -> Answer
     requires { ⌜ length (now walk) ≡ 512 ⌝ }
-    ensures { λ r. ⌜ Tells spent kept stem len (now (walk .entry)) (now (lent .entry)) r (now (lent .exit)) ⌝ }
+    ensures { λ r. ⌜ Tells spent kept stem len (lowered size above (now (walk .entry))) (now (lent .entry)) r (now (lent .exit)) ⌝ }
 {
-    write_walk(walk, stem, len, lent);
+    show_walk(walk, stem, len, size, above, lent);
     answer_of(spent, kept, stem, len)
 }
 

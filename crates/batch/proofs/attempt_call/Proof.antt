@@ -19,7 +19,7 @@ returns : tie.Need-returns
 returns c =
     let k = c .before .before in
     call-made _ _ _ _ _ _
-    (call-stopped _ _ _ _ _ (k .before .ahead-trial .result) (k .before .ahead-trial .ensures) _ (c .ended .ensures) (sym (k .is-refused .ensures) ∙ c .before .if1 .taken))
+    (call-stopped _ _ _ _ _ _ (k .before .ahead-trial .result) (k .before .ahead-trial .ensures) _ (c .ended .ensures) (sym (k .is-refused .ensures) ∙ c .before .if1 .taken))
     (λ e. refl) (λ e. refl)
 
 attempt-lines-requires : tie.Need-attempt-lines-requires
@@ -31,8 +31,8 @@ returns-2 c =
     let n = alone .before in
     let k = n .before in
     call-made _ _ _ _ _ _
-    (call-tried _ _ _ _ _ (k .before .ahead-trial .result) (k .before .ahead-trial .ensures) (sym (k .is-refused .ensures) ∙ n .if1 .left) _ _ (c .attempt-lines .ensures))
-    (λ e. refl) (call-alone _ _ _ _ _ _ _ _ (alone .if2 .taken) (c .attempt-lines .ensures))
+    (call-tried _ _ _ _ _ _ (k .before .ahead-trial .result) (k .before .ahead-trial .ensures) (sym (k .is-refused .ensures) ∙ n .if1 .left) _ _ (c .attempt-lines .ensures))
+    (λ e. refl) (call-alone _ _ _ _ _ _ _ _ _ (alone .if2 .taken) (c .attempt-lines .ensures))
 
 attempt-lines-requires-2 : tie.Need-attempt-lines-requires-2
 attempt-lines-requires-2 c κs = search needs
@@ -50,7 +50,7 @@ returns-3 c =
     let n = ahead w in
     let k = n .before in
     call-made _ _ _ _ _ _
-    (call-tried _ _ _ _ _ (k .before .ahead-trial .result) (k .before .ahead-trial .ensures) (sym (k .is-refused .ensures) ∙ n .if1 .left) _ _ (w .attempt-lines2 .ensures))
+    (call-tried _ _ _ _ _ _ (k .before .ahead-trial .result) (k .before .ahead-trial .ensures) (sym (k .is-refused .ensures) ∙ n .if1 .left) _ _ (w .attempt-lines2 .ensures))
     (λ e. absurd (contra (sym (c .before .is-refused2 .ensures) ∙ c .if3 .taken) e)) (λ e. refl)
 
 returns-4 : tie.Need-returns-4
@@ -59,7 +59,7 @@ returns-4 c =
     let n = ahead w in
     let k = n .before in
     call-made _ _ _ _ _ _
-    (call-tried _ _ _ _ _ (k .before .ahead-trial .result) (k .before .ahead-trial .ensures) (sym (k .is-refused .ensures) ∙ n .if1 .left) _ _ (w .attempt-lines2 .ensures))
+    (call-tried _ _ _ _ _ _ (k .before .ahead-trial .result) (k .before .ahead-trial .ensures) (sym (k .is-refused .ensures) ∙ n .if1 .left) _ _ (w .attempt-lines2 .ensures))
     (λ e. refl) (λ e. absurd (contra e (sym (c .before .is-refused2 .ensures) ∙ c .if3 .left)))
 
 pub attempt-call-spec : {M : Type 1} → statement M

@@ -12,17 +12,17 @@ use Rattle.batch.proofs.attempt_lines.Statement.{statement}
 use Rattle.batch.proofs.attempt_lines.Tie as tie
 
 abbrev Inv-loop : tie.InvT-loop
-Inv-loop alone only lines size targets₀ starts₀ words₀ indegree₀ room end at₀ position₀ targets starts words indegree at position =
-    Walked (numbersIn alone only lines) size room (arraysOf targets₀ starts₀ words₀ indegree₀) at position (arraysOf targets starts words indegree)
+Inv-loop alone only lines size kinds targets₀ starts₀ words₀ indegree₀ room end at₀ position₀ targets starts words indegree at position =
+    Walked (numbersIn alone only lines) size kinds room (arraysOf targets₀ starts₀ words₀ indegree₀) at position (arraysOf targets starts words indegree)
 
 abbrev μ-loop : tie.MeasureT-loop
-μ-loop alone only lines size targets₀ starts₀ words₀ indegree₀ room end at₀ position₀ targets starts words indegree at position = end - at
+μ-loop alone only lines size kinds targets₀ starts₀ words₀ indegree₀ room end at₀ position₀ targets starts words indegree at position = end - at
 
 lines-end-requires : tie.Need-lines-end-requires Inv-loop μ-loop
 lines-end-requires c κs = search needs
 
 loop-holds : tie.Need-loop-holds Inv-loop μ-loop
-loop-holds c = walk-begun _ _ _ _ (c .before .before .pre)
+loop-holds c = walk-begun _ _ _ _ _ (c .before .before .pre)
 
 line-at-requires : tie.Need-line-at-requires Inv-loop μ-loop
 line-at-requires c κs =
@@ -46,7 +46,7 @@ returns c =
     let t = c .before .before .before in
     let p = t .before .before .before .before .before in
     let k = p .before in
-    walk-stopped _ _ _ _ _ _ _ (k .before .loop .inv) (line-at-requires k (p .line-at .lifetimes) .0) (p .line-at .result) (p .line-at .ensures) (t .attempt-line .result) _ (t .attempt-line .ensures)
+    walk-stopped _ _ _ _ _ _ _ _ (k .before .loop .inv) (line-at-requires k (p .line-at .lifetimes) .0) (p .line-at .result) (p .line-at .ensures) (t .attempt-line .result) _ (t .attempt-line .ensures)
     _ _ (c .ended .ensures) (sym (c .before .before .is-refused .ensures) ∙ c .before .if1 .taken)
 
 add-at : tie.Need-add-at Inv-loop μ-loop
@@ -63,7 +63,7 @@ loop-again c =
     let t = c .before .before in
     let p = t .before .before .before .before .before in
     let k = p .before in
-    walk-on _ _ _ _ _ _ _ (k .before .loop .inv) (line-at-requires k (p .line-at .lifetimes) .0) (p .line-at .result) (p .line-at .ensures) (t .attempt-line .result) _ (t .attempt-line .ensures)
+    walk-on _ _ _ _ _ _ _ _ (k .before .loop .inv) (line-at-requires k (p .line-at .lifetimes) .0) (p .line-at .result) (p .line-at .ensures) (t .attempt-line .result) _ (t .attempt-line .ensures)
     (sym (c .before .is-refused .ensures) ∙ c .if1 .left)
 
 ended-requires-2 : tie.Need-ended-requires-2 Inv-loop μ-loop
@@ -74,7 +74,7 @@ returns-2 c =
     let k = c .before in
     let s = k .before .before in
     let a = s .before .before .args in
-    walk-ended _ _ _ _ _ _ _ (k .before .loop .inv) _ _ (c .ended2 .ensures) (omega (arith, k .loop-test .left, s .lines-end .ensures, numbers-length (a .alone) (a .only) (now (a .lines))))
+    walk-ended _ _ _ _ _ _ _ _ (k .before .loop .inv) _ _ (c .ended2 .ensures) (omega (arith, k .loop-test .left, s .lines-end .ensures, numbers-length (a .alone) (a .only) (now (a .lines))))
 
 pub attempt-lines-spec : {M : Type 1} → statement M
 attempt-lines-spec =

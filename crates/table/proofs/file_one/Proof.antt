@@ -1,10 +1,11 @@
 -- `file_one` meets its contract: a change of moves leaves the words, one of marks the rows and the counts. Assumes nothing.
-use mathlib.Core.Path.{ap, _∙_}
+use mathlib.Core.Path.{_≡_, ap, _∙_}
 use mathlib.Core.Bool.{Bool}
-use Prim.Native.Nat.{ℕ}
+use Prim.Native.Nat.{ℕ, _-_}
 use denote.Ref.{now}
 use borrow.Author.Needs.{needs}
 use Rattle.plain.specs.Table.{withMark, withoutMark}
+use Rattle.plain.specs.Layers.{copy}
 use Rattle.rows.specs.Change.{rowsOf, removed}
 use Rattle.table.specs.Trials.{arraysOf}
 use Rattle.table.specs.Filing.{recounted, withRows, withWords}
@@ -38,21 +39,29 @@ remove-requires c κs = search needs
 enum-known-subject-2 : tie.Need-enum-known-subject-2
 enum-known-subject-2 c = search needs
 
-wide-requires : tie.Need-wide-requires
-wide-requires c κs = search needs
+down-requires : tie.Need-down-requires
+down-requires c κs = search needs
+
+copy-of-requires : tie.Need-copy-of-requires
+copy-of-requires c κs = search needs
+
+-- the copy in the layer of the kind named
+copied : (c : tie.After-copy-of) → let k = c .before .before .before in let a = k .before .before .args in
+    c .copy-of .result ≡ copy (a .size) (k .subject2 .given .0 .1 .0 - 1) (k .subject2 .given .0 .0)
+copied c =
+    let k = c .before .before .before in
+    let a = k .before .before .args in
+    c .copy-of .ensures ∙ ap (λ (n : ℕ). copy (a .size) n (k .subject2 .given .0 .0)) (c .before .down .ensures)
 
 set-mark-requires : tie.Need-set-mark-requires
 set-mark-requires c κs = search needs
 
 returns-2 : tie.Need-returns-2
 returns-2 c =
-    let t = c .before .before .before in
-    let k = t .before .before in
+    let t = c .before .before in
+    let k = t .before .before .before .before in
     let a = k .before .before .args in
-    rw (k .subject2 .given .1, t .if2 .taken) (ap (withWords (arraysOf (now (a .targets)) (now (a .starts)) (now (a .words)) (now (a .indegree)))) (c .set-mark .ensures ∙ ap (withMark (now (a .words))) (c .before .wide .ensures .0)))
-
-wide-requires-2 : tie.Need-wide-requires-2
-wide-requires-2 c κs = search needs
+    rw (k .subject2 .given .1, t .if2 .taken) (ap (withWords (arraysOf (now (a .targets)) (now (a .starts)) (now (a .words)) (now (a .indegree)))) (c .set-mark .ensures ∙ ap (withMark (now (a .words))) (copied (t .before))))
 
 clear-mark-requires : tie.Need-clear-mark-requires
 clear-mark-requires c κs = search needs
@@ -70,10 +79,10 @@ returns-3 c =
 
 returns-4 : tie.Need-returns-4
 returns-4 c =
-    let t = c .before .before .before in
-    let k = t .before .before in
+    let t = c .before .before in
+    let k = t .before .before .before .before in
     let a = k .before .before .args in
-    rw (k .subject2 .given .1, t .if2 .left) (ap (withWords (arraysOf (now (a .targets)) (now (a .starts)) (now (a .words)) (now (a .indegree)))) (c .clear-mark .ensures ∙ ap (withoutMark (now (a .words))) (c .before .wide2 .ensures .0)))
+    rw (k .subject2 .given .1, t .if2 .left) (ap (withWords (arraysOf (now (a .targets)) (now (a .starts)) (now (a .words)) (now (a .indegree)))) (c .clear-mark .ensures ∙ ap (withoutMark (now (a .words))) (copied (t .before))))
 
 pub file-one-spec : {M : Type 1} → statement M
 file-one-spec =
@@ -86,10 +95,10 @@ file-one-spec =
     place-requires
     remove-requires
     enum-known-subject-2
-    wide-requires
+    down-requires
+    copy-of-requires
     set-mark-requires
     returns-2
-    wide-requires-2
     clear-mark-requires
     returns-3
     returns-4)
