@@ -3,7 +3,7 @@ use mathlib.Core.Path.{_≡_, refl, sym, ap, subst, subst⁻¹, _∙_}
 use mathlib.Core.Logic.{_≢_, inl, inr, ⊎-elim}
 use mathlib.Core.Bool.{Bool, true, false, cond}
 use mathlib.Core.List.{List, [], _∷_, map}
-use Prim.Native.Nat.{ℕ, suc, _+_, _-_, _≤_, _<_}
+use Prim.Native.Nat.{ℕ, suc, _+_, _*_, _-_, _≤_, _<_}
 use native.Mathlib.Nat.{add-zero}
 use native.Mathlib.Omega.{arith}
 use lib.ListN.{length, getD, take}
@@ -11,7 +11,7 @@ use lib.Seq.{take-all}
 use Rattle.plain.specs.Lists.{all, elem, In}
 use Rattle.plain.specs.Search.{Graph, Frame, frame, Config, outer, nested, exhausted, found, discoveredOf, meets, run, Verdict as PlainVerdict, unfinished, verdict, count}
 use Rattle.plain.specs.Unexplored.{bareFrames, bare}
-use Rattle.plain.specs.Table.{Table, searched, final}
+use Rattle.plain.specs.Table.{Table, searched, copiesIn, printedVerdict, final}
 use Rattle.plain.specs.Refusals.{Trial, accepted, refused}
 use Rattle.plain.specs.Machine.{BatchLine as PlainLine, makes, Update as PlainUpdate, changesOf, applied, namedBy, updateTrial, Position as PlainPosition, positionIn, passedOver, keepsAll, keptPart, kept, Answer as PlainAnswer, refusal, answer, trialOf, answerTo, written, answerLine}
 use Rattle.plain.specs.Notes.{Notes, Faithful}
@@ -20,8 +20,8 @@ use Rattle.plain.proofs.Prefix.{FirstMeeting}
 use Rattle.plain.proofs.Resume.{earliest}
 use Rattle.plain.proofs.Tables.{Valid, valid}
 use Rattle.plain.proofs.SameRun.{alike, alike-discovered, alike-marked, alike-probes, alike-verdict}
-use Rattle.plain.proofs.Batches.{taken-here, Made, update-made, update-valid, update-arises, update-size, update-start, update-agree, update-room}
-use Rattle.plain.proofs.Demands.{run-final, verdict-right, kept-meeting, Untouched, update-same, update-met}
+use Rattle.plain.proofs.Batches.{AllWithin, all-within, taken-here, Made, update-made, update-valid, update-arises, update-size, update-start, update-kinds, update-agree, update-room}
+use Rattle.plain.proofs.Demands.{run-final, kept-meeting, Untouched, update-same, update-met}
 use Rattle.plain.proofs.Calls.{answer-accepted, table-accepted, answer-refused, table-refused}
 use Rattle.look.specs.Numbers.{plus}
 use Rattle.look.proofs.Counting.{plus-more}
@@ -43,16 +43,17 @@ use Rattle.verdict.specs.declared.Answer.{Answer}
 use Rattle.verdict.specs.declared.Answer.the-variants.{Refused}
 use Rattle.table.specs.Trials.{Arrays}
 use Rattle.table.specs.Filing.{Stored}
-use Rattle.batch.specs.Batches.{linesIn, statesIn, numbersIn, TriedIn, callTriedIn, positionAt}
+use Rattle.batch.specs.Batches.{linesIn, statesIn as namedIn, numbersIn, TriedIn, callTriedIn, positionAt}
 use Rattle.batch.proofs.Batches.{lines-other}
-use Rattle.session.specs.Model.{Records, recordsOf, recordsIn, arraysHeld, gameIn, allPassedOver, namedMost, earliestOf, resumptionOf, backAt, Sought, verdictOf, sessionOf, Settles, isAlone, onlyLine, UpdatedIn}
+use Rattle.session.specs.Model.{Records, recordsOf, recordsIn, arraysHeld, gameIn, statesIn, copiesUpAll, allPassedOver, namedMost, earliestOf, resumptionOf, backAt, Sought, verdictOf, sessionOf, Settles, isAlone, onlyLine, UpdatedIn}
 use Rattle.session.specs.Promises.{heightOf, Holds, updateOf, callOf, withoutGame, Updates}
 use Rattle.verdict.proofs.Told.{told, never-refused}
-use Rattle.verdict.specs.Answers.{refusing, positionOf, shown, WalkOf, Answered, Tells}
-use Rattle.session.proofs.Sought.{matches, Reached, reached}
+use Rattle.verdict.specs.Answers.{refusing, positionOf, shown, lowered, WalkOf, Answered, Tells}
+use Rattle.session.proofs.Sought.{matches, states-are, starts-at, Reached, reached}
 use Rattle.session.proofs.Asking.{Asks, asked-so}
 use Rattle.session.proofs.FirstMet.{earliest-is}
 use Rattle.session.proofs.Lines.{resumption-nowhere, resumption-earliest}
+use Rattle.session.proofs.Copied.{all-up, up-all, copies-few}
 use Rattle.session.proofs.Resuming.{all-inside, all-named, numbered-met, numbered-unmet, all-decided}
 
 -- what the new records are worth for the changed table
@@ -113,15 +114,15 @@ recordsHeld s = recordsOf (s .number) (s .parent) (s .index) (s .probes) (s .sta
 
 -- where a session's search is taken up for the lines of a call, given as numbers
 abbrev takenUp : List ℕ → Session → Resumption
-takenUp ns s = resumptionOf ns (arraysHeld s .rows) (s .number) (s .index) (s .walk) (s .height)
+takenUp ns s = resumptionOf (s .size) (s .kinds) ns (arraysHeld s .rows) (s .number) (s .index) (s .walk) (s .height)
 
 module _ (ns : List ℕ) (s : Session) where
   abbrev allPassed : Bool
-  allPassed = allPassedOver (linesIn ns) (arraysHeld s .rows) (s .number) (s .index) (s .walk) (s .height)
+  allPassed = allPassedOver (linesIn ns) (s .size) (s .kinds) (arraysHeld s .rows) (s .number) (s .index) (s .walk) (s .height)
 
 -- an accepted call: its lines as numbers, and the arrays that hold the table which it leaves
 module _ (u : PlainUpdate) (ns : List ℕ) (s : Session) (b : Arrays) (a : Records) (v : Verdict)
-    (sought : Sought (gameIn (s .size) b) (s .size) (s .start) (takenUp ns s) (oldOf s) (recordsHeld s) v a)
+    (sought : Sought (gameIn (s .size) (s .kinds) b) (statesIn (s .size) (s .kinds)) (s .start) (takenUp ns s) (oldOf s) (recordsHeld s) v a)
     (t : Table) (h : Holds s t) (room : ℕ) (yes-it-is : updateTrial u t room ≡ accepted) (lines-are : linesIn ns ≡ map makes (changesOf u)) (stored-new : Stored (applied u t) b) where
   abbrev t′ : Table
   t′ = applied u t
@@ -131,6 +132,10 @@ module _ (u : PlainUpdate) (ns : List ℕ) (s : Session) (b : Arrays) (a : Recor
 
   ok′ : Valid t′
   ok′ = update-valid u t room ok yes-it-is
+
+  -- its moves lie inside the game
+  within : AllWithin (changesOf u) (t .size)
+  within = all-within room (changesOf u) t (update-made u t room yes-it-is .each-accepted)
 
   abbrev ran : Config
   ran = run (searched t) (h .steps)
@@ -142,11 +147,11 @@ module _ (u : PlainUpdate) (ns : List ℕ) (s : Session) (b : Arrays) (a : Recor
   r = notesOf ran (s .number) (s .parent) (s .index) (s .probes) (s .stamp)
 
   -- nothing is to be done
-  worth-same : takenUp ns s ≡ Nowhere → Untouched u t ok ok′ (h .steps) (h .ended) → Worth u t v a
+  worth-same : takenUp ns s ≡ Nowhere → Untouched u t ok ok′ within (h .steps) (h .ended) → Worth u t v a
   unfolding r kept
   worth-same e o =
-      let q = subst (λ (x : Resumption). Sought (gameIn (s .size) b) (s .size) (s .start) x (oldOf s) (recordsHeld s) v a) e sought in
-      let w = update-same u t ok ok′ (h .steps) (h .ended) r o (h .archived .holds) in
+      let q = subst (λ (x : Resumption). Sought (gameIn (s .size) (s .kinds) b) (statesIn (s .size) (s .kinds)) (s .start) x (oldOf s) (recordsHeld s) v a) e sought in
+      let w = update-same u t ok ok′ within (h .steps) (h .ended) r o (h .archived .holds) in
       let looks : count (final t′) ≡ count (final t) = ap length (alike-probes (final t) (final t′) (w .same-final)) in
       let z : s .total + 0 ≡ count (final t′) = omega (arith, h .total-is, looks) in
       subst⁻¹ (λ (x : Verdict). Worth u t x a) (q .0) (subst⁻¹ (λ (x : Records). Worth u t (oldOf s) x) (q .1) (record {
@@ -157,44 +162,57 @@ module _ (u : PlainUpdate) (ns : List ℕ) (s : Session) (b : Arrays) (a : Recor
         height-is = h .height-is ∙ sym (alike heightOf bare-height (final t) (final t′) (w .same-final));
         kept-is = h .total-is ∙ sym (ap count (w .all-kept) ∙ looks);
         adds-up = z;
-        total-is = plus-more (s .total) 0 (omega (arith, z, limits (searched t′) (t′ .size) (small t′ ok′) (h .steps) .probes-few, ap count (run-final t′ ok′ (h .steps) (w .still-ended)))) ∙ z;
+        total-is = plus-more (s .total) 0 (omega (arith, z, limits (searched t′) (t′ .kinds * t′ .size) (small t′ ok′) (h .steps) .probes-few, ap count (run-final t′ ok′ (h .steps) (w .still-ended)))) ∙ z;
       }))
 
-  -- the numbers tell the first meeting among the named states
-  met-first : (w : FirstMeeting (namedBy u) (searched t) (searched t′) (update-agree u t) (h .steps)) → allPassed ns s ≡ false → takenUp ns s ≡ At (w .meeting .state)
+  -- the copies of the states that are named
+  abbrev named : List ℕ
+  named = copiesIn t (namedBy u)
+
+  -- the numbers tell the first meeting among them
+  met-first : (w : FirstMeeting named (searched t) (searched t′) (update-agree u t) (h .steps)) → allPassed ns s ≡ false → takenUp ns s ≡ At (w .meeting .state)
   unfolding r
   met-first w e =
       let m = update-made u t room yes-it-is in
-      let states : take namedMost (statesIn ns) ≡ namedBy u = ap (take namedMost) (lines-other ns (changesOf u) lines-are ∙ sym (m .named-are)) ∙ take-all namedMost (namedBy u) (named-few m) in
+      let states : take namedMost (namedIn ns) ≡ namedBy u = ap (take namedMost) (lines-other ns (changesOf u) lines-are ∙ sym (m .named-are)) ∙ take-all namedMost (namedBy u) (named-few m) in
       let met : In (w .meeting .state) (discoveredOf ran) = met-in (w .meeting .state) (w .discovered) in
-      resumption-earliest ns (arraysHeld s .rows) (s .number) (s .index) (s .walk) (s .height) e ∙ ap (λ (l : List ℕ). earliestOf l (s .number)) states
-      ∙ earliest-is (s .number) (w .meeting .state) (namedBy u) (numbered-met s t h ok (w .meeting .state) met) (w .meeting .is-named)
-      (λ x i k. ⊎-elim
-      (λ j. earliest (namedBy u) (searched t) (searched t′) (update-agree u t) r (h .steps) (h .archived .holds) w x i j k)
-      (λ f. absurd (omega (arith, numbered-unmet s t h ok x (named-inside x i) f, numbered-met s t h ok (w .meeting .state) met))) (either (elem x (discoveredOf ran))))
+      resumption-earliest (s .size) (s .kinds) ns (arraysHeld s .rows) (s .number) (s .index) (s .walk) (s .height) e
+      ∙ (λ i. earliestOf (copiesUpAll (h .size-is i) (h .kinds-is i) (states i)) (s .number))
+      ∙ earliest-is (s .number) (w .meeting .state) (copiesUpAll (t .size) (t .kinds) (namedBy u)) (numbered-met s t h ok (w .meeting .state) met)
+      (all-up (t .size) (t .kinds) (ok .states-few) (ok .some-kind) (namedBy u) low (w .meeting .state) (w .meeting .is-named))
+      (λ x i k. let c = up-all (t .size) (t .kinds) (ok .states-few) (namedBy u) low x i in ⊎-elim
+      (λ j. earliest named (searched t) (searched t′) (update-agree u t) r (h .steps) (h .archived .holds) w x c j k)
+      (λ f. absurd (omega (arith, numbered-unmet s t h ok x (copies-few t ok (namedBy u) inside x c) f, numbered-met s t h ok (w .meeting .state) met))) (either (elem x (discoveredOf ran))))
     where
       named-few : Made u t room → length (namedBy u) ≤ namedMost
       named-few m = omega (arith, ap length (m .named-are), all-named (changesOf u), m .few)
 
-      named-inside : (x : ℕ) → In x (namedBy u) → x < t .size
-      named-inside x i = let m = update-made u t room yes-it-is in all-inside room (changesOf u) t (m .each-accepted) x (rw (m .named-are) at i)
+      inside : (x : ℕ) → In x (namedBy u) → x < t .size
+      inside x i = let m = update-made u t room yes-it-is in all-inside room (changesOf u) t (m .each-accepted) x (rw (m .named-are) at i)
+
+      low : (x : ℕ) → In x (namedBy u) → x < 512
+      low x i = omega (arith, inside x i, size-few (t .size) (ok .size-ok))
 
       met-in : (x : ℕ) → meets (x ∷ []) ran ≡ true → In x (discoveredOf ran)
       met-in x m = let q = any-some (λ y. elem y (discoveredOf ran)) (x ∷ []) m in rw (in-one (q .0) x (q .1)) at (q .2)
 
-  -- a named state was met: the search is resumed at the first meeting
-  worth-met : allPassed ns s ≡ false → keepsAll u t ≡ false → meets (namedBy u) ran ≡ true → Worth u t v a
+  -- a copy of a named state was met: the search is resumed at the first meeting
+  worth-met : allPassed ns s ≡ false → keepsAll u t ≡ false → meets named ran ≡ true → Worth u t v a
   unfolding r kept
   worth-met e o m =
-      let met = update-met u t ok ok′ (h .steps) (h .ended) r m (h .archived .holds) in
+      let met = update-met u t ok ok′ within (h .steps) (h .ended) r m (h .archived .holds) in
       let w = met .meeting in
-      let q = subst (λ (x : Resumption). Sought (gameIn (s .size) b) (s .size) (s .start) x (oldOf s) (recordsHeld s) v a) (met-first w e) sought in
-      let same : t′ .size ≡ t .size = update-size u t in
-      let fit = resume-fits (t .size) (namedBy u) (searched t) (searched t′) (update-agree u t) (small t ok) (subst (Small (searched t′)) same (small t′ ok′)) (h .steps) (s .number) (s .parent) (s .index) (s .probes) (s .stamp) (s .walk) (h .archived) w in
-      let begun = ran-from (gameIn (s .size) b) (same-start (w .meeting .state) (h .size-is) (h .start-is ∙ sym (update-start u t))) (q .1) in
-      let g = reached t′ ok′ (gameIn (s .size) b) (subst⁻¹ (λ (n : ℕ). Matches (searched t′) (gameIn n b)) (h .size-is ∙ sym same) (matches t′ b ok′ stored-new))
-      (w .at) (backAt (t .size) (t′ .start) (w .meeting .state) (recordsHeld s)) (q .0)
-      (rewound-spent (t .size) (t′ .start) (w .meeting .state) 0 (s .number) (s .parent) (s .index) (s .probes) (s .stamp) (s .walk)) fit begun in
+      let q = subst (λ (x : Resumption). Sought (gameIn (s .size) (s .kinds) b) (statesIn (s .size) (s .kinds)) (s .start) x (oldOf s) (recordsHeld s) v a) (met-first w e) sought in
+      let size : t′ .size ≡ t .size = update-size u t in
+      let kinds : t′ .kinds ≡ t .kinds = update-kinds u t in
+      let states = t .kinds * t .size in
+      let fit = resume-fits states named (searched t) (searched t′) (update-agree u t) (small t ok) (subst (Small (searched t′)) (λ i. kinds i * size i) (small t′ ok′)) (h .steps) (s .number) (s .parent) (s .index) (s .probes) (s .stamp) (s .walk) (h .archived) w in
+      let begun = ran-from (gameIn (s .size) (s .kinds) b)
+      (same-start (w .meeting .state) ((λ i. statesIn (h .size-is i) (h .kinds-is i)) ∙ states-are t ok) (h .start-is ∙ sym (update-start u t) ∙ sym (starts-at t′))) (q .1) in
+      let g = reached t′ ok′ (gameIn (s .size) (s .kinds) b)
+      (subst⁻¹ (λ (x : ℕ × ℕ). Matches (searched t′) (gameIn (x .0) (x .1) b)) (λ i. ((h .size-is ∙ sym size) i, (h .kinds-is ∙ sym kinds) i)) (matches t′ b ok′ stored-new))
+      (w .at) (backAt states (searched t′ .start) (w .meeting .state) (recordsHeld s)) (q .0)
+      (rewound-spent states (searched t′ .start) (w .meeting .state) 0 (s .number) (s .parent) (s .index) (s .probes) (s .stamp) (s .walk)) fit begun in
       subst⁻¹ (λ (x : Verdict). Worth u t x a) (q .2) (subst⁻¹ (λ (x : Records). Worth u t (verdictOf (q .0 .walker) (q .0 .spent)) x) (q .3) (settled-by (q .0) (w .at) g (ap count (kept-meeting u t o ∙ met .kept-here))))
     where
       same-start : (z : ℕ) {m n x y : ℕ} → m ≡ n → x ≡ y → backAt m x z (recordsHeld s) ≡ backAt n y z (recordsHeld s)
@@ -215,7 +233,7 @@ module _ (u : PlainUpdate) (ns : List ℕ) (s : Session) (b : Arrays) (a : Recor
   -- the records are those of the changed table, either way
   worth : Worth u t v a
   worth = ⊎-elim
-      (λ p. worth-same (resumption-nowhere ns (arraysHeld s .rows) (s .number) (s .index) (s .walk) (s .height) (decided ∙ p)) (⊎-elim inl (λ f. inr (rw ran-final f)) (made .passed p)))
+      (λ p. worth-same (resumption-nowhere (s .size) (s .kinds) ns (arraysHeld s .rows) (s .number) (s .index) (s .walk) (s .height) (decided ∙ p)) (⊎-elim inl (λ f. inr (rw ran-final f)) (made .passed p)))
       (λ p. let k = made .reached p in worth-met (decided ∙ p) (k .0) (rw ran-final (k .1))) (either (all (λ c. passedOver c t) (changesOf u)))
     where
       made : Made u t room
@@ -223,12 +241,12 @@ module _ (u : PlainUpdate) (ns : List ℕ) (s : Session) (b : Arrays) (a : Recor
 
       decided : allPassed ns s ≡ all (λ c. passedOver c t) (changesOf u)
       decided =
-          ap (λ (xs : List PlainLine). allPassedOver xs (arraysHeld s .rows) (s .number) (s .index) (s .walk) (s .height)) lines-are
-          ∙ all-decided s t h ok room (changesOf u) t refl (taken-here t ok) (made .each-accepted)
+          ap (λ (xs : List PlainLine). allPassedOver xs (s .size) (s .kinds) (arraysHeld s .rows) (s .number) (s .index) (s .walk) (s .height)) lines-are
+          ∙ all-decided s t h ok room (changesOf u) t (refl, refl) (taken-here t ok) (made .each-accepted)
 
   -- the session that is returned
   abbrev next : Session
-  next = sessionOf (s .size) (s .start) b a v (plus (v .kept) (v .spent))
+  next = sessionOf (s .size) (s .start) (s .kinds) b a v (plus (v .kept) (v .spent))
 
   next-holds : Holds next t′
   next-holds =
@@ -237,6 +255,7 @@ module _ (u : PlainUpdate) (ns : List ℕ) (s : Session) (b : Arrays) (a : Recor
         arises = update-arises u t room (h .arises) yes-it-is;
         size-is = h .size-is ∙ sym (update-size u t);
         start-is = h .start-is ∙ sym (update-start u t);
+        kinds-is = h .kinds-is ∙ sym (update-kinds u t);
         stored = stored-new;
         steps = w .steps;
         ended = w .ended;
@@ -248,24 +267,28 @@ module _ (u : PlainUpdate) (ns : List ℕ) (s : Session) (b : Arrays) (a : Recor
 
   -- the plain table's answer
   abbrev plain : PlainAnswer
-  plain = answer (verdict (final t′)) (count (final t′) - kept u t) (kept u t)
+  plain = answer (printedVerdict t′ (verdict (final t′))) (count (final t′) - kept u t) (kept u t)
 
-  next-answers : (lent lent′ : List ℕ) (r : Answer) → room ≤ length lent → Tells (v .spent) (v .kept) (v .stem) (v .length) (a .walk) lent r lent′ → Answered plain lent r lent′
-  next-answers lent lent′ r e s =
+  next-answers : (lent lent′ : List ℕ) (r : Answer) → room ≤ length lent → Tells (v .spent) (v .kept) (v .stem) (v .length) (lowered (s .size) (s .kinds - 1) (a .walk)) lent r lent′
+      → Answered plain lent r lent′
+  next-answers lent lent′ r e k =
       let w = worth in
       let size : t′ .size ≡ t .size = update-size u t in
+      let kinds : t′ .kinds ≡ t .kinds = update-kinds u t in
       let rest : v .spent ≡ count (final t′) - kept u t = omega (arith, w .kept-is, w .adds-up) in
-      subst (λ (x : ℕ × ℕ). Answered (answer (verdict (final t′)) (x .0) (x .1)) lent r lent′) (λ i. (rest i, w .kept-is i))
-      (told (v .spent) (v .kept) (v .stem) (v .length) (verdict (final t′)) (a .walk) lent lent′ r (t′ .size) (w .tells) s (verdict-right t′ ok′ .short)
-      (size-few (t′ .size) (ok′ .size-ok)) (omega (arith, size, update-room u t room yes-it-is)))
+      let few : t′ .size * t′ .kinds ≤ room = subst⁻¹ (λ (n : ℕ). n ≤ room) (λ i. size i * kinds i) (update-room u t room yes-it-is) in
+      subst (λ (x : ℕ × ℕ). Answered (answer (printedVerdict t′ (verdict (final t′))) (x .0) (x .1)) lent r lent′) (λ i. (rest i, w .kept-is i))
+      (told (v .spent) (v .kept) (v .stem) (v .length) t′ ok′ (a .walk) lent lent′ r (w .tells)
+      (subst (λ (x : ℕ × ℕ). Tells (v .spent) (v .kept) (v .stem) (v .length) (lowered (x .0) (x .1 - 1) (a .walk)) lent r lent′) (λ i. ((h .size-is ∙ sym size) i, (h .kinds-is ∙ sym kinds) i)) k) (omega arith))
 
 -- ---- the contract of a call
 
 -- the session that a call makes of one, where nothing has changed
-same-session : (s : Session) → s .total ≤ 65535 → sessionOf (s .size) (s .start) (arraysHeld s) (recordsHeld s) (oldOf s) (plus (s .total) 0) ≡ s
+same-session : (s : Session) → s .total ≤ 65535 → sessionOf (s .size) (s .start) (s .kinds) (arraysHeld s) (recordsHeld s) (oldOf s) (plus (s .total) 0) ≡ s
 same-session s h = λ i. record {
   size = s .size;
   start = s .start;
+  kinds = s .kinds;
   words = s .words;
   targets = s .targets;
   starts = s .starts;
@@ -284,12 +307,12 @@ same-session s h = λ i. record {
 
 module _ (u : PlainUpdate) (alone : Bool) (ns : List ℕ) (q : Asks u alone (linesIn ns)) (s : Session) (lent : List ℕ) where
   abbrev tried : TriedIn
-  tried = callTriedIn alone (linesIn ns) (s .size) (arraysHeld s) (length lent)
+  tried = callTriedIn alone (linesIn ns) (s .size) (s .kinds) (arraysHeld s) (length lent)
 
   -- for a table that the session holds
   module _ (t : Table) (h : Holds s t) where
-    held : tried ≡ callTriedIn alone (linesIn ns) (t .size) (arraysHeld s) (length lent)
-    held = ap (λ (n : ℕ). callTriedIn alone (linesIn ns) n (arraysHeld s) (length lent)) (h .size-is)
+    held : tried ≡ callTriedIn alone (linesIn ns) (t .size) (t .kinds) (arraysHeld s) (length lent)
+    held = λ i. callTriedIn alone (linesIn ns) (h .size-is i) (h .kinds-is i) (arraysHeld s) (length lent)
 
     trial-is : updateTrial u t (length lent) ≡ tried .trial
     trial-is = sym (ap (λ (w : TriedIn). w .trial) held ∙ q .same t (valid t (h .arises)) (arraysHeld s) (h .stored) (length lent))
@@ -301,11 +324,11 @@ module _ (u : PlainUpdate) (alone : Bool) (ns : List ℕ) (q : Asks u alone (lin
     stored-is e = subst⁻¹ (λ (w : TriedIn). Stored (applied u t) (w .arrays)) held (q .stored t (valid t (h .arises)) (arraysHeld s) (h .stored) (length lent) e)
 
   -- without a state
-  none-is : s .size ≡ 0 → (tried .trial ≡ refused (q .number)) × (refusing (q .number) (positionAt alone (tried .position)) ≡ Refused (withoutGame u))
+  none-is : s .size ≡ 0 → (tried .trial ≡ refused (withoutGame (s .kinds) u .number)) × (refusing (withoutGame (s .kinds) u .number) (positionAt alone (tried .position)) ≡ Refused (withoutGame (s .kinds) u))
   none-is z =
-      let e : tried ≡ callTriedIn alone (linesIn ns) 0 (arraysHeld s) (length lent) = ap (λ (n : ℕ). callTriedIn alone (linesIn ns) n (arraysHeld s) (length lent)) z in (
-        ap (λ (w : TriedIn). w .trial) e ∙ q .none (arraysHeld s) (length lent),
-        ap (λ (w : TriedIn). refusing (q .number) (positionAt alone (w .position))) e ∙ q .refusal-is (arraysHeld s) (length lent),
+      let e : tried ≡ callTriedIn alone (linesIn ns) 0 (s .kinds) (arraysHeld s) (length lent) = ap (λ (n : ℕ). callTriedIn alone (linesIn ns) n (s .kinds) (arraysHeld s) (length lent)) z in (
+        ap (λ (w : TriedIn). w .trial) e ∙ q .none (s .kinds) (arraysHeld s) (length lent),
+        ap (λ (w : TriedIn). refusing (withoutGame (s .kinds) u .number) (positionAt alone (w .position))) e ∙ q .refusal-is (s .kinds) (arraysHeld s) (length lent),
       )
 
   call-refused : (n : ℕ) → tried .trial ≡ refused n → Updates u s lent (record { answer = refusing n (positionAt alone (tried .position)); session = s }) lent
@@ -326,8 +349,8 @@ module _ (u : PlainUpdate) (alone : Bool) (ns : List ℕ) (q : Asks u alone (lin
       refused-same z = cc
 
   call-accepted : (lent′ : List ℕ) (b : Arrays) (a : Records) (r : Settled) → tried .trial ≡ accepted → b ≡ tried .arrays
-      → Settles (gameIn (s .size) b) (s .size) (s .start) (takenUp ns s) (oldOf s) (recordsHeld s) lent r a lent′
-      → Updates u s lent (record { answer = r .answer; session = sessionOf (s .size) (s .start) b a (r .verdict) (plus (r .verdict .kept) (r .verdict .spent)) }) lent′
+      → Settles (s .size) (s .kinds) (gameIn (s .size) (s .kinds) b) (s .start) (takenUp ns s) (oldOf s) (recordsHeld s) lent r a lent′
+      → Updates u s lent (record { answer = r .answer; session = sessionOf (s .size) (s .start) (s .kinds) b a (r .verdict) (plus (r .verdict .kept) (r .verdict .spent)) }) lent′
   unfolding trialOf
   call-accepted lent′ b a r e new w = record {
     answers = λ t h. subst⁻¹ (λ (x : PlainAnswer). Answered x lent (r .answer) lent′) (answer-accepted (callOf u lent) t (is t h))
@@ -352,12 +375,12 @@ module _ (u : PlainUpdate) (alone : Bool) (ns : List ℕ) (q : Asks u alone (lin
 
   -- the contract of a call, from what it leaves in the arrays
   call-right : (lent′ : List ℕ) (b : Arrays) (a : Records) (r : Settled) (total : ℕ) → s .total ≤ 65535 → total ≡ plus (r .verdict .kept) (r .verdict .spent)
-      → UpdatedIn alone ns (s .size) (s .start) (oldOf s) (arraysHeld s) (recordsHeld s) lent r b a lent′
-      → Updates u s lent (record { answer = r .answer; session = sessionOf (s .size) (s .start) b a (r .verdict) total }) lent′
+      → UpdatedIn alone ns (s .size) (s .kinds) (s .start) (oldOf s) (arraysHeld s) (recordsHeld s) lent r b a lent′
+      → Updates u s lent (record { answer = r .answer; session = sessionOf (s .size) (s .start) (s .kinds) b a (r .verdict) total }) lent′
   call-right lent′ b a r total small e w = by-trial (tried .trial) refl
     where
       Made-so : Settled → Arrays → Records → ℕ → List ℕ → Type 0
-      Made-so x y z n list = Updates u s lent (record { answer = x .answer; session = sessionOf (s .size) (s .start) y z (x .verdict) n }) list
+      Made-so x y z n list = Updates u s lent (record { answer = x .answer; session = sessionOf (s .size) (s .start) (s .kinds) y z (x .verdict) n }) list
 
       by-trial : (x : Trial) → tried .trial ≡ x → Made-so r b a total lent′
       by-trial accepted f = let k = w .on-acceptance f in subst⁻¹ (λ (n : ℕ). Made-so r b a n lent′) e (call-accepted lent′ b a r f (k .0) (k .1))
@@ -370,8 +393,8 @@ module _ (u : PlainUpdate) (alone : Bool) (ns : List ℕ) (q : Asks u alone (lin
 -- the same as the session is asked
 pub update-right : (asked : Update) (alone : Bool) (only : BatchLine) → alone ≡ isAlone asked → only ≡ onlyLine asked → (lines : List ℕ) (s : Session) (lent lent′ : List ℕ) (b : Arrays) (a : Records) (r : Settled) (total : ℕ)
     → s .total ≤ 65535 → total ≡ plus (r .verdict .kept) (r .verdict .spent)
-    → UpdatedIn alone (numbersIn alone only lines) (s .size) (s .start) (oldOf s) (arraysHeld s) (recordsHeld s) lent r b a lent′
-    → Updates (updateOf asked lines) s lent (record { answer = r .answer; session = sessionOf (s .size) (s .start) b a (r .verdict) total }) lent′
+    → UpdatedIn alone (numbersIn alone only lines) (s .size) (s .kinds) (s .start) (oldOf s) (arraysHeld s) (recordsHeld s) lent r b a lent′
+    → Updates (updateOf asked lines) s lent (record { answer = r .answer; session = sessionOf (s .size) (s .start) (s .kinds) b a (r .verdict) total }) lent′
 update-right asked alone only e f lines s lent lent′ b a r total small sum w =
     call-right (updateOf asked lines) (isAlone asked) (numbersIn (isAlone asked) (onlyLine asked) lines) (asked-so asked lines) s lent lent′ b a r total small sum
-    (subst (λ (x : Bool × BatchLine). UpdatedIn (x .0) (numbersIn (x .0) (x .1) lines) (s .size) (s .start) (oldOf s) (arraysHeld s) (recordsHeld s) lent r b a lent′) (λ i. (e i, f i)) w)
+    (subst (λ (x : Bool × BatchLine). UpdatedIn (x .0) (numbersIn (x .0) (x .1) lines) (s .size) (s .kinds) (s .start) (oldOf s) (arraysHeld s) (recordsHeld s) lent r b a lent′) (λ i. (e i, f i)) w)

@@ -25,12 +25,12 @@ same-number e = cc
 not-both : {n : ℕ} → refused n ≡ accepted → ⊥
 not-both e = let z : _≡_ {A = ℕ} 0 1 = cc in omega arith
 
-module _ (alone : Bool) (ns : List ℕ) (size start : ℕ) (old : Verdict) (b : Arrays) (a : Records) (lent : List ℕ) where
+module _ (alone : Bool) (ns : List ℕ) (size kinds start : ℕ) (old : Verdict) (b : Arrays) (a : Records) (lent : List ℕ) where
   abbrev tried : TriedIn
-  tried = callTriedIn alone (linesIn ns) size b (length lent)
+  tried = callTriedIn alone (linesIn ns) size kinds b (length lent)
 
   pub updated-refused : (x : Attempt) (b′ : Arrays) (m : ℕ) (answer : Answer) → AttemptedCall alone tried b x b′ → x .trial ≡ Refused m → answer ≡ refusing m (x .position)
-      → UpdatedIn alone ns size start old b a lent (record { answer = answer; verdict = old }) b′ a lent
+      → UpdatedIn alone ns size kinds start old b a lent (record { answer = answer; verdict = old }) b′ a lent
   updated-refused x b′ m answer w e f =
       let is : tried .trial ≡ refused m = tried-refused (tried .trial) m (sym e ∙ w .trial-is) in
       record {
@@ -41,14 +41,14 @@ module _ (alone : Bool) (ns : List ℕ) (size start : ℕ) (old : Verdict) (b : 
       }
 
   pub updated-accepted : (x : Attempt) (b′ : Arrays) (from : Resumption) (r : Settled) (a′ : Records) (lent′ : List ℕ) → AttemptedCall alone tried b x b′ → x .trial ≡ Accepted
-      → from ≡ resumptionOf ns (b .rows) (a .number) (a .index) (a .walk) (old .height) → Settles (gameIn size b′) size start from old a lent r a′ lent′
-      → UpdatedIn alone ns size start old b a lent r b′ a′ lent′
+      → from ≡ resumptionOf size kinds ns (b .rows) (a .number) (a .index) (a .walk) (old .height) → Settles size kinds (gameIn size kinds b′) start from old a lent r a′ lent′
+      → UpdatedIn alone ns size kinds start old b a lent r b′ a′ lent′
   updated-accepted x b′ from r a′ lent′ w e g k = record {
     on-refusal = λ n z. absurd (not-both (sym z ∙ tried-accepted (tried .trial) (sym (w .trial-is) ∙ e)));
-    on-acceptance = λ z. (w .filed e, subst (λ (x : Resumption). Settles (gameIn size b′) size start x old a lent r a′ lent′) g k);
+    on-acceptance = λ z. (w .filed e, subst (λ (x : Resumption). Settles size kinds (gameIn size kinds b′) start x old a lent r a′ lent′) g k);
   }
 
 -- the arrays of an accepted call keep their sizes
-pub accepted-sized : (alone : Bool) (ns : List ℕ) (size room : ℕ) (b : Arrays) (x : Attempt) (b′ : Arrays) → AttemptedCall alone (callTriedIn alone (linesIn ns) size b room) b x b′
+pub accepted-sized : (alone : Bool) (ns : List ℕ) (size kinds room : ℕ) (b : Arrays) (x : Attempt) (b′ : Arrays) → AttemptedCall alone (callTriedIn alone (linesIn ns) size kinds b room) b x b′
     → x .trial ≡ Accepted → Sized b → Sized b′
-accepted-sized alone ns size room b x b′ w e l = subst⁻¹ Sized (w .filed e) (tried-sized alone (linesIn ns) size b room l)
+accepted-sized alone ns size kinds room b x b′ w e l = subst⁻¹ Sized (w .filed e) (tried-sized alone (linesIn ns) size kinds b room l)

@@ -2,16 +2,15 @@
 use mathlib.Core.Path.{_≡_, refl, sym, ap, _∙_}
 use mathlib.Core.Bool.{Bool, true, false, cond, _&&_, _||_}
 use mathlib.Core.List.{List, [], _∷_, _++_}
-use Prim.Native.Nat.{ℕ, suc, _+_, _*_, _-_, _≤_, _<_}
+use Prim.Native.Nat.{ℕ, zero, suc, _+_, _*_, _-_, _≤_, _<_}
 use native.Mathlib.Omega.{arith}
-use lib.Dec.{eqb}
 use lib.ListN.{length, getD, take, drop, set, length-drop, length-set, drop-of-length-le}
 use lib.Seq.{take-all, take-suc, take-suc-set, drop-cons, drop-drop}
 use borrow.Author.Tests.{eq-eqb, ne-eqb}
 use Rattle.plain.specs.Lists.{all}
 use Rattle.plain.specs.Machine.{BatchLine as PlainLine}
 use Rattle.rows.specs.Change.{Rows}
-use Rattle.look.specs.Numbers.{noNumber}
+use Rattle.look.specs.Numbers.{noNumber, plus}
 use Rattle.batch.specs.declared.BatchLine.{BatchLine}
 use Rattle.table.specs.declared.Subject.{Subject}
 use Rattle.table.specs.declared.Subject.the-variants as Subject
@@ -21,7 +20,7 @@ use Rattle.table.specs.Filing.{namedBy}
 use Rattle.batch.specs.Batches.{lineIn, isChange, switchIn, linesIn, statesIn, headLine, opFor}
 use Rattle.batch.proofs.Batches.{Making, change-line, other-line, lines-next, lines-end}
 use Rattle.session.specs.declared.Resumption.the-variants.{Nowhere}
-use Rattle.session.specs.Model.{unexploredEdge, unexploredIn, passedOverIn, allPassedOver, namedMost, earliestOf, resumptionOf}
+use Rattle.session.specs.Model.{copiesUp, copiesUpAll, unexploredEdge, unexploredIn, copyPassedOver, passedOverIn, allPassedOver, namedMost, earliestOf, resumptionOf}
 use Rattle.session.proofs.Resuming.{named-one, switched-edge, switched-mark}
 
 -- ---- one line
@@ -31,67 +30,88 @@ first [] = 0
 first (x ∷ xs) = x
 
 module _ (l : BatchLine) (rows : Rows) (number index walk : List ℕ) (height : ℕ) where
-  -- a line that makes no change
-  pub passed-other : isChange l ≡ false → passedOverIn (lineIn l) rows number index walk height ≡ true
-  passed-other e = ap (λ (x : PlainLine). passedOverIn x rows number index walk height) (other-line l e)
+  -- in the layer of one copy
+  abbrev here : ℕ → Bool
+  here copy = copyPassedOver (opOf (switchIn l)) copy rows number index walk height
 
-  -- one that makes a change names its first number
-  passed-change : (m : Making l) → passedOverIn (lineIn l) rows number index walk height ≡ (eqb (getD number (l .first) 0) noNumber || unexploredIn (opOf (switchIn l)) rows index walk (height - 1))
-  passed-change m =
-      ap (λ (x : PlainLine). passedOverIn x rows number index walk height) (m .is)
-      ∙ (λ i. eqb (getD number (names i) 0) noNumber || unexploredIn (sym (m .switches) i) rows index walk (height - 1))
-    where
-      names : namedBy (opFor (m .change)) ≡ l .first
-      names = ap first (sym (named-one (m .change)) ∙ m .names)
+  module _ (copy : ℕ) where
+    -- the copy was never met
+    pub copy-unmet : getD number copy 0 ≡ noNumber → here copy ≡ true
+    copy-unmet e = ap (λ (b : Bool). b || unexploredIn (opOf (switchIn l)) copy rows index walk (height - 1)) (eq-eqb (getD number copy 0) noNumber e)
 
-  -- its state was never met
-  pub passed-unmet : isChange l ≡ true → getD number (l .first) 0 ≡ noNumber → passedOverIn (lineIn l) rows number index walk height ≡ true
-  passed-unmet c e =
-      passed-change (change-line l c)
-      ∙ ap (λ (b : Bool). b || unexploredIn (opOf (switchIn l)) rows index walk (height - 1)) (eq-eqb (getD number (l .first) 0) noNumber e)
+    module _ (n : getD number copy 0 ≡ noNumber → ⊥) (x : Switch) (e : x ≡ switchIn l) where
+      copy-met : here copy ≡ unexploredIn (opOf x) copy rows index walk (height - 1)
+      copy-met =
+          ap (λ (b : Bool). b || unexploredIn (opOf (switchIn l)) copy rows index walk (height - 1)) (ne-eqb (getD number copy 0) noNumber n)
+          ∙ ap (λ (y : Switch). unexploredIn (opOf y) copy rows index walk (height - 1)) (sym e)
 
-  passed-met : isChange l ≡ true → (getD number (l .first) 0 ≡ noNumber → ⊥) → passedOverIn (lineIn l) rows number index walk height ≡ unexploredIn (opOf (switchIn l)) rows index walk (height - 1)
-  passed-met c n =
-      passed-change (change-line l c)
-      ∙ ap (λ (b : Bool). b || unexploredIn (opOf (switchIn l)) rows index walk (height - 1)) (ne-eqb (getD number (l .first) 0) noNumber n)
+      -- an edge, or a mark
+      pub copy-edge : (from to : ℕ) → x .subject ≡ Subject.Edge from to → here copy ≡ unexploredEdge (x .on) copy from to rows index walk (height - 1)
+      copy-edge from to f = copy-met ∙ switched-edge (x .on) (x .subject) copy from to rows index walk (height - 1) f
 
-  -- an edge, or a mark
-  pub passed-edge : isChange l ≡ true → (getD number (l .first) 0 ≡ noNumber → ⊥) → (x : Switch) → x ≡ switchIn l → (from to : ℕ) → x .subject ≡ Subject.Edge from to
-      → passedOverIn (lineIn l) rows number index walk height ≡ unexploredEdge (x .on) from to rows index walk (height - 1)
-  passed-edge c n x e from to f =
-      passed-met c n ∙ ap (λ (y : Switch). unexploredIn (opOf y) rows index walk (height - 1)) (sym e)
-      ∙ switched-edge (x .on) (x .subject) from to rows index walk (height - 1) f
+      pub copy-mark : (state kind : ℕ) → x .subject ≡ Subject.Mark state kind → here copy ≡ false
+      copy-mark state kind f = copy-met ∙ switched-mark (x .on) (x .subject) copy state kind rows index walk (height - 1) f
 
-  pub passed-mark : isChange l ≡ true → (getD number (l .first) 0 ≡ noNumber → ⊥) → (x : Switch) → x ≡ switchIn l → (state : ℕ) → x .subject ≡ Subject.Mark state
-      → passedOverIn (lineIn l) rows number index walk height ≡ false
-  passed-mark c n x e state f =
-      passed-met c n ∙ ap (λ (y : Switch). unexploredIn (opOf y) rows index walk (height - 1)) (sym e)
-      ∙ switched-mark (x .on) (x .subject) state rows index walk (height - 1) f
+  module _ (size kinds : ℕ) where
+    -- a line that makes no change
+    pub passed-other : isChange l ≡ false → passedOverIn (lineIn l) size kinds rows number index walk height ≡ true
+    passed-other e = ap (λ (x : PlainLine). passedOverIn x size kinds rows number index walk height) (other-line l e)
+
+    -- one that makes a change names its first number
+    pub passed-copies : isChange l ≡ true → passedOverIn (lineIn l) size kinds rows number index walk height ≡ all here (copiesUp size kinds (l .first))
+    passed-copies c =
+        ap (λ (x : PlainLine). passedOverIn x size kinds rows number index walk height) (m .is)
+        ∙ (λ i. all (λ copy. copyPassedOver (sym (m .switches) i) copy rows number index walk height) (copiesUp size kinds (names i)))
+      where
+        m : Making l
+        m = change-line l c
+
+        names : namedBy (opFor (m .change)) ≡ l .first
+        names = ap first (sym (named-one (m .change)) ∙ m .names)
+
+-- going through the copies, from the one at hand on
+pub copies-next : (size copy left : ℕ) → 0 < left → copiesUp size left copy ≡ copy ∷ copiesUp size (left - 1) (plus copy size)
+unfolding copiesUp
+copies-next size copy left h = let e : left ≡ suc (left - 1) = omega arith in ap (λ (n : ℕ). copiesUp size n copy) e
+
+module _ (p : ℕ → Bool) (size copy left : ℕ) (h : 0 < left) where
+  pub copies-stop : p copy ≡ false → all p (copiesUp size left copy) ≡ false
+  unfolding all
+  copies-stop e = ap (all p) (copies-next size copy left h) ∙ ap (λ (b : Bool). b && all p (copiesUp size (left - 1) (plus copy size))) e
+
+  pub copies-on : p copy ≡ true → all p (copiesUp size (left - 1) (plus copy size)) ≡ all p (copiesUp size left copy)
+  unfolding all
+  copies-on e = sym (ap (all p) (copies-next size copy left h) ∙ ap (λ (b : Bool). b && all p (copiesUp size (left - 1) (plus copy size))) e)
+
+pub copies-end : (p : ℕ → Bool) (size copy left : ℕ) → left ≤ 0 → all p (copiesUp size left copy) ≡ true
+unfolding all copiesUp
+copies-end p size copy zero h = refl
+copies-end p size copy (suc left) h = absurd (omega arith)
 
 -- ---- all lines
 
-module _ (ns : List ℕ) (at : ℕ) (rows : Rows) (number index walk : List ℕ) (height : ℕ) where
+module _ (ns : List ℕ) (at size kinds : ℕ) (rows : Rows) (number index walk : List ℕ) (height : ℕ) where
   abbrev passed : ℕ → Bool
-  passed n = allPassedOver (linesIn (drop n ns)) rows number index walk height
+  passed n = allPassedOver (linesIn (drop n ns)) size kinds rows number index walk height
 
-  passed-next : at < length ns → passed at ≡ (passedOverIn (lineIn (headLine (drop at ns))) rows number index walk height && passed (at + 3))
+  passed-next : at < length ns → passed at ≡ (passedOverIn (lineIn (headLine (drop at ns))) size kinds rows number index walk height && passed (at + 3))
   unfolding all
-  passed-next h = ap (λ (xs : List PlainLine). allPassedOver xs rows number index walk height) (lines-next ns at h)
+  passed-next h = ap (λ (xs : List PlainLine). allPassedOver xs size kinds rows number index walk height) (lines-next ns at h)
 
   -- the line there is passed over, or it is not
-  module _ (h : at < length ns) (l : BatchLine) (e : l ≡ headLine (drop at ns)) (r : Bool) (f : r ≡ passedOverIn (lineIn l) rows number index walk height) where
-    here : passed at ≡ (r && passed (at + 3))
-    here = passed-next h ∙ ap (λ (b : Bool). b && passed (at + 3)) (ap (λ (x : BatchLine). passedOverIn (lineIn x) rows number index walk height) (sym e) ∙ sym f)
+  module _ (h : at < length ns) (l : BatchLine) (e : l ≡ headLine (drop at ns)) (r : Bool) (f : r ≡ passedOverIn (lineIn l) size kinds rows number index walk height) where
+    told : passed at ≡ (r && passed (at + 3))
+    told = passed-next h ∙ ap (λ (b : Bool). b && passed (at + 3)) (ap (λ (x : BatchLine). passedOverIn (lineIn x) size kinds rows number index walk height) (sym e) ∙ sym f)
 
     pub passed-stop : r ≡ false → passed at ≡ false
-    passed-stop z = here ∙ ap (λ (b : Bool). b && passed (at + 3)) z
+    passed-stop z = told ∙ ap (λ (b : Bool). b && passed (at + 3)) z
 
     pub passed-on : r ≡ true → passed (at + 3) ≡ passed at
-    passed-on z = sym (here ∙ ap (λ (b : Bool). b && passed (at + 3)) z)
+    passed-on z = sym (told ∙ ap (λ (b : Bool). b && passed (at + 3)) z)
 
   pub passed-end : length ns ≤ at → passed at ≡ true
   unfolding all
-  passed-end h = ap (λ (xs : List PlainLine). allPassedOver xs rows number index walk height) (lines-end ns at h)
+  passed-end h = ap (λ (xs : List PlainLine). allPassedOver xs size kinds rows number index walk height) (lines-end ns at h)
 
 -- ---- the states that they name
 
@@ -152,11 +172,14 @@ module _ (ns states : List ℕ) (at n : ℕ) (w : Named ns states at n) where
 
 -- ---- where the search is taken up
 
-module _ (ns : List ℕ) (rows : Rows) (number index walk : List ℕ) (height : ℕ) where
-  pub resumption-nowhere : allPassedOver (linesIn ns) rows number index walk height ≡ true → resumptionOf ns rows number index walk height ≡ Nowhere
-  unfolding resumptionOf
-  resumption-nowhere e = ap (λ (b : Bool). cond b Nowhere (earliestOf (take namedMost (statesIn ns)) number)) e
+module _ (size kinds : ℕ) (ns : List ℕ) (rows : Rows) (number index walk : List ℕ) (height : ℕ) where
+  abbrev copies : List ℕ
+  copies = copiesUpAll size kinds (take namedMost (statesIn ns))
 
-  pub resumption-earliest : allPassedOver (linesIn ns) rows number index walk height ≡ false → resumptionOf ns rows number index walk height ≡ earliestOf (take namedMost (statesIn ns)) number
+  pub resumption-nowhere : allPassedOver (linesIn ns) size kinds rows number index walk height ≡ true → resumptionOf size kinds ns rows number index walk height ≡ Nowhere
   unfolding resumptionOf
-  resumption-earliest e = ap (λ (b : Bool). cond b Nowhere (earliestOf (take namedMost (statesIn ns)) number)) e
+  resumption-nowhere e = ap (λ (b : Bool). cond b Nowhere (earliestOf copies number)) e
+
+  pub resumption-earliest : allPassedOver (linesIn ns) size kinds rows number index walk height ≡ false → resumptionOf size kinds ns rows number index walk height ≡ earliestOf copies number
+  unfolding resumptionOf
+  resumption-earliest e = ap (λ (b : Bool). cond b Nowhere (earliestOf copies number)) e

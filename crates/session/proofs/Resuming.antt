@@ -3,20 +3,24 @@ use mathlib.Core.Path.{_≡_, refl, sym, ap, subst, _∙_, subst⁻¹}
 use mathlib.Core.Logic.{inl, inr, ⊎-elim, _⊎_}
 use mathlib.Core.Bool.{Bool, true, false, _&&_, _||_, not}
 use mathlib.Core.List.{List, [], _∷_, _++_, append-assoc, map}
-use Prim.Native.Nat.{ℕ, suc, _-_, _≤_, _<_}
+use Prim.Native.Nat.{ℕ, suc, _*_, _-_, _≤_, _<_}
 use native.Mathlib.Omega.{arith}
-use lib.Dec.{ltb}
+use lib.Dec.{eqb, ltb}
 use lib.ListN.{length, getD, take, drop, length-append, take-append-drop, length-take}
 use lib.Seq.{getD-at}
-use borrow.Author.Tests.{eq-eqb, ne-eqb, lt-ltb, le-ltb, ltb-true, not-false}
+use borrow.Author.Tests.{eq-eqb, ne-eqb, eqb-false, lt-ltb, le-ltb, ltb-true, not-false}
 use Rattle.plain.specs.Lists.{elem, In, before, from, all}
-use Rattle.plain.specs.Search.{Graph, Edge, Frame, frame, onPath, Config, outer, nested, exhausted, found, discoveredOf, probesOf, run, statesOf, stemOf, cycleOf, verdict, meets}
+use Rattle.plain.specs.Search.{Graph, Edge, Frame, frame, onPath, Config, outer, nested, exhausted, found, discoveredOf, probesOf, run, finished, statesOf, stemOf, cycleOf, verdict}
+use Rattle.plain.specs.Layers.{copy, stateOf, stateAt, layerAt, lands, copies}
 use Rattle.plain.specs.Unexplored.{unfinishedPath, Untaken}
-use Rattle.plain.specs.Table.{Table, row, searched, budget, final}
-use Rattle.plain.specs.Refusals.{accepted, present}
-use Rattle.plain.specs.Machine.{add, cut, conditions, changeTrial, unexplored, Change, mark, unmark, named, namedAll, apply, makes, passedOver}
+use Rattle.plain.specs.Table.{Table, row, gameOf, searched, copiesIn, budget, final}
+use Rattle.plain.specs.Refusals.{accepted, present, outside}
+use Rattle.plain.specs.Machine.{add, cut, conditions, changeTrial, Change, mark, unmark, named, namedAll, apply, makes, passedOver}
 use Rattle.plain.specs.Notes.{Notes, notes, Below, Note}
-use Rattle.plain.proofs.Tests.{contra, either, not-true, same, in-nil, in-one, in-append, or-second}
+use Rattle.plain.proofs.Tests.{contra, either, not-true, same, in-nil, in-one, in-head, in-append}
+use Rattle.plain.proofs.Copies.{state-copy, layer-most, copies-among, among-all}
+use Rattle.plain.proofs.Lifting.{map-in, in-map, state-at, lands-below}
+use Rattle.plain.proofs.LayerSizes.{copy-once}
 use Rattle.plain.proofs.Paths.{On, on-head, on-tail, Off}
 use Rattle.plain.proofs.Invariant.{Inv, inv-run, Linked}
 use Rattle.plain.proofs.Lassos.{before-from, on-states, states-on}
@@ -24,10 +28,10 @@ use Rattle.plain.proofs.Restore.{ShapeOf, below-same, noted-run, notes-index}
 use Rattle.plain.proofs.Edges.{Has}
 use Rattle.plain.proofs.Rows.{has-row}
 use Rattle.plain.proofs.Trials.{unheld}
-use Rattle.plain.proofs.Tables.{Valid, changed-size}
-use Rattle.plain.proofs.Demands.{run-final}
-use Rattle.plain.proofs.Unexplored.{rows-once, shared-finished}
-use Rattle.plain.proofs.Explored.{finished-is, left-unlooked, front-looked, finished-looked}
+use Rattle.plain.proofs.Tables.{Valid, changed-size, change-within, inside-both}
+use Rattle.plain.proofs.Demands.{run-final, target-below}
+use Rattle.plain.proofs.Unexplored.{Alike, rows-once, shared-finished}
+use Rattle.plain.proofs.Explored.{finished-is, looked-known, left-unlooked, front-looked, finished-looked}
 use Rattle.rows.specs.Rows.{entries, rowAt, placeOf}
 use Rattle.rows.specs.Change.{Rows}
 use Rattle.rows.proofs.Entries.{entries-front}
@@ -39,25 +43,25 @@ use Rattle.table.specs.declared.Subject.{Subject}
 use Rattle.table.specs.declared.Subject.the-variants as Subject
 use Rattle.table.specs.Trials.{switching}
 use Rattle.table.specs.Filing.{namedBy}
-use Rattle.table.proofs.Places.{has-place, place-hit, place-front, place-behind, same-test}
+use Rattle.table.proofs.Places.{has-place, place-hit, place-miss, place-front, place-behind, same-test}
 use Rattle.session.specs.declared.Session.{Session}
-use Rattle.session.specs.Model.{arraysHeld, unexploredEdge, unexploredIn, passedOverIn, allPassedOver}
+use Rattle.session.specs.Model.{arraysHeld, copiesUp, unexploredEdge, unexploredIn, copyPassedOver, passedOverIn, allPassedOver}
 use Rattle.session.specs.Promises.{heightOf, Holds}
 use Rattle.plain.specs.Claims.{AllAccepted}
 use Rattle.plain.proofs.OuterProbes.{looked-edge}
-use Rattle.plain.proofs.Prefix.{meets-one, unmet-one}
-use Rattle.plain.proofs.Batches.{Taken, passed-step}
+use Rattle.plain.proofs.Batches.{Taken, alike-step, passed-step}
 use Rattle.plain.proofs.Limits.{limits, size-few, small}
 use Rattle.table.proofs.Changing.{named-below}
 use Rattle.batch.proofs.Batches.{change-back}
 use Rattle.batch.specs.Batches.{opFor}
 use Rattle.verdict.specs.Answers.{WalkOf}
+use Rattle.session.proofs.Copied.{landed, cameTo, lands-low, home, copies-few, passed-by-copies, copies-up, up-copies, all-none}
 
 -- ---- laws of the definitions
 
-module _ (from to : ℕ) (rows : Rows) (index walk : List ℕ) (tip : ℕ) where
+module _ (copy from to : ℕ) (rows : Rows) (index walk : List ℕ) (tip : ℕ) where
   abbrev place : ℕ
-  place = placeOf from (entries tip 0 walk)
+  place = placeOf copy (entries tip 0 walk)
 
   abbrev next : ℕ
   next = getD walk (suc place) 0
@@ -65,27 +69,27 @@ module _ (from to : ℕ) (rows : Rows) (index walk : List ℕ) (tip : ℕ) where
   abbrev target : ℕ
   target = placeOf to (rowAt (rows .targets) (rows .starts) from)
 
-  pub edge-off : (on : Bool) → ltb place tip ≡ false → unexploredEdge on from to rows index walk tip ≡ false
+  pub edge-off : (on : Bool) → ltb place tip ≡ false → unexploredEdge on copy from to rows index walk tip ≡ false
   unfolding unexploredEdge
   edge-off on e = ap (λ (b : Bool). b && (on || ltb (getD index next 0) target)) e
 
-  pub edge-comes : ltb place tip ≡ true → unexploredEdge true from to rows index walk tip ≡ true
+  pub edge-comes : ltb place tip ≡ true → unexploredEdge true copy from to rows index walk tip ≡ true
   unfolding unexploredEdge
   edge-comes e = ap (λ (b : Bool). b && (true || ltb (getD index next 0) target)) e
 
-  pub edge-goes : ltb place tip ≡ true → unexploredEdge false from to rows index walk tip ≡ ltb (getD index next 0) target
+  pub edge-goes : ltb place tip ≡ true → unexploredEdge false copy from to rows index walk tip ≡ ltb (getD index next 0) target
   unfolding unexploredEdge
   edge-goes e = ap (λ (b : Bool). b && (false || ltb (getD index next 0) target)) e
 
 -- a change as it is switched: an edge, or a mark
-pub switched-edge : (on : Bool) (x : Subject) (from to : ℕ) (rows : Rows) (index walk : List ℕ) (tip : ℕ) → x ≡ Subject.Edge from to
-    → unexploredIn (switching on x) rows index walk tip ≡ unexploredEdge on from to rows index walk tip
-switched-edge true x from to rows index walk tip e = ap (λ (y : Subject). unexploredIn (switching true y) rows index walk tip) e
-switched-edge false x from to rows index walk tip e = ap (λ (y : Subject). unexploredIn (switching false y) rows index walk tip) e
+pub switched-edge : (on : Bool) (x : Subject) (copy from to : ℕ) (rows : Rows) (index walk : List ℕ) (tip : ℕ) → x ≡ Subject.Edge from to
+    → unexploredIn (switching on x) copy rows index walk tip ≡ unexploredEdge on copy from to rows index walk tip
+switched-edge true x copy from to rows index walk tip e = ap (λ (y : Subject). unexploredIn (switching true y) copy rows index walk tip) e
+switched-edge false x copy from to rows index walk tip e = ap (λ (y : Subject). unexploredIn (switching false y) copy rows index walk tip) e
 
-pub switched-mark : (on : Bool) (x : Subject) (state : ℕ) (rows : Rows) (index walk : List ℕ) (tip : ℕ) → x ≡ Subject.Mark state → unexploredIn (switching on x) rows index walk tip ≡ false
-switched-mark true x state rows index walk tip e = ap (λ (y : Subject). unexploredIn (switching true y) rows index walk tip) e
-switched-mark false x state rows index walk tip e = ap (λ (y : Subject). unexploredIn (switching false y) rows index walk tip) e
+pub switched-mark : (on : Bool) (x : Subject) (copy state kind : ℕ) (rows : Rows) (index walk : List ℕ) (tip : ℕ) → x ≡ Subject.Mark state kind → unexploredIn (switching on x) copy rows index walk tip ≡ false
+switched-mark true x copy state kind rows index walk tip e = ap (λ (y : Subject). unexploredIn (switching true y) copy rows index walk tip) e
+switched-mark false x copy state kind rows index walk tip e = ap (λ (y : Subject). unexploredIn (switching false y) copy rows index walk tip) e
 
 -- ---- the walk, and the states that have not finished
 
@@ -93,10 +97,6 @@ switched-mark false x state rows index walk tip e = ap (λ (y : Subject). unexpl
 in-some : (x : ℕ) (xs : List ℕ) → In x xs → 0 < length xs
 in-some x [] i = absurd (in-nil x i)
 in-some x (y ∷ ys) i = omega arith
-
-or-none : (a b : Bool) → b ≡ false → (a || b) ≡ a
-or-none true b e = refl
-or-none false b e = e
 
 module _ (g : Graph) where
   -- the edge that discovered the next state of the path is the last one taken of a state's row, and what is left stands behind it
@@ -178,11 +178,19 @@ module _ (g : Graph) where
       known w (inl z) = rw z (v .known s (on-head s [] p))
       known w (inr o) = v .known w (on-tail w s [] p o)
 
--- ---- the test on the session is the plain one, of a state that was met
+-- ---- the test on the session is the plain one, of a copy that was met
 
-module _ (t : Table) (v : Valid t) (r : Notes) (rows : Rows) (index walk : List ℕ) (tip from to : ℕ)
-    (rows-are : rowAt (rows .targets) (rows .starts) from ≡ row (t .edges) from) (index-is : (x : ℕ) → r .of x .index ≡ getD index x 0)
-    (o : PathTold (searched t) r (run (searched t) (budget t)) tip walk) (met : In from (discoveredOf (run (searched t) (budget t)))) where
+-- a number has the place in a list that it has where each is replaced, no two by the same
+place-map : (f : ℕ → ℕ) → ((x y : ℕ) → f x ≡ f y → x ≡ y) → (y : ℕ) (xs : List ℕ) → placeOf y xs ≡ placeOf (f y) (map f xs)
+unfolding placeOf
+place-map f once y [] = refl
+place-map f once y (x ∷ xs) = ⊎-elim
+    (λ e. place-hit y x xs e ∙ sym (place-hit (f y) (f x) (map f xs) (eq-eqb (f y) (f x) (ap f (same e)))))
+    (λ e. place-miss y x xs e ∙ ap suc (place-map f once y xs) ∙ sym (place-miss (f y) (f x) (map f xs) (ne-eqb (f y) (f x) (λ z. eqb-false y x e (once y x z))))) (either (eqb y x))
+
+module _ (t : Table) (v : Valid t) (r : Notes) (rows : Rows) (index walk : List ℕ) (tip x from to : ℕ) (is-copy : stateAt (gameOf t) x ≡ from)
+    (rows-are : rowAt (rows .targets) (rows .starts) from ≡ row (t .edges) from) (index-is : (y : ℕ) → r .of y .index ≡ getD index y 0)
+    (o : PathTold (searched t) r (run (searched t) (budget t)) tip walk) (met : In x (discoveredOf (run (searched t) (budget t)))) where
   abbrev c : Config
   c = run (searched t) (budget t)
 
@@ -190,25 +198,28 @@ module _ (t : Table) (v : Valid t) (r : Notes) (rows : Rows) (index walk : List 
   path = unfinishedPath c
 
   abbrev targets : List ℕ
-  targets = searched t .successors from
+  targets = searched t .successors x
+
+  -- where the move lands
+  abbrev goal : ℕ
+  goal = landed t x to
 
   -- below the tip: not finished
-  placed-open : ltb (placeOf from (entries tip 0 walk)) tip ≡ onPath from path
+  placed-open : ltb (placeOf x (entries tip 0 walk)) tip ≡ onPath x path
   placed-open =
-      (λ k. ltb (placeOf from (o .unfinished-are k)) (o .tip-is k)) ∙ has-place from (statesOf path)
-      ∙ same-test (elem from (statesOf path)) (onPath from path) (states-on from path) (on-states from path)
+      (λ k. ltb (placeOf x (o .unfinished-are k)) (o .tip-is k)) ∙ has-place x (statesOf path)
+      ∙ same-test (elem x (statesOf path)) (onPath x path) (states-on x path) (on-states x path)
 
-  add-decided : unexploredEdge true from to rows index walk tip ≡ unexplored (add (from, to)) t
-  unfolding unexplored
-  add-decided = by-path (onPath from path) refl ∙ sym (ap not (finished-is (searched t) (budget t) from))
+  add-decided : unexploredEdge true x from to rows index walk tip ≡ not (finished (searched t) (budget t) x)
+  add-decided = by-path (onPath x path) refl ∙ sym (ap not (finished-is (searched t) (budget t) x))
     where
-      by-path : (b : Bool) → onPath from path ≡ b → unexploredEdge true from to rows index walk tip ≡ not (elem from (discoveredOf c) && not (onPath from path))
-      by-path true e = edge-comes from to rows index walk tip (placed-open ∙ e) ∙ rw (met, e)
-      by-path false e = edge-off from to rows index walk tip true (placed-open ∙ e) ∙ rw (met, e)
+      by-path : (b : Bool) → onPath x path ≡ b → unexploredEdge true x from to rows index walk tip ≡ not (elem x (discoveredOf c) && not (onPath x path))
+      by-path true e = edge-comes x from to rows index walk tip (placed-open ∙ e) ∙ rw (met, e)
+      by-path false e = edge-off x from to rows index walk tip true (placed-open ∙ e) ∙ rw (met, e)
 
   -- the last edge that was taken discovered the next state of the walk
   abbrev last : ℕ
-  last = getD index (getD walk (suc (placeOf from (entries tip 0 walk))) 0) 0
+  last = getD index (getD walk (suc (placeOf x (entries tip 0 walk))) 0) 0
 
   abbrev front : List ℕ
   front = take (suc last) targets
@@ -216,47 +227,50 @@ module _ (t : Table) (v : Valid t) (r : Notes) (rows : Rows) (index walk : List 
   abbrev left : List ℕ
   left = drop (suc last) targets
 
-  last-open : On from path → Untaken from left path × (last < length targets)
+  last-open : On x path → Untaken x left path × (last < length targets)
   last-open h =
-      let e : r .of (getD walk (suc (placeOf from (statesOf path))) 0) .index ≡ last =
-      (λ k. r .of (getD walk (suc (placeOf from (sym (o .unfinished-are) k))) 0) .index) ∙ index-is (getD walk (suc (placeOf from (entries tip 0 walk))) 0) in
-      subst (λ (i : ℕ). Untaken from (drop (suc i) targets) path × (i < length targets)) e (o .last-is from (on-states from path h))
+      let e : r .of (getD walk (suc (placeOf x (statesOf path))) 0) .index ≡ last =
+      (λ k. r .of (getD walk (suc (placeOf x (sym (o .unfinished-are) k))) 0) .index) ∙ index-is (getD walk (suc (placeOf x (entries tip 0 walk))) 0) in
+      subst (λ (i : ℕ). Untaken x (drop (suc i) targets) path × (i < length targets)) e (o .last-is x (on-states x path h))
 
-  looked-cut : Has (probesOf c) (from, to) → unexplored (cut (from, to)) t ≡ false
-  unfolding unexplored final
-  looked-cut h = ap not h
+  -- the place of the move in the row that is stored is that of its target among those of the copy
+  placed-goal : placeOf to (rowAt (rows .targets) (rows .starts) from) ≡ placeOf goal targets
+  placed-goal =
+      ap (placeOf to) (rows-are ∙ ap (row (t .edges)) (sym is-copy))
+      ∙ place-map (landed t x) (copy-once (t .size) (lands (gameOf t) (layerAt (gameOf t) x) (stateAt (gameOf t) x))) to (row (t .edges) (stateAt (gameOf t) x))
 
-  unlooked-cut : (Has (probesOf c) (from, to) → ⊥) → unexplored (cut (from, to)) t ≡ true
-  unfolding unexplored final
-  unlooked-cut n = ap not (not-true (present (probesOf c) (from, to)) n)
+  looked : Bool
+  looked = present (probesOf c) (x, goal)
 
   -- an edge stands behind the last one taken, or is not there, exactly when it was not looked at
-  cut-open : On from path → ltb last (placeOf to (rowAt (rows .targets) (rows .starts) from)) ≡ unexplored (cut (from, to)) t
-  cut-open h = ap (λ (l : List ℕ). ltb last (placeOf to l)) (rows-are ∙ sym (take-append-drop (suc last) targets)) ∙ ⊎-elim taken untaken (either (elem to front))
+  cut-open : On x path → ltb last (placeOf to (rowAt (rows .targets) (rows .starts) from)) ≡ not looked
+  unfolding looked
+  cut-open h = ap (ltb last) placed-goal ∙ ap (λ (l : List ℕ). ltb last (placeOf goal l)) (sym (take-append-drop (suc last) targets)) ∙ ⊎-elim taken untaken (either (elem goal front))
     where
-      w : Untaken from left path × (last < length targets)
+      w : Untaken x left path × (last < length targets)
       w = last-open h
 
-      taken : In to front → ltb last (placeOf to (front ++ left)) ≡ unexplored (cut (from, to)) t
+      taken : In goal front → ltb last (placeOf goal (front ++ left)) ≡ not looked
       taken j =
-          let short : placeOf to (front ++ left) ≤ last = omega (arith, place-front to front left j, ltb-true (placeOf to front) (length front) (has-place to front ∙ j), length-take (suc last) targets) in
-          le-ltb last (placeOf to (front ++ left)) short
-          ∙ sym (looked-cut (front-looked (searched t) (rows-once t v) (budget t) from to front left met (w .0) (sym (take-append-drop (suc last) targets)) j))
+          let short : placeOf goal (front ++ left) ≤ last = omega (arith, place-front goal front left j, ltb-true (placeOf goal front) (length front) (has-place goal front ∙ j), length-take (suc last) targets) in
+          le-ltb last (placeOf goal (front ++ left)) short
+          ∙ sym (ap not (front-looked (searched t) (rows-once t v) (budget t) x goal front left met (w .0) (sym (take-append-drop (suc last) targets)) j))
 
-      untaken : elem to front ≡ false → ltb last (placeOf to (front ++ left)) ≡ unexplored (cut (from, to)) t
+      untaken : elem goal front ≡ false → ltb last (placeOf goal (front ++ left)) ≡ not looked
       untaken f =
-          let far : last < placeOf to (front ++ left) = omega (arith, place-behind to front left f, w .1, length-take (suc last) targets) in
-          lt-ltb last (placeOf to (front ++ left)) far ∙ sym (unlooked-cut (λ k.
-          let i : In to (front ++ left) = rw (take-append-drop (suc last) targets) (looked-edge (searched t) (budget t) (from, to) k) in
-          ⊎-elim (λ j. contra j f) (λ j. left-unlooked (searched t) (rows-once t v) (budget t) from to left (w .0) j k) (in-append to front left i)))
+          let far : last < placeOf goal (front ++ left) = omega (arith, place-behind goal front left f, w .1, length-take (suc last) targets) in
+          lt-ltb last (placeOf goal (front ++ left)) far ∙ sym (ap not (not-true looked (λ k.
+          let i : In goal (front ++ left) = rw (take-append-drop (suc last) targets) (looked-edge (searched t) (budget t) (x, goal) k) in
+          ⊎-elim (λ j. contra j f) (λ j. left-unlooked (searched t) (rows-once t v) (budget t) x goal left (w .0) j k) (in-append goal front left i))))
 
-  -- of a state that has finished it has to be there
-  cut-decided : (Off from path → In to targets) → unexploredEdge false from to rows index walk tip ≡ unexplored (cut (from, to)) t
-  cut-decided i = by-path (onPath from path) refl
+  -- of a copy that has finished it has to be there
+  cut-decided : (Off x path → In goal targets) → unexploredEdge false x from to rows index walk tip ≡ not (present (probesOf c) (x, goal))
+  unfolding looked
+  cut-decided i = by-path (onPath x path) refl
     where
-      by-path : (b : Bool) → onPath from path ≡ b → unexploredEdge false from to rows index walk tip ≡ unexplored (cut (from, to)) t
-      by-path true e = edge-goes from to rows index walk tip (placed-open ∙ e) ∙ cut-open e
-      by-path false e = edge-off from to rows index walk tip false (placed-open ∙ e) ∙ sym (looked-cut (finished-looked (searched t) (rows-once t v) (budget t) from to met e (i e)))
+      by-path : (b : Bool) → onPath x path ≡ b → unexploredEdge false x from to rows index walk tip ≡ not looked
+      by-path true e = edge-goes x from to rows index walk tip (placed-open ∙ e) ∙ cut-open e
+      by-path false e = edge-off x from to rows index walk tip false (placed-open ∙ e) ∙ sym (ap not (finished-looked (searched t) (rows-once t v) (budget t) x goal met e (i e)))
 
 -- ---- of a session
 
@@ -265,8 +279,8 @@ pub named-one : (c : Change) → named c ≡ namedBy (opFor c) ∷ []
 unfolding named
 named-one (add e) = refl
 named-one (cut e) = refl
-named-one (mark s) = refl
-named-one (unmark s) = refl
+named-one (mark s kind) = refl
+named-one (unmark s kind) = refl
 
 -- a state that an accepted change names is one of the game
 named-inside : (c : Change) (t : Table) (room : ℕ) → changeTrial c t room ≡ accepted → namedBy (opFor c) < t .size
@@ -293,7 +307,8 @@ module _ (s : Session) (t : Table) (h : Holds s t) (v : Valid t) where
   abbrev ran : Config
   ran = run (searched t) (h .steps)
 
-  ran-final : ran ≡ final t
+  ran-final : ran ≡ run (searched t) (budget t)
+  unfolding final
   ran-final = run-final t v (h .steps) (h .ended)
 
   path-held : PathTold (searched t) held (run (searched t) (budget t)) (s .height - 1) (s .walk)
@@ -302,7 +317,7 @@ module _ (s : Session) (t : Table) (h : Holds s t) (v : Valid t) where
       (inv-run (searched t) (budget t)) (rw ran-final at (noted-run (searched t) (h .steps) .shape)) (λ x i. h .archived .holds .notes-right x (rw ran-final i))
       (notes-index (searched t) (h .steps)) (h .told) (h .height-is)
 
-  -- a state was met exactly when it has a number
+  -- a copy was met exactly when it has a number
   pub numbered-met : (x : ℕ) → In x (discoveredOf ran) → getD (s .number) x 0 < noNumber
   numbered-met x i =
       let n = noted-run (searched t) (h .steps) in
@@ -310,64 +325,115 @@ module _ (s : Session) (t : Table) (h : Holds s t) (v : Valid t) where
         arith,
         ap (λ (m : Note). m .number) (h .archived .holds .notes-right x i),
         n .counted .0 x i,
-        limits (searched t) (t .size) (small t v) (h .steps) .few,
+        limits (searched t) (t .kinds * t .size) (small t v) (h .steps) .few,
       )
 
-  pub numbered-unmet : (x : ℕ) → x < t .size → elem x (discoveredOf ran) ≡ false → getD (s .number) x 0 ≡ noNumber
-  numbered-unmet x b f = h .archived .undiscovered x (omega (arith, b, size-few (t .size) (v .size-ok))) f
+  pub numbered-unmet : (x : ℕ) → x < 512 → elem x (discoveredOf ran) ≡ false → getD (s .number) x 0 ≡ noNumber
+  numbered-unmet x b f = h .archived .undiscovered x b f
 
-  -- of a state that was met: the plain test
-  decided : (c : Change) (u : Table) (room : ℕ) → Taken t v u → changeTrial c u room ≡ accepted → In (namedBy (opFor c)) (discoveredOf ran)
-      → unexploredIn (opFor c) (arraysHeld s .rows) (s .index) (s .walk) (s .height - 1) ≡ unexplored c t
-  unfolding changeTrial conditions unexplored final
-  decided (add e) u room k a i =
-      add-decided t v held (arraysHeld s .rows) (s .index) (s .walk) (s .height - 1) (e .0) (e .1) (h .stored .filed .rows-are (e .0)) (λ x. refl) path-held (rw ran-final at i)
-  decided (cut e) u room k a i =
-      let met : In (e .0) (discoveredOf (run (searched t) (budget t))) = rw ran-final at i in
-      cut-decided t v held (arraysHeld s .rows) (s .index) (s .walk) (s .height - 1) (e .0) (e .1) (h .stored .filed .rows-are (e .0)) (λ x. refl) path-held met
-      (λ f. rw (← shared-finished t v (searched u) (e .0) met f (k (e .0))) (has-row (u .edges) (e .0) (e .1) (not-false (present (u .edges) e) (unheld 10 _ a))))
-  decided (mark s) u room k a i = refl
-  decided (unmark s) u room k a i = refl
+  -- the session's judgement of a change, in the layer of one copy
+  abbrev copyPassed : Change → ℕ → Bool
+  copyPassed b x = copyPassedOver (opFor b) x (arraysHeld s .rows) (s .number) (s .index) (s .walk) (s .height)
 
-  -- A change that is accepted on a table whose rows begin with what the run has taken: the session's judgement is the plain one.
-  passed-decided : (c : Change) (u : Table) (room : ℕ) → u .size ≡ t .size → Taken t v u → changeTrial c u room ≡ accepted
-      → passedOverIn (makes c) (arraysHeld s .rows) (s .number) (s .index) (s .walk) (s .height) ≡ passedOver c t
-  unfolding passedOver
-  passed-decided c u room size k a = ⊎-elim met unmet (either (elem (namedBy (opFor c)) (discoveredOf ran)))
+  -- A move that is cut from a table whose rows begin with what the run has taken is one of the moves of every copy that has finished.
+  goes-on : (u : Table) (e : Edge) (x : ℕ) → Alike t v u → Taken t v u → outside (t .size) e ≡ false → Has (u .edges) e → stateAt (gameOf t) x ≡ e .0
+      → In x (discoveredOf (run (searched t) (budget t))) → Off x (unfinishedPath (run (searched t) (budget t))) → In (landed t x (e .1)) (searched t .successors x)
+  goes-on u e x k taken out has own met f =
+      let layer = lands (gameOf u) (layerAt (gameOf u) x) (stateAt (gameOf u) x) in
+      let home-is : stateAt (gameOf u) x ≡ e .0 = (λ i. stateOf (k .0 i) (k .1 i - 1) x) ∙ own in
+      let there : In (landed u x (e .1)) (searched u .successors x) =
+      map-in (landed u x) (e .1) (row (u .edges) (stateAt (gameOf u) x)) (ap (λ (y : ℕ). elem (e .1) (row (u .edges) y)) home-is ∙ has-row (u .edges) (e .0) (e .1) has) in
+      let q = in-map (landed t x) (landed u x (e .1)) (row (t .edges) (stateAt (gameOf t) x)) (ap (elem (landed u x (e .1))) (sym (shared-finished t v (searched u) x met f (taken x))) ∙ there) in
+      let low : layer < u .kinds = lands-below (gameOf u) (layerAt (gameOf u) x) (stateAt (gameOf u) x) (omega (arith, layer-most (u .size) (u .kinds - 1) x, k .1, v .some-kind)) in
+      let z : e .1 ≡ q .0 =
+      sym (state-copy (t .size) (t .kinds - 1) layer (e .1) (omega (arith, k .1)) (inside-both (t .size) e out .1))
+      ∙ ap (stateAt (gameOf t)) ((λ i. copy (sym (k .0) i) layer (e .1)) ∙ q .2)
+      ∙ state-at (gameOf t) (lands (gameOf t) (layerAt (gameOf t) x) (stateAt (gameOf t) x)) (q .0) (lands-low t v x) (target-below t v (stateAt (gameOf t) x) (q .0) (q .1)) in
+      ap (λ (y : ℕ). elem (landed t x y) (searched t .successors x)) z ∙ map-in (landed t x) (q .0) (row (t .edges) (stateAt (gameOf t) x)) (q .1)
+
+  -- of a copy that was met: the plain test
+  decided : (b : Change) (u : Table) (room : ℕ) → Alike t v u → Taken t v u → changeTrial b u room ≡ accepted → (x : ℕ) → stateAt (gameOf t) x ≡ namedBy (opFor b) → In x (discoveredOf ran)
+      → unexploredIn (opFor b) x (arraysHeld s .rows) (s .index) (s .walk) (s .height - 1) ≡ not (cameTo t b x)
+  unfolding changeTrial conditions
+  decided (add e) u room k a acc x own i =
+      add-decided t v held (arraysHeld s .rows) (s .index) (s .walk) (s .height - 1) x (e .0) (e .1) own (h .stored .filed .rows-are (e .0)) (λ y. refl) path-held (rw ran-final at i)
+  decided (cut e) u room k a acc x own i =
+      let met : In x (discoveredOf (run (searched t) (budget t))) = rw ran-final at i in
+      cut-decided t v held (arraysHeld s .rows) (s .index) (s .walk) (s .height - 1) x (e .0) (e .1) own (h .stored .filed .rows-are (e .0)) (λ y. refl) path-held met
+      (λ f. goes-on u e x k a (ap (λ (n : ℕ). outside n e) (sym (k .0)) ∙ change-within (cut e) u room acc) (not-false (present (u .edges) e) (unheld 10 _ acc)) own met f)
+  decided (mark q kind) u room k a acc x own i = sym (ap not (rw ran-final at i))
+  decided (unmark q kind) u room k a acc x own i = sym (ap not (rw ran-final at i))
+
+  -- to a copy that was not met the run had not come
+  not-come : (b : Change) (x : ℕ) → elem x (discoveredOf (run (searched t) (budget t))) ≡ false → cameTo t b x ≡ false
+  not-come (add e) x f = finished-is (searched t) (budget t) x ∙ ap (λ (met : Bool). met && not (onPath x (unfinishedPath (run (searched t) (budget t))))) f
+  not-come (cut e) x f =
+      not-true (present (probesOf (run (searched t) (budget t))) (x, landed t x (e .1))) (λ k. contra (looked-known (searched t) (rows-once t v) (budget t) x (landed t x (e .1)) k) f)
+  not-come (mark q kind) x f = f
+  not-come (unmark q kind) x f = f
+
+  -- A change that is accepted on a table whose rows begin with what the run has taken: the session's judgement of each copy is the plain one, ..
+  copy-decided : (b : Change) (u : Table) (room : ℕ) → Alike t v u → Taken t v u → changeTrial b u room ≡ accepted → (x : ℕ) → In x (copiesIn t (named b)) → copyPassed b x ≡ not (cameTo t b x)
+  copy-decided b u room k a acc x i = ⊎-elim met unmet (either (elem x (discoveredOf ran)))
+    where
+      unexploredHere : Bool
+      unexploredHere = unexploredIn (opFor b) x (arraysHeld s .rows) (s .index) (s .walk) (s .height - 1)
+
+      below : namedBy (opFor b) < t .size
+      below = omega (arith, k .0, named-inside b u room acc)
+
+      here : In x (copiesIn t (namedBy (opFor b) ∷ []))
+      here = ap (λ (l : List ℕ). elem x (copiesIn t l)) (sym (named-one b)) ∙ i
+
+      met : In x (discoveredOf ran) → copyPassed b x ≡ not (cameTo t b x)
+      met j =
+          ap (λ (c : Bool). c || unexploredHere) (ne-eqb (getD (s .number) x 0) noNumber (λ z. omega (arith, numbered-met x j)))
+          ∙ decided b u room k a acc x (home t v (namedBy (opFor b)) x below here) j
+
+      unmet : elem x (discoveredOf ran) ≡ false → copyPassed b x ≡ not (cameTo t b x)
+      unmet f =
+          ap (λ (c : Bool). c || unexploredHere) (eq-eqb (getD (s .number) x 0) noNumber (numbered-unmet x (copies-few t v (namedBy (opFor b) ∷ []) (λ y m. omega (arith, in-one y (namedBy (opFor b)) m, below)) x here) f))
+          ∙ sym (ap not (not-come b x (rw ran-final at f)))
+
+  -- .. and so is that of all copies, ..
+  passed-decided : (b : Change) (u : Table) (room : ℕ) → Alike t v u → Taken t v u → changeTrial b u room ≡ accepted
+      → passedOverIn (makes b) (s .size) (s .kinds) (arraysHeld s .rows) (s .number) (s .index) (s .walk) (s .height) ≡ passedOver b t
+  passed-decided b u room k a acc =
+      (λ i. all (copyPassed b) (copiesUp (h .size-is i) (h .kinds-is i) state)) ∙ all-none (copyPassed b) (cameTo t b) (copiesUp (t .size) (t .kinds) state) (copiesIn t (named b)) into back (copy-decided b u room k a acc)
+      ∙ sym (passed-by-copies t v b (rw (k .0) at (change-within b u room acc)))
     where
       state : ℕ
-      state = namedBy (opFor c)
+      state = namedBy (opFor b)
 
-      unexploredHere : Bool
-      unexploredHere = unexploredIn (opFor c) (arraysHeld s .rows) (s .index) (s .walk) (s .height - 1)
+      low : state < 512
+      low = omega (arith, k .0, named-inside b u room acc, size-few (t .size) (v .size-ok))
 
-      met : In state (discoveredOf ran) → passedOverIn (makes c) (arraysHeld s .rows) (s .number) (s .index) (s .walk) (s .height) ≡ (unexplored c t || not (meets (named c) (final t)))
-      met i =
-          let m : meets (named c) (final t) ≡ true = rw (named-one c, ← ran-final) (meets-one (searched t) state ran i) in
-          ap (λ (b : Bool). b || unexploredHere) (ne-eqb (getD (s .number) state 0) noNumber (λ z. omega (arith, numbered-met state i)))
-          ∙ decided c u room k a i ∙ sym (or-none (unexplored c t) (not (meets (named c) (final t))) (ap not m))
+      into : (x : ℕ) → In x (copiesUp (t .size) (t .kinds) state) → In x (copiesIn t (named b))
+      into x i = ap (λ (l : List ℕ). elem x (copiesIn t l)) (named-one b)
+          ∙ copies-among (t .size) (t .kinds - 1) (state ∷ []) state x (in-head state []) (up-copies (t .size) (t .kinds) (v .states-few) state low x i)
 
-      unmet : elem state (discoveredOf ran) ≡ false → passedOverIn (makes c) (arraysHeld s .rows) (s .number) (s .index) (s .walk) (s .height) ≡ (unexplored c t || not (meets (named c) (final t)))
-      unmet f =
-          let below : state < t .size = omega (arith, size, named-inside c u room a) in
-          let m : meets (named c) (final t) ≡ false = rw (named-one c, ← ran-final) (unmet-one (searched t) state ran f) in
-          ap (λ (b : Bool). b || unexploredHere) (eq-eqb (getD (s .number) state 0) noNumber (numbered-unmet state below f))
-          ∙ sym (or-second (unexplored c t) (not (meets (named c) (final t))) (ap not m))
+      back : (x : ℕ) → In x (copiesIn t (named b)) → In x (copiesUp (t .size) (t .kinds) state)
+      back x i =
+          let q = among-all (t .size) (t .kinds - 1) (state ∷ []) x (ap (λ (l : List ℕ). elem x (copiesIn t l)) (sym (named-one b)) ∙ i) in
+          copies-up (t .size) (t .kinds) (v .states-few) state low (v .some-kind) x (ap (λ (y : ℕ). elem x (copies (t .size) (t .kinds - 1) y)) (sym (in-one (q .0) state (q .1))) ∙ q .2)
 
-  -- and so is that of a list of changes
-  pub all-decided : (room : ℕ) (cs : List Change) (u : Table) → u .size ≡ t .size → Taken t v u → AllAccepted room cs u
-      → allPassedOver (map makes cs) (arraysHeld s .rows) (s .number) (s .index) (s .walk) (s .height) ≡ all (λ c. passedOver c t) cs
+  -- .. and that of a list of changes
+  pub all-decided : (room : ℕ) (cs : List Change) (u : Table) → Alike t v u → Taken t v u → AllAccepted room cs u
+      → allPassedOver (map makes cs) (s .size) (s .kinds) (arraysHeld s .rows) (s .number) (s .index) (s .walk) (s .height) ≡ all (λ b. passedOver b t) cs
   unfolding all
-  all-decided room [] u size k a = refl
-  all-decided room (c ∷ cs) u size k a = by-first (passedOver c t) refl (λ p. all-decided room cs (apply c u) (changed-size c u ∙ size) (passed-step t v c u p k) (a .1))
+  all-decided room [] u k a acc = refl
+  all-decided room (b ∷ cs) u k a acc = by-first (passedOver b t) refl
+      (λ p. all-decided room cs (apply b u) (alike-step t v b u k) (passed-step t v b u k (rw (k .0) at (change-within b u room (acc .0))) p a) (acc .1))
     where
       rest : Bool
-      rest = allPassedOver (map makes cs) (arraysHeld s .rows) (s .number) (s .index) (s .walk) (s .height)
+      rest = allPassedOver (map makes cs) (s .size) (s .kinds) (arraysHeld s .rows) (s .number) (s .index) (s .walk) (s .height)
 
-      here : passedOverIn (makes c) (arraysHeld s .rows) (s .number) (s .index) (s .walk) (s .height) ≡ passedOver c t
-      here = passed-decided c u room size k (a .0)
+      first : Bool
+      first = passedOverIn (makes b) (s .size) (s .kinds) (arraysHeld s .rows) (s .number) (s .index) (s .walk) (s .height)
 
-      by-first : (b : Bool) → passedOver c t ≡ b → (passedOver c t ≡ true → rest ≡ all (λ c. passedOver c t) cs)
-          → (passedOverIn (makes c) (arraysHeld s .rows) (s .number) (s .index) (s .walk) (s .height) && rest) ≡ (passedOver c t && all (λ c. passedOver c t) cs)
+      here : first ≡ passedOver b t
+      here = passed-decided b u room k a (acc .0)
+
+      by-first : (yes-it-is : Bool) → passedOver b t ≡ yes-it-is → (passedOver b t ≡ true → rest ≡ all (λ b. passedOver b t) cs) → (first && rest) ≡ (passedOver b t && all (λ b. passedOver b t) cs)
       by-first true e below = (λ i. here i && below e i)
-      by-first false e below = ap (λ (b : Bool). b && rest) (here ∙ e) ∙ sym (ap (λ (b : Bool). b && all (λ c. passedOver c t) cs) e)
+      by-first false e below = ap (λ (q : Bool). q && rest) (here ∙ e) ∙ sym (ap (λ (q : Bool). q && all (λ b. passedOver b t) cs) e)

@@ -1,8 +1,8 @@
 -- What the inner functions of the session do, over the lists that its arrays hold. Cited by their contracts alone. Assumes nothing.
-use Prim.Native.Nat.{ℕ, suc, _-_}
+use Prim.Native.Nat.{ℕ, zero, suc, _*_, _-_, _%_}
 use mathlib.Core.Path.{_≡_}
 use mathlib.Core.Bool.{Bool, true, false, cond, _&&_, _||_}
-use mathlib.Core.List.{List, [], _∷_}
+use mathlib.Core.List.{List, [], _∷_, _++_}
 use lib.Dec.{eqb, ltb}
 use lib.ListN.{length, getD, take, replicate}
 use Rattle.plain.specs.Lists.{all}
@@ -17,9 +17,9 @@ use Rattle.batch.specs.declared.Update.the-variants as Update
 use Rattle.batch.specs.declared.BatchLine.{BatchLine}
 use Rattle.table.specs.Trials.{Arrays, arraysOf}
 use Rattle.table.specs.Filing.{namedBy}
-use Rattle.batch.specs.Batches.{lineFor, lineTo, linesIn, statesIn, opFor, positionAt, callTriedIn}
-use Rattle.look.specs.Numbers.{noNumber}
-use Rattle.look.specs.Scan.{plainLayout}
+use Rattle.batch.specs.Batches.{lineFor, lineTo, linesIn, statesIn as namedIn, opFor, positionAt, callTriedIn}
+use Rattle.look.specs.Numbers.{noNumber, plus}
+use Rattle.layers.specs.Layout.{layered}
 use Rattle.search.specs.declared.Phase.{Phase}
 use Rattle.search.specs.declared.Phase.the-variants.{Outer, Nested, Exhausted, Found}
 use Rattle.search.specs.declared.Walker.{Walker}
@@ -28,8 +28,9 @@ use Rattle.session.specs.declared.Resumption.{Resumption}
 use Rattle.session.specs.declared.Resumption.the-variants.{Nowhere, At}
 use Rattle.session.specs.declared.Verdict.{Verdict}
 use Rattle.session.specs.declared.Settled.{Settled}
+use Rattle.session.specs.declared.First.{First}
 use Rattle.session.specs.declared.Session.{Session}
-use Rattle.verdict.specs.Answers.{refusing, Tells}
+use Rattle.verdict.specs.Answers.{refusing, lowered, Tells}
 
 -- what the arrays that outlive a search hold
 pub record Records : Type 0 where
@@ -44,10 +45,11 @@ abbrev pub recordsOf : List ℕ → List ℕ → List ℕ → List ℕ → List 
 recordsOf number parent index probes stamp walk = record { number = number; parent = parent; index = index; probes = probes; stamp = stamp; walk = walk }
 
 -- the session that is made of the table, the records of a search, and what it has come to
-abbrev pub sessionOf : ℕ → ℕ → Arrays → Records → Verdict → ℕ → Session
-sessionOf size start b a v total = record {
+abbrev pub sessionOf : ℕ → ℕ → ℕ → Arrays → Records → Verdict → ℕ → Session
+sessionOf size start kinds b a v total = record {
   size = size;
   start = start;
+  kinds = kinds;
   words = b .words;
   targets = b .rows .targets;
   starts = b .rows .starts;
@@ -68,15 +70,29 @@ sessionOf size start b a v total = record {
 abbrev pub arraysHeld : Session → Arrays
 arraysHeld s = arraysOf (s .targets) (s .starts) (s .words) (s .indegree)
 
--- the game that is searched
-abbrev pub gameIn : ℕ → Arrays → Game
-gameIn size b = gameOf (b .rows .targets) (plainLayout (b .rows .starts)) (b .words) size
+-- the game that is searched: the layers, of rows that are stored once
+abbrev pub gameIn : ℕ → ℕ → Arrays → Game
+gameIn size kinds b = gameOf (b .rows .targets) (layered size (kinds - 1) (b .rows .starts) (b .words)) (b .words) size
+
+-- how many states the layers have, within 16 bits
+abbrev pub statesIn : ℕ → ℕ → ℕ
+statesIn size kinds = size * kinds % 65536
+
+-- the copies of a state, one in each of so many layers, and those of several states
+unfoldable pub copiesUp : ℕ → ℕ → ℕ → List ℕ
+copiesUp size zero v = []
+copiesUp size (suc n) v = v ∷ copiesUp size n (plus v size)
+
+unfoldable pub copiesUpAll : ℕ → ℕ → List ℕ → List ℕ
+copiesUpAll size kinds [] = []
+copiesUpAll size kinds (s ∷ ss) = copiesUp size kinds s ++ copiesUpAll size kinds ss
 
 -- the session that has no game: all is 0
 abbrev pub noGame : Session
 noGame = record {
   size = 0;
   start = 0;
+  kinds = 0;
   words = replicate 8 0;
   targets = replicate 2048 0;
   starts = replicate 513 0;
@@ -102,46 +118,54 @@ abbrev pub onlyLine : Update → BatchLine
 onlyLine (Update.Change op) = lineTo op
 onlyLine Update.Batch = lineFor 0 0 0
 
--- Had the search not come to an edge that comes or goes? Below the place of the tip stand, on the walk, the states that have not finished their outer moves. The state
+-- Had the search not come to an edge that comes or goes, in the layer of one copy of the state that it leaves? Below the place of the tip stand, on the walk, the states that have not finished their outer moves. The state
 -- behind each of them was discovered through the last of its edges that was taken: an edge that goes has to stand behind that one.
-unfoldable pub unexploredEdge : Bool → ℕ → ℕ → Rows → List ℕ → List ℕ → ℕ → Bool
-unexploredEdge on from to rows index walk tip =
-    let i = placeOf from (entries tip 0 walk) in
+unfoldable pub unexploredEdge : Bool → ℕ → ℕ → ℕ → Rows → List ℕ → List ℕ → ℕ → Bool
+unexploredEdge on copy from to rows index walk tip =
+    let i = placeOf copy (entries tip 0 walk) in
     ltb i tip && (on || ltb (getD index (getD walk (suc i) 0) 0) (placeOf to (rowAt (rows .targets) (rows .starts) from)))
 
 -- of a change
-abbrev pub unexploredIn : Op → Rows → List ℕ → List ℕ → ℕ → Bool
-unexploredIn (Add from to) rows index walk tip = unexploredEdge true from to rows index walk tip
-unexploredIn (Cut from to) rows index walk tip = unexploredEdge false from to rows index walk tip
-unexploredIn (Mark state) rows index walk tip = false
-unexploredIn (Unmark state) rows index walk tip = false
+abbrev pub unexploredIn : Op → ℕ → Rows → List ℕ → List ℕ → ℕ → Bool
+unexploredIn (Add from to) copy rows index walk tip = unexploredEdge true copy from to rows index walk tip
+unexploredIn (Cut from to) copy rows index walk tip = unexploredEdge false copy from to rows index walk tip
+unexploredIn (Mark state kind) copy rows index walk tip = false
+unexploredIn (Unmark state kind) copy rows index walk tip = false
 
--- Had the search not come to what a line changes: was the state that it names never discovered, or its edge not come to? The tip is the last state of the open
--- path, which is so many states high. A line that makes no change is passed over.
-abbrev pub passedOverIn : PlainLine → Rows → List ℕ → List ℕ → List ℕ → ℕ → Bool
-passedOverIn (makes c) rows number index walk height = eqb (getD number (namedBy (opFor c)) 0) noNumber || unexploredIn (opFor c) rows index walk (height - 1)
-passedOverIn other rows number index walk height = true
+-- Had the search not come to what a change alters, in the layer of one copy of the state that it names: was the copy never discovered, or the edge there not come to? The tip is the
+-- last state of the open path, which is so many states high.
+abbrev pub copyPassedOver : Op → ℕ → Rows → List ℕ → List ℕ → List ℕ → ℕ → Bool
+copyPassedOver op copy rows number index walk height = eqb (getD number copy 0) noNumber || unexploredIn op copy rows index walk (height - 1)
 
-abbrev pub allPassedOver : List PlainLine → Rows → List ℕ → List ℕ → List ℕ → ℕ → Bool
-allPassedOver xs rows number index walk height = all (λ x. passedOverIn x rows number index walk height) xs
+-- in every layer; a line that makes no change is passed over
+abbrev pub passedOverIn : PlainLine → ℕ → ℕ → Rows → List ℕ → List ℕ → List ℕ → ℕ → Bool
+passedOverIn (makes c) size kinds rows number index walk height = all (λ copy. copyPassedOver (opFor c) copy rows number index walk height) (copiesUp size kinds (namedBy (opFor c)))
+passedOverIn other size kinds rows number index walk height = true
+
+abbrev pub allPassedOver : List PlainLine → ℕ → ℕ → Rows → List ℕ → List ℕ → List ℕ → ℕ → Bool
+allPassedOver xs size kinds rows number index walk height = all (λ x. passedOverIn x size kinds rows number index walk height) xs
 
 -- the most states that a batch names
 abbrev pub namedMost : ℕ
 namedMost = 64
 
--- the state with the least discovery number of some, where the least so far is that of another; nowhere where none is discovered
-unfoldable pub earliestFrom : ℕ → ℕ → List ℕ → List ℕ → Resumption
-earliestFrom least state [] number = cond (eqb least noNumber) Nowhere (At state)
-earliestFrom least state (s ∷ ss) number = cond (ltb (getD number s 0) least) (earliestFrom (getD number s 0) s ss number) (earliestFrom least state ss number)
+-- the copy with the least discovery number of some, where the least so far is that of another
+unfoldable pub firstOf : First → List ℕ → List ℕ → First
+firstOf first [] number = first
+firstOf first (v ∷ vs) number = firstOf (cond (ltb (getD number v 0) (first .number)) (record { number = getD number v 0; copy = v }) first) vs number
+
+-- nowhere where none is discovered
+abbrev pub takenUpAt : First → Resumption
+takenUpAt first = cond (eqb (first .number) noNumber) Nowhere (At (first .copy))
 
 abbrev pub earliestOf : List ℕ → List ℕ → Resumption
-earliestOf states number = earliestFrom noNumber 0 states number
+earliestOf copies number = takenUpAt (firstOf (record { number = noNumber; copy = 0 }) copies number)
 
--- Where a search is taken up for the lines of a call, given as numbers: nowhere where all are passed over, else where the first of the states that they name was
+-- Where a search is taken up for the lines of a call, given as numbers: nowhere where all are passed over, else where the first copy of the states that they name was
 -- discovered.
-unfoldable pub resumptionOf : List ℕ → Rows → List ℕ → List ℕ → List ℕ → ℕ → Resumption
-resumptionOf ns rows number index walk height =
-    cond (allPassedOver (linesIn ns) rows number index walk height) Nowhere (earliestOf (take namedMost (statesIn ns)) number)
+unfoldable pub resumptionOf : ℕ → ℕ → List ℕ → Rows → List ℕ → List ℕ → List ℕ → ℕ → Resumption
+resumptionOf size kinds ns rows number index walk height =
+    cond (allPassedOver (linesIn ns) size kinds rows number index walk height) Nowhere (earliestOf (copiesUpAll size kinds (take namedMost (namedIn ns))) number)
 
 -- has the search found a cycle?
 abbrev pub isFound : Phase → Bool
@@ -177,14 +201,14 @@ Sought g size start Nowhere old a r a′ = (r ≡ old) × (a′ ≡ a)
 Sought g size start (At s) old a r a′ = (c : Result) × Ran g bound (backAt size start s a) c × (r ≡ verdictOf (c .walker) (c .spent)) × (a′ ≡ recordsIn c)
 
 -- What searching and answering leaves: the search, its answer, and the walk at the head of the lent list.
-pub record Settles (g : Game) (size start : ℕ) (from : Resumption) (old : Verdict) (a : Records) (lent : List ℕ) (r : Settled) (a′ : Records) (lent′ : List ℕ) : Type 0 where
-  pub sought : Sought g size start from old a (r .verdict) a′
-  pub tells : Tells (r .verdict .spent) (r .verdict .kept) (r .verdict .stem) (r .verdict .length) (a′ .walk) lent (r .answer) lent′
+pub record Settles (size kinds : ℕ) (g : Game) (start : ℕ) (from : Resumption) (old : Verdict) (a : Records) (lent : List ℕ) (r : Settled) (a′ : Records) (lent′ : List ℕ) : Type 0 where
+  pub sought : Sought g (statesIn size kinds) start from old a (r .verdict) a′
+  pub tells : Tells (r .verdict .spent) (r .verdict .kept) (r .verdict .stem) (r .verdict .length) (lowered size (kinds - 1) (a′ .walk)) lent (r .answer) lent′
 
 -- What a call leaves, whose lines are given as numbers: a refusal, and all is as it was; or the table's arrays changed, and what searching and answering leaves.
-pub record UpdatedIn (alone : Bool) (ns : List ℕ) (size start : ℕ) (old : Verdict) (b : Arrays) (a : Records) (lent : List ℕ) (r : Settled) (b′ : Arrays) (a′ : Records) (lent′ : List ℕ) : Type 0 where
-  pub on-refusal : (n : ℕ) → callTriedIn alone (linesIn ns) size b (length lent) .trial ≡ refused n
-      → (r ≡ record { answer = refusing n (positionAt alone (callTriedIn alone (linesIn ns) size b (length lent) .position)); verdict = old }) × (b′ ≡ b) × (a′ ≡ a) × (lent′ ≡ lent)
-  pub on-acceptance : callTriedIn alone (linesIn ns) size b (length lent) .trial ≡ accepted
-      → (b′ ≡ callTriedIn alone (linesIn ns) size b (length lent) .arrays)
-      × Settles (gameIn size b′) size start (resumptionOf ns (b .rows) (a .number) (a .index) (a .walk) (old .height)) old a lent r a′ lent′
+pub record UpdatedIn (alone : Bool) (ns : List ℕ) (size kinds start : ℕ) (old : Verdict) (b : Arrays) (a : Records) (lent : List ℕ) (r : Settled) (b′ : Arrays) (a′ : Records) (lent′ : List ℕ) : Type 0 where
+  pub on-refusal : (n : ℕ) → callTriedIn alone (linesIn ns) size kinds b (length lent) .trial ≡ refused n
+      → (r ≡ record { answer = refusing n (positionAt alone (callTriedIn alone (linesIn ns) size kinds b (length lent) .position)); verdict = old }) × (b′ ≡ b) × (a′ ≡ a) × (lent′ ≡ lent)
+  pub on-acceptance : callTriedIn alone (linesIn ns) size kinds b (length lent) .trial ≡ accepted
+      → (b′ ≡ callTriedIn alone (linesIn ns) size kinds b (length lent) .arrays)
+      × Settles size kinds (gameIn size kinds b′) start (resumptionOf size kinds ns (b .rows) (a .number) (a .index) (a .walk) (old .height)) old a lent r a′ lent′

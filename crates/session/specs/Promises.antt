@@ -2,12 +2,14 @@
 use Prim.Native.Nat.{ℕ, suc, _≤_}
 use mathlib.Core.Path.{_≡_}
 use mathlib.Core.Logic.{_≢_}
+use mathlib.Core.Bool.{Bool, false, cond}
+use lib.Dec.{ltb}
 use mathlib.Core.List.{List, [], _∷_, map}
 use lib.ListN.{length}
 use Rattle.plain.specs.Search.{Config, outer, nested, exhausted, found, unfinished, verdict, count, run}
 use Rattle.plain.specs.Table.{Table, searched, final}
 use Rattle.plain.specs.Refusals.{Load, accepted, refused, loadTrial}
-use Rattle.plain.specs.Machine.{BatchLine, changesIn, callFor, batchCall, Update as PlainUpdate, single, batch, loadAnswer, tableOf, Call, answerTo, tableAfter, answers, Line, answerLine, answerLines}
+use Rattle.plain.specs.Machine.{Change, add, cut, mark, unmark, misnamed, BatchLine, changesIn, callFor, batchCall, Update as PlainUpdate, single, batch, loadAnswer, tableOf, Call, answerTo, tableAfter, answers, Line, answerLine, answerLines}
 use Rattle.plain.specs.Questions.{Question, ways, replyTo, Operation, call as calling, question, tableNext, toldAll}
 use Rattle.plain.specs.Claims.{Arises, OneByOne, LineTrue, LineCounted, LoopTold}
 use Rattle.search.specs.Archive.{Archived}
@@ -24,7 +26,8 @@ use Rattle.batch.specs.declared.Update.{Update}
 use Rattle.batch.specs.declared.Update.the-variants as Update
 use Rattle.session.specs.declared.Session.{Session}
 use Rattle.session.specs.declared.Outcome.{Outcome}
-use Rattle.table.specs.Filing.{changeOf, Stored}
+use Rattle.table.specs.Trials.{changeOf}
+use Rattle.table.specs.Filing.{Stored}
 use Rattle.batch.specs.Batches.{linesIn}
 use Rattle.session.specs.Model.{arraysHeld, noGame}
 
@@ -37,11 +40,18 @@ updateOf Update.Batch ns = batch (linesIn ns)
 abbrev pub callOf : PlainUpdate → List ℕ → Call
 callOf u lent = record { update = u; room = length lent }
 
--- What a session without a game answers: a change names a state outside it; a batch is refused ahead of its lines, since the count of states is 0, so that an empty
--- one is refused too.
-abbrev pub withoutGame : PlainUpdate → Refusal
-withoutGame (single c) = record { number = 6; position = Position.Alone }
-withoutGame (batch xs) = record { number = 2; position = Position.Line 0 }
+-- a mark of a kind above those in use
+abbrev pub unknownKind : ℕ → Change → Bool
+unknownKind kinds (add e) = false
+unknownKind kinds (cut e) = false
+unknownKind kinds (mark s kind) = ltb kinds kind
+unknownKind kinds (unmark s kind) = ltb kinds kind
+
+-- What a session without a game answers, of so many kinds: a change names a state outside it, unless its kind is refused ahead of that; a batch is refused ahead of its lines, since
+-- the count of states is 0, so that an empty one is refused too.
+abbrev pub withoutGame : ℕ → PlainUpdate → Refusal
+withoutGame kinds (single c) = record { number = cond (misnamed c) 1 (cond (unknownKind kinds c) 4 6); position = Position.Alone }
+withoutGame kinds (batch xs) = record { number = 2; position = Position.Line 0 }
 
 -- how many states are on the open path
 abbrev pub heightOf : Config → ℕ
@@ -55,6 +65,7 @@ pub record Holds (s : Session) (t : Table) : Type 0 where
   pub arises : Arises t
   pub size-is : s .size ≡ t .size
   pub start-is : s .start ≡ t .start
+  pub kinds-is : s .kinds ≡ t .kinds
   pub stored : Stored t (arraysHeld s)
   pub steps : ℕ
   pub ended : verdict (run (searched t) steps) ≢ unfinished
@@ -77,7 +88,7 @@ pub record Updates (u : PlainUpdate) (s : Session) (lent : List ℕ) (r : Outcom
   pub answers : (t : Table) → Holds s t → Answered (answerTo (callOf u lent) t) lent (r .answer) lent′
   pub holds : (t : Table) → Holds s t → Holds (r .session) (tableAfter (callOf u lent) t)
   pub refused : (n : Refusal) → r .answer ≡ Refused n → (r .session ≡ s) × (lent′ ≡ lent)
-  pub no-game : s .size ≡ 0 → r .answer ≡ Refused (withoutGame u)
+  pub no-game : s .size ≡ 0 → r .answer ≡ Refused (withoutGame (s .kinds) u)
 
 -- A QUESTION. For every plain table that the session holds, the reply is the plain table's. For every session, forged too: a state that is not below its count of states is
 -- refused with 6, so every state where there is no game. The counts replied of any other state of a forged session are left open. The operation takes the session and the question

@@ -11,17 +11,18 @@ use table::Trial;
 use verdict::Answer;
 ghost use mathlib.Core.Path.{_≡_};
 ghost use mathlib.Core.List.{_++_};
-ghost use Prim.Native.Nat.{_+_, _≤_};
+ghost use Prim.Native.Nat.{_+_, _-_, _≤_};
 ghost use lib.ListN.{length, take, drop};
 ghost use Rattle.rows.specs.Rows.{Tabled};
 ghost use Rattle.rows.specs.Change.{rowsOf};
 ghost use Rattle.look.specs.Numbers.{plus};
-ghost use Rattle.look.specs.Scan.{plainLayout};
+ghost use Rattle.plain.specs.Table.{byKind};
+ghost use Rattle.layers.specs.Layout.{layered};
 ghost use Rattle.search.specs.Core.{gameOf, Lengths};
-ghost use Rattle.table.specs.Trials.{arraysOf};
+ghost use Rattle.table.specs.Trials.{arraysOf, opOf};
 ghost use Rattle.question.specs.Replies.{questionOf};
-ghost use Rattle.batch.specs.Batches.{lineIn, linesIn, statesIn, numbersIn};
-ghost use Rattle.session.specs.Model.{unexploredEdge, passedOverIn, allPassedOver, namedMost, earliestOf, resumptionOf, isFound, verdictOf, noVerdict, recordsOf, Sought, isAlone, onlyLine, noGame, Settles, UpdatedIn};
+ghost use Rattle.batch.specs.Batches.{switchIn, lineIn, linesIn, statesIn as namedIn, numbersIn};
+ghost use Rattle.session.specs.Model.{unexploredEdge, copyPassedOver, passedOverIn, allPassedOver, namedMost, copiesUp, copiesUpAll, firstOf, earliestOf, statesIn, resumptionOf, isFound, verdictOf, noVerdict, recordsOf, Sought, isAlone, onlyLine, noGame, Settles, UpdatedIn};
 ghost use Rattle.session.specs.Promises.{updateOf, Loads, Updates, Replies};
 
 // What a search has come to: the lengths of stem and walk (0: no walk), the height of the open path, and the probes.
@@ -49,20 +50,22 @@ enum Resumption {
 // The numbers stand between the arrays, and the longest array last: so the compiler takes the struct apart, which saves copies and stack (docs/DECISIONS.md, 106).
 pub struct Session {
     size: u16,
-    // by state: discovery number, parent, index of the edge in the parent's row, probes by then
+    // by state of the layers: discovery number, parent, index of the edge in the parent's row, probes by then
     number: [u16; 512],
     parent: [u16; 512],
     start: u16,
     index: [u16; 512],
     probes: [u16; 512],
-    // by state: how many states were discovered when it was marked
+    // by state of the layers: how many were discovered when it was marked
     stamp: [u16; 512],
     stem: u16,
     // the open path at the search's end, and behind it the rest of the walk
     walk: [u16; 512],
     length: u16,
+    // the marks of the kinds of pay: one bit for each state of the layers
     words: [u64; 8],
     height: u16,
+    kinds: u16,
     // by state: how many moves enter it
     indegree: [u16; 512],
     // the moves as compressed rows
@@ -82,10 +85,11 @@ const NAMED: usize = 64;
 // 2 × 2,048 + 3 × 512 + 2: no search takes more steps, and a phase of it is one step or more.
 const PHASES: u16 = 5634;
 
-// Had the search not come to an edge that comes or goes? The states below the place of the tip have not finished their outer moves: an edge that comes stands
+// Had the search not come to an edge that comes or goes, in the layer of one copy of the state that it leaves? The states below the place of the tip have not finished their outer moves: an edge that comes stands
 // behind those taken. The state behind each of them on the walk was discovered through the last one taken: an edge that goes has to stand further on.
 fn is_unexplored(
     on: bool,
+    copy: u16,
     from: u16,
     to: u16,
     targets: &[u16; 2048],
@@ -95,9 +99,9 @@ fn is_unexplored(
     tip: u16,
 ) -> bool
     requires { ⌜ Tabled (now targets) (now starts) × (length (now index) ≡ 512) × (length (now walk) ≡ 512) ⌝ }
-    ensures { λ r. ⌜ r ≡ unexploredEdge on from to (rowsOf (now (targets .entry)) (now (starts .entry))) (now (index .entry)) (now (walk .entry)) tip ⌝ }
+    ensures { λ r. ⌜ r ≡ unexploredEdge on copy from to (rowsOf (now (targets .entry)) (now (starts .entry))) (now (index .entry)) (now (walk .entry)) tip ⌝ }
 {
-    let i = look::find(walk, tip, from);
+    let i = look::find(walk, tip, copy);
     if tip <= i {
         return false;
     }
@@ -108,10 +112,10 @@ fn is_unexplored(
     look::get(index, next) < rows::place(targets, starts, from, to)
 }
 
-// Had the search not come to what a line changes: has it never met the state, or not come to the edge? A line that makes no change is passed over: its batch is
-// refused.
-fn is_passed_over(
+// Had the search not come to what a line changes, in the layer of one copy: has it never met the copy, or not come to the edge there?
+fn is_copy_passed_over(
     line: BatchLine,
+    copy: u16,
     targets: &[u16; 2048],
     starts: &[u16; 513],
     number: &[u16; 512],
@@ -120,21 +124,48 @@ fn is_passed_over(
     height: u16,
 ) -> bool
     requires { ⌜ Tabled (now targets) (now starts) × (length (now number) ≡ 512) × (length (now index) ≡ 512) × (length (now walk) ≡ 512) ⌝ }
-    ensures { λ r. ⌜ r ≡ passedOverIn (lineIn line) (rowsOf (now (targets .entry)) (now (starts .entry))) (now (number .entry)) (now (index .entry)) (now (walk .entry)) height ⌝ }
+    ensures { λ r. ⌜ r ≡ copyPassedOver (opOf (switchIn line)) copy (rowsOf (now (targets .entry)) (now (starts .entry))) (now (number .entry)) (now (index .entry)) (now (walk .entry)) height ⌝ }
 {
-    if !batch::is_change(line) {
-        return true;
-    }
-    if look::get(number, batch::named_by(line)) == look::NO_NUMBER {
+    if look::get(number, copy) == look::NO_NUMBER {
         return true;
     }
     let switch = batch::switch_in(line);
     let subject = switch.subject;
     if let Subject::Edge { from, to } = subject {
         let tip = look::down(height);
-        return is_unexplored(switch.on, from, to, targets, starts, index, walk, tip);
+        return is_unexplored(switch.on, copy, from, to, targets, starts, index, walk, tip);
     }
     false
+}
+
+// The same in every layer. A line that makes no change is passed over: its batch is refused.
+fn is_passed_over(
+    line: BatchLine,
+    size: u16,
+    kinds: u16,
+    targets: &[u16; 2048],
+    starts: &[u16; 513],
+    number: &[u16; 512],
+    index: &[u16; 512],
+    walk: &[u16; 512],
+    height: u16,
+) -> bool
+    requires { ⌜ Tabled (now targets) (now starts) × (length (now number) ≡ 512) × (length (now index) ≡ 512) × (length (now walk) ≡ 512) ⌝ }
+    ensures { λ r. ⌜ r ≡ passedOverIn (lineIn line) size kinds (rowsOf (now (targets .entry)) (now (starts .entry))) (now (number .entry)) (now (index .entry)) (now (walk .entry)) height ⌝ }
+{
+    if !batch::is_change(line) {
+        return true;
+    }
+    let mut copy = batch::named_by(line);
+    let mut left = kinds;
+    while 0 < left {
+        if !is_copy_passed_over(line, copy, targets, starts, number, index, walk, height) {
+            return false;
+        }
+        copy = look::plus(copy, size);
+        left -= 1;
+    }
+    true
 }
 
 // Are all lines of a call passed over? It is asked before they are tried, while the rows are those that the search has read.
@@ -142,6 +173,8 @@ fn all_passed_over(
     alone: bool,
     only: BatchLine,
     lines: &[u16],
+    size: u16,
+    kinds: u16,
     targets: &[u16; 2048],
     starts: &[u16; 513],
     number: &[u16; 512],
@@ -150,13 +183,23 @@ fn all_passed_over(
     height: u16,
 ) -> bool
     requires { ⌜ Tabled (now targets) (now starts) × (length (now number) ≡ 512) × (length (now index) ≡ 512) × (length (now walk) ≡ 512) ⌝ }
-    ensures { λ r. ⌜ r ≡ allPassedOver (linesIn (numbersIn alone only (now (lines .entry)))) (rowsOf (now (targets .entry)) (now (starts .entry))) (now (number .entry)) (now (index .entry)) (now (walk .entry)) height ⌝ }
+    ensures { λ r. ⌜ r ≡ allPassedOver (linesIn (numbersIn alone only (now (lines .entry)))) size kinds (rowsOf (now (targets .entry)) (now (starts .entry))) (now (number .entry)) (now (index .entry)) (now (walk .entry)) height ⌝ }
 {
     let end = batch::lines_end(alone, lines);
     let mut at: usize = 0;
     while at < end {
         let line = batch::line_at(alone, only, lines, at);
-        if !is_passed_over(line, targets, starts, number, index, walk, height) {
+        if !is_passed_over(
+            line,
+            size,
+            kinds,
+            targets,
+            starts,
+            number,
+            index,
+            walk,
+            height,
+        ) {
             return false;
         }
         at += batch::LINE;
@@ -167,7 +210,7 @@ fn all_passed_over(
 // The states that the lines of a call name, as many as a batch may name, at the head of a list: how many they are.
 fn name_states(alone: bool, only: BatchLine, lines: &[u16], states: &mut [u16; NAMED]) -> usize
     requires { ⌜ length (now states) ≡ namedMost ⌝ }
-    ensures { λ r. ⌜ (r ≤ namedMost) × (length (now (states .exit)) ≡ namedMost) × (take r (now (states .exit)) ≡ take namedMost (statesIn (numbersIn alone only (now (lines .entry))))) ⌝ }
+    ensures { λ r. ⌜ (r ≤ namedMost) × (length (now (states .exit)) ≡ namedMost) × (take r (now (states .exit)) ≡ take namedMost (namedIn (numbersIn alone only (now (lines .entry))))) ⌝ }
 {
     let end = batch::lines_end(alone, lines);
     let mut at: usize = 0;
@@ -184,27 +227,54 @@ fn name_states(alone: bool, only: BatchLine, lines: &[u16], states: &mut [u16; N
     n
 }
 
-// Where the search is taken up that first discovers one of some states: the earliest of them, or nowhere, since it discovered none.
-fn earliest(states: &[u16], number: &[u16; 512]) -> Resumption
+// The earliest of some copies and of those before them: its discovery number and the copy. Before any has been discovered the number is none.
+struct First {
+    number: u16,
+    copy: u16,
+}
+
+// The copies of a state, one in each layer, behind those before it.
+fn earlier(first: First, state: u16, size: u16, kinds: u16, number: &[u16; 512]) -> First
     requires { ⌜ length (now number) ≡ 512 ⌝ }
-    ensures { λ r. ⌜ r ≡ earliestOf (now (states .entry)) (now (number .entry)) ⌝ }
+    ensures { λ r. ⌜ r ≡ firstOf first (copiesUp size kinds state) (now (number .entry)) ⌝ }
 {
-    let mut first: u16 = look::NO_NUMBER;
-    let mut state: u16 = 0;
+    let mut least = first.number;
+    let mut earliest = first.copy;
+    let mut copy = state;
+    let mut left = kinds;
+    while 0 < left {
+        let n = look::get(number, copy);
+        if n < least {
+            least = n;
+            earliest = copy;
+        }
+        copy = look::plus(copy, size);
+        left -= 1;
+    }
+    First {
+        number: least,
+        copy: earliest,
+    }
+}
+
+// Where the search is taken up that first discovers a copy of one of some states: the earliest of them, or nowhere, since it discovered none.
+fn earliest(states: &[u16], size: u16, kinds: u16, number: &[u16; 512]) -> Resumption
+    requires { ⌜ length (now number) ≡ 512 ⌝ }
+    ensures { λ r. ⌜ r ≡ earliestOf (copiesUpAll size kinds (now (states .entry))) (now (number .entry)) ⌝ }
+{
+    let mut first = First {
+        number: look::NO_NUMBER,
+        copy: 0,
+    };
     let mut i: usize = 0;
     while i < states.len() {
-        let s = states[i];
-        let n = look::get(number, s);
-        if n < first {
-            first = n;
-            state = s;
-        }
+        first = earlier(first, states[i], size, kinds, number);
         i += 1;
     }
-    if first == look::NO_NUMBER {
+    if first.number == look::NO_NUMBER {
         return Resumption::Nowhere;
     }
-    Resumption::At(state)
+    Resumption::At(first.copy)
 }
 
 // Where the search is taken up for a call.
@@ -212,6 +282,8 @@ fn where_to_resume(
     alone: bool,
     only: BatchLine,
     lines: &[u16],
+    size: u16,
+    kinds: u16,
     targets: &[u16; 2048],
     starts: &[u16; 513],
     number: &[u16; 512],
@@ -220,12 +292,14 @@ fn where_to_resume(
     height: u16,
 ) -> Resumption
     requires { ⌜ Tabled (now targets) (now starts) × (length (now number) ≡ 512) × (length (now index) ≡ 512) × (length (now walk) ≡ 512) ⌝ }
-    ensures { λ r. ⌜ r ≡ resumptionOf (numbersIn alone only (now (lines .entry))) (rowsOf (now (targets .entry)) (now (starts .entry))) (now (number .entry)) (now (index .entry)) (now (walk .entry)) height ⌝ }
+    ensures { λ r. ⌜ r ≡ resumptionOf size kinds (numbersIn alone only (now (lines .entry))) (rowsOf (now (targets .entry)) (now (starts .entry))) (now (number .entry)) (now (index .entry)) (now (walk .entry)) height ⌝ }
 {
     if all_passed_over(
         alone,
         only,
         lines,
+        size,
+        kinds,
         targets,
         starts,
         number,
@@ -237,7 +311,7 @@ fn where_to_resume(
     }
     let mut states: [u16; NAMED] = [0; NAMED];
     let n = name_states(alone, only, lines, &mut states);
-    earliest(&states[..n], number)
+    earliest(&states[..n], size, kinds, number)
 }
 
 // Has the search found a cycle?
@@ -287,21 +361,31 @@ fn seek(
     stamp: &mut [u16; 512],
     walk: &mut [u16; 512],
     size: u16,
+    kinds: u16,
     start: u16,
     from: Resumption,
     old: Verdict,
 ) -> Verdict
     requires { ⌜ Tabled (now targets) (now starts) × Lengths (now number) (now parent) (now index) (now probes) (now stamp) (now walk) ⌝ }
-    ensures { λ r. ⌜ Sought (gameOf (now (targets .entry)) (plainLayout (now (starts .entry))) (now (words .entry)) size) size start from old (recordsOf (now (number .entry)) (now (parent .entry)) (now (index .entry)) (now (probes .entry)) (now (stamp .entry)) (now (walk .entry))) r (recordsOf (now (number .exit)) (now (parent .exit)) (now (index .exit)) (now (probes .exit)) (now (stamp .exit)) (now (walk .exit))) ⌝ }
+    ensures { λ r. ⌜ Sought (gameOf (now (targets .entry)) (layered size (kinds - 1) (now (starts .entry)) (now (words .entry))) (now (words .entry)) size) (statesIn size kinds) start from old (recordsOf (now (number .entry)) (now (parent .entry)) (now (index .entry)) (now (probes .entry)) (now (stamp .entry)) (now (walk .entry))) r (recordsOf (now (number .exit)) (now (parent .exit)) (now (index .exit)) (now (probes .exit)) (now (stamp .exit)) (now (walk .exit))) ⌝ }
     ensures { λ r. ⌜ length (now (walk .exit)) ≡ 512 ⌝ }
 {
     match from {
         Resumption::Nowhere => old,
         Resumption::At(s) => {
-            let begins = *starts;
+            let mut begins = *starts;
             let mut ends: [u16; 512] = [0; 512];
-            let bases: [u16; 512] = [0; 512];
-            look::lay_ends(starts, &mut ends);
+            let mut bases: [u16; 512] = [0; 512];
+            let above = look::down(kinds);
+            layers::lay(
+                starts,
+                words,
+                size,
+                above,
+                &mut begins,
+                &mut ends,
+                &mut bases,
+            );
             let mut spent: u16 = 0;
             let w = search::resume(
                 targets,
@@ -316,7 +400,7 @@ fn seek(
                 stamp,
                 walk,
                 &mut spent,
-                size,
+                look::times_within(size, kinds),
                 size,
                 start,
                 s,
@@ -334,6 +418,7 @@ fn no_game() -> Session
     Session {
         size: 0,
         start: 0,
+        kinds: 0,
         words: [0; 8],
         targets: [0; 2048],
         starts: [0; 513],
@@ -383,13 +468,14 @@ fn settle(
     stamp: &mut [u16; 512],
     walk: &mut [u16; 512],
     size: u16,
+    kinds: u16,
     start: u16,
     from: Resumption,
     old: Verdict,
     lent: &mut [u16],
 ) -> Settled
     requires { ⌜ Tabled (now targets) (now starts) × Lengths (now number) (now parent) (now index) (now probes) (now stamp) (now walk) ⌝ }
-    ensures { λ r. ⌜ Settles (gameOf (now (targets .entry)) (plainLayout (now (starts .entry))) (now (words .entry)) size) size start from old (recordsOf (now (number .entry)) (now (parent .entry)) (now (index .entry)) (now (probes .entry)) (now (stamp .entry)) (now (walk .entry))) (now (lent .entry)) r (recordsOf (now (number .exit)) (now (parent .exit)) (now (index .exit)) (now (probes .exit)) (now (stamp .exit)) (now (walk .exit))) (now (lent .exit)) ⌝ }
+    ensures { λ r. ⌜ Settles size kinds (gameOf (now (targets .entry)) (layered size (kinds - 1) (now (starts .entry)) (now (words .entry))) (now (words .entry)) size) start from old (recordsOf (now (number .entry)) (now (parent .entry)) (now (index .entry)) (now (probes .entry)) (now (stamp .entry)) (now (walk .entry))) (now (lent .entry)) r (recordsOf (now (number .exit)) (now (parent .exit)) (now (index .exit)) (now (probes .exit)) (now (stamp .exit)) (now (walk .exit))) (now (lent .exit)) ⌝ }
 {
     let v = seek(
         targets,
@@ -402,26 +488,35 @@ fn settle(
         stamp,
         walk,
         size,
+        kinds,
         start,
         from,
         old,
     );
-    Settled {
-        answer: verdict::tell(v.spent, v.kept, v.stem, v.length, walk, lent),
-        verdict: v,
-    }
+    let above = look::down(kinds);
+    let answer = verdict::tell(v.spent, v.kept, v.stem, v.length, size, above, walk, lent);
+    Settled { answer, verdict: v }
 }
 
-// Loads a game: the count of states, the start state, the paying words, the moves as a list of numbers, and the list lent for the walk.
-pub fn load(size: u16, start: u16, words: [u64; 8], numbers: &[u16], lent: &mut [u16]) -> Outcome
-    ensures { λ r. ⌜ Loads (record { size = size; start = start; words = words; numbers = now (numbers .entry) }) (now (lent .entry)) r (now (lent .exit)) ⌝ }
+// Loads a game: the count of states, the start state, the count of kinds of pay, the paying words, eight for each of four kinds, the moves as a list of numbers, and the list lent
+// for the walk.
+pub fn load(
+    size: u16,
+    start: u16,
+    kinds: u16,
+    marks: [u64; 32],
+    numbers: &[u16],
+    lent: &mut [u16],
+) -> Outcome
+    ensures { λ r. ⌜ Loads (record { size = size; start = start; kinds = kinds; marks = byKind marks; numbers = now (numbers .entry) }) (now (lent .entry)) r (now (lent .exit)) ⌝ }
 {
     let mut targets: [u16; 2048] = [0; 2048];
     let mut starts: [u16; 513] = [0; 513];
     let trial = table::load_trial(
         size,
         start,
-        &words,
+        kinds,
+        &marks,
         numbers,
         &mut targets,
         &mut starts,
@@ -433,6 +528,7 @@ pub fn load(size: u16, start: u16, words: [u64; 8], numbers: &[u16], lent: &mut 
             session: no_game(),
         };
     }
+    let words = layers::pack(&marks, size, kinds);
     let mut indegree: [u16; 512] = [0; 512];
     table::count_edges(numbers, &mut indegree);
     let mut number: [u16; 512] = [0; 512];
@@ -460,6 +556,7 @@ pub fn load(size: u16, start: u16, words: [u64; 8], numbers: &[u16], lent: &mut 
         &mut stamp,
         &mut walk,
         size,
+        kinds,
         start,
         Resumption::At(start),
         no_verdict(),
@@ -472,6 +569,7 @@ pub fn load(size: u16, start: u16, words: [u64; 8], numbers: &[u16], lent: &mut 
         session: Session {
             size,
             start,
+            kinds,
             words,
             targets,
             starts,
@@ -506,17 +604,20 @@ fn update_in(
     stamp: &mut [u16; 512],
     walk: &mut [u16; 512],
     size: u16,
+    kinds: u16,
     start: u16,
     old: Verdict,
     lent: &mut [u16],
 ) -> Settled
     requires { ⌜ Tabled (now targets) (now starts) × (length (now indegree) ≡ 512) × Lengths (now number) (now parent) (now index) (now probes) (now stamp) (now walk) ⌝ }
-    ensures { λ r. ⌜ UpdatedIn alone (numbersIn alone only (now (lines .entry))) size start old (arraysOf (now (targets .entry)) (now (starts .entry)) (now (words .entry)) (now (indegree .entry))) (recordsOf (now (number .entry)) (now (parent .entry)) (now (index .entry)) (now (probes .entry)) (now (stamp .entry)) (now (walk .entry))) (now (lent .entry)) r (arraysOf (now (targets .exit)) (now (starts .exit)) (now (words .exit)) (now (indegree .exit))) (recordsOf (now (number .exit)) (now (parent .exit)) (now (index .exit)) (now (probes .exit)) (now (stamp .exit)) (now (walk .exit))) (now (lent .exit)) ⌝ }
+    ensures { λ r. ⌜ UpdatedIn alone (numbersIn alone only (now (lines .entry))) size kinds start old (arraysOf (now (targets .entry)) (now (starts .entry)) (now (words .entry)) (now (indegree .entry))) (recordsOf (now (number .entry)) (now (parent .entry)) (now (index .entry)) (now (probes .entry)) (now (stamp .entry)) (now (walk .entry))) (now (lent .entry)) r (arraysOf (now (targets .exit)) (now (starts .exit)) (now (words .exit)) (now (indegree .exit))) (recordsOf (now (number .exit)) (now (parent .exit)) (now (index .exit)) (now (probes .exit)) (now (stamp .exit)) (now (walk .exit))) (now (lent .exit)) ⌝ }
 {
     let from = where_to_resume(
         alone,
         only,
         lines,
+        size,
+        kinds,
         targets,
         starts,
         number,
@@ -530,6 +631,7 @@ fn update_in(
         only,
         lines,
         size,
+        kinds,
         targets,
         starts,
         words,
@@ -555,6 +657,7 @@ fn update_in(
         stamp,
         walk,
         size,
+        kinds,
         start,
         from,
         old,
@@ -625,6 +728,7 @@ pub fn update(s: Session, asked: Update, lines: &[u16], lent: &mut [u16]) -> Out
         &mut stamp,
         &mut walk,
         s.size,
+        s.kinds,
         s.start,
         old,
         lent,
@@ -636,6 +740,7 @@ pub fn update(s: Session, asked: Update, lines: &[u16], lent: &mut [u16]) -> Out
         session: Session {
             size: s.size,
             start: s.start,
+            kinds: s.kinds,
             words,
             targets,
             starts,

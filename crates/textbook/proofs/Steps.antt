@@ -12,7 +12,7 @@ use Rattle.plain.specs.Lists.{elem, In, before, from, Begins}
 use Rattle.plain.specs.Search.{Graph, Edge, Frame, frame, onPath, Config, outer, nested, markedOf, discoveredOf, count, steps, step, visit, finish, probe, statesOf, stemOf, cycleOf}
 use Rattle.plain.specs.Limits.{Limits}
 use Rattle.plain.proofs.Tests.{either, in-head}
-use Rattle.plain.proofs.Paths.{On, Off}
+use Rattle.plain.proofs.Paths.{On, Off, on-head}
 use Rattle.plain.proofs.Invariant.{Inv, inv-run}
 use Rattle.plain.proofs.Lassos.{before-from, on-states, states-on, before-hit, before-miss, path-run}
 use Rattle.plain.proofs.Walks.{begins-push, begins-pop, states-length}
@@ -21,6 +21,7 @@ use Rattle.rows.specs.Rows.{entries, placeOf}
 use Rattle.rows.proofs.Entries.{entries-front}
 use Rattle.table.proofs.Places.{place-hit, place-miss, has-place, same-test}
 use Rattle.look.specs.Numbers.{up}
+use Rattle.look.specs.Scan.{Layout}
 use Rattle.look.proofs.Counting.{up-more}
 use Rattle.textbook.specs.declared.Finding.{Finding}
 use Rattle.textbook.specs.declared.Finding.the-variants.{Clear, Round}
@@ -87,7 +88,7 @@ module _ (g : Graph) where
   unfolding steps
   onward c (n, e) = (suc n, ap (step g) e)
 
-  module _ {targets starts : List ℕ} (f : Reads targets starts g) where
+  module _ {targets : List ℕ} {layout : Layout} (f : Reads targets layout g) where
     within : (c : Config) → Reached g c → Limits g c
     within c (n, e) = subst (Limits g) e (f .limits n)
 
@@ -101,6 +102,15 @@ module _ (g : Graph) where
         let i : Inv g (nested s p (frame x ts ∷ q) d k l) = subst (Inv g) e (inv-run g n) in
         let w = path-run g q s x ts (i .1 .1 .chain) in
         (w .0, w .1)
+
+    -- the newest state of the path that is worked on is one below 512
+    pub top-below : (nesting : Bool) (s : ℕ) (p : List Frame) (x : ℕ) (ts : List ℕ) (q : List Frame) (d k : List ℕ) (l : List Edge) → Reached g (conf nesting s p (frame x ts ∷ q) d k l) → x < 512
+    top-below false s p x ts q d k l (n, e) =
+        let i : Inv g (outer (frame x ts ∷ q) d k l) = subst (Inv g) e (inv-run g n) in
+        within _ (n, e) .below x (i .0 .known x (on-head x ts q))
+    top-below true s p x ts q d k l (n, e) =
+        let i : Inv g (nested s p (frame x ts ∷ q) d k l) = subst (Inv g) e (inv-run g n) in
+        known _ (n, e) x (i .1 .1 .known x (on-head x ts q))
 
     -- one look more
     counted : (c : Config) → Reached g c → (spent spent′ : ℕ) → spent′ ≡ up spent → spent ≡ count c → spent′ ≡ suc (count c)

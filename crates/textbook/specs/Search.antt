@@ -2,14 +2,15 @@
 -- the edges of a state, then come to. The outer and the nested search are said at once. Assumes nothing.
 use Prim.Native.Nat.{ℕ, suc, _+_, _≤_, _<_}
 use mathlib.Core.Path.{_≡_}
-use mathlib.Core.Bool.{Bool, true, false, cond}
+use mathlib.Core.Bool.{Bool, true, false, _&&_, cond}
 use mathlib.Core.List.{List, [], _∷_, _++_}
-use lib.ListN.{length, getD}
+use lib.Dec.{ltb}
+use lib.ListN.{length, getD, replicate}
 use Rattle.plain.specs.Lists.{elem, Begins}
 use Rattle.plain.specs.Search.{Graph, Edge, Frame, frame, Config, outer, nested, found, run, statesOf, stemOf, cycleOf}
 use Rattle.plain.specs.Limits.{Limits}
 use Rattle.plain.specs.Table.{accepts}
-use Rattle.look.specs.Scan.{rowIn}
+use Rattle.look.specs.Scan.{Layout, rowLaid}
 use Rattle.textbook.specs.declared.Finding.{Finding}
 use Rattle.textbook.specs.declared.Finding.the-variants.{Clear, Round}
 
@@ -63,14 +64,14 @@ pub record Kept (B B′ : Board) : Type 0 where
 -- ---- the graph: any one that the arrays show
 
 -- its rows are those of the arrays, and its search stays within the limits
-pub record Reads (targets starts : List ℕ) (g : Graph) : Type 0 where
-  pub rows : (v : ℕ) → g .successors v ≡ rowIn targets starts v
+pub record Reads (targets : List ℕ) (y : Layout) (g : Graph) : Type 0 where
+  pub rows : (v : ℕ) → v < 512 → g .successors v ≡ rowLaid targets y v
   pub limits : (n : ℕ) → Limits g (run g n)
 
--- and its accepting states are those of the words
-pub record ReadsAll (targets starts words : List ℕ) (g : Graph) : Type 0 where
-  pub reads : Reads targets starts g
-  pub acceptance : (v : ℕ) → g .accepting v ≡ accepts words v
+-- and its accepting states are those of the words, below a size
+pub record ReadsAll (targets : List ℕ) (y : Layout) (size : ℕ) (words : List ℕ) (g : Graph) : Type 0 where
+  pub reads : Reads targets y g
+  pub acceptance : (v : ℕ) → v < 512 → g .accepting v ≡ (ltb v size && accepts words v)
 
 -- ---- where the plain search stands, in the outer and in the nested search alike. q: the path that is worked on. In the nested search, s: the state from which it was started;
 -- p: the open path below s.
@@ -147,3 +148,9 @@ Leads P nesting v height place B Goal = (g : Graph) → P g → (s : ℕ) (p q :
 pub record Explores (P : Graph → Type 0) (nesting : Bool) (v height place : ℕ) (B B′ : Board) (r : Finding) : Type 0 where
   pub kept : Kept B B′
   pub leads : Leads P nesting v height place B (λ g s p q. Ends g nesting s p (frame v [] ∷ q) B′ r)
+
+-- A SEARCH that is begun at v, with no state in a set: what the visit of v comes to.
+pub record Begun (P : Graph → Type 0) (v : ℕ) (walk : List ℕ) (spent : ℕ) (walk′ : List ℕ) (spent′ : ℕ) (r : Finding) : Type 0 where
+  pub met : List Bool
+  pub marked : List Bool
+  pub visits : Visits P false v 0 0 (boardOf (replicate 512 false) (replicate 512 false) walk spent) (boardOf met marked walk′ spent′) r

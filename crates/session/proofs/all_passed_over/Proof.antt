@@ -16,13 +16,13 @@ use Rattle.session.proofs.all_passed_over.Statement.{statement}
 use Rattle.session.proofs.all_passed_over.Tie as tie
 
 abbrev Inv-loop : tie.InvT-loop
-Inv-loop alone only lines targets starts number index walk height end at₀ at =
+Inv-loop alone only lines size kinds targets starts number index walk height end at₀ at =
     ((k : ℕ) × (at ≡ 3 * k))
-    × (allPassedOver (linesIn (drop at (numbersIn alone only lines))) (rowsOf targets starts) number index walk height
-    ≡ allPassedOver (linesIn (numbersIn alone only lines)) (rowsOf targets starts) number index walk height)
+    × (allPassedOver (linesIn (drop at (numbersIn alone only lines))) size kinds (rowsOf targets starts) number index walk height
+    ≡ allPassedOver (linesIn (numbersIn alone only lines)) size kinds (rowsOf targets starts) number index walk height)
 
 abbrev μ-loop : tie.MeasureT-loop
-μ-loop alone only lines targets starts number index walk height end at₀ at = end - at
+μ-loop alone only lines size kinds targets starts number index walk height end at₀ at = end - at
 
 lines-end-requires : tie.Need-lines-end-requires Inv-loop μ-loop
 lines-end-requires c κs = search needs
@@ -52,7 +52,7 @@ returns c =
     let p = c .before in
     let l = p .before in
     let t = l .before in
-    sym (passed-stop _ _ _ _ _ _ _ (within t) (l .line-at .result) (l .line-at .ensures) (p .is-passed-over .result) (p .is-passed-over .ensures) (not-true _ (c .if1 .taken)))
+    sym (passed-stop _ _ _ _ _ _ _ _ _ (within t) (l .line-at .result) (l .line-at .ensures) (p .is-passed-over .result) (p .is-passed-over .ensures) (not-true _ (c .if1 .taken)))
     ∙ t .before .loop .inv .1
 
 add-at : tie.Need-add-at Inv-loop μ-loop
@@ -68,14 +68,14 @@ loop-again c =
     let t = l .before in
     let k = t .before .loop .inv .0 in (
       (k .0 + 1, omega (arith, k .1)),
-      passed-on _ _ _ _ _ _ _ (within t) (l .line-at .result) (l .line-at .ensures) (p .is-passed-over .result) (p .is-passed-over .ensures) (not-false _ (c .if1 .left)) ∙ t .before .loop .inv .1,
+      passed-on _ _ _ _ _ _ _ _ _ (within t) (l .line-at .result) (l .line-at .ensures) (p .is-passed-over .result) (p .is-passed-over .ensures) (not-false _ (c .if1 .left)) ∙ t .before .loop .inv .1,
     )
 
 returns-2 : tie.Need-returns-2 Inv-loop μ-loop
 returns-2 c =
     let e = c .before .before in
     let a = e .before .before .args in
-    sym (passed-end _ (c .before .loop .at) _ _ _ _ _ (omega (arith, c .loop-test .left, e .lines-end .ensures, numbers-length (a .alone) (a .only) (now (a .lines))))) ∙ c .before .loop .inv .1
+    sym (passed-end _ (c .before .loop .at) _ _ _ _ _ _ _ (omega (arith, c .loop-test .left, e .lines-end .ensures, numbers-length (a .alone) (a .only) (now (a .lines))))) ∙ c .before .loop .inv .1
 
 pub all-passed-over-spec : {M : Type 1} → statement M
 all-passed-over-spec =

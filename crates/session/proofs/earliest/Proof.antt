@@ -1,65 +1,86 @@
--- `earliest` meets its contract: the least number so far, and the states that are left, give that of all. Assumes nothing.
-use mathlib.Core.Path.{_≡_, refl, sym, _∙_}
-use mathlib.Core.Logic.{⊎-elim}
-use Prim.Native.Nat.{_+_, _-_, _≤_}
+-- `earliest` meets its contract: the first so far, and the copies of the states that are left, give that of all. Assumes nothing.
+use mathlib.Core.Path.{_≡_, refl, sym, ap, _∙_}
+use mathlib.Core.List.{List, _∷_}
+use Prim.Native.Nat.{ℕ, suc, _+_, _-_, _≤_}
 use native.Mathlib.Omega.{arith}
 use denote.Ref.{now}
-use lib.ListN.{length, drop}
+use lib.ListN.{length, getD, drop, drop-of-length-le}
+use lib.Seq.{drop-cons}
 use borrow.Author.Needs.{needs}
-use Rattle.session.specs.Model.{earliestFrom, earliestOf}
-use Rattle.session.proofs.FirstMet.{rest-less, rest-stays, rest-none, rest-at}
+use Rattle.look.specs.Numbers.{noNumber}
+use Rattle.session.specs.declared.First.{First}
+use Rattle.session.specs.Model.{copiesUp, copiesUpAll, firstOf, takenUpAt}
+use Rattle.session.proofs.FirstMet.{first-append, taken-none, taken-at}
 use Rattle.session.proofs.earliest.Statement.{statement}
 use Rattle.session.proofs.earliest.Tie as tie
 
+-- the first of all copies of the states, behind one that is found
+abbrev among : ℕ → ℕ → List ℕ → First → List ℕ → First
+among size kinds number first states = firstOf first (copiesUpAll size kinds states) number
+
 abbrev Inv-loop : tie.InvT-loop
-Inv-loop states number first₀ state₀ i₀ first state i = (i ≤ length states) × (earliestFrom first state (drop i states) number ≡ earliestOf states number)
+Inv-loop states size kinds number first₀ i₀ first i =
+    (i ≤ length states) × (among size kinds number first (drop i states) ≡ among size kinds number (record { number = noNumber; copy = 0 }) states)
 
 abbrev μ-loop : tie.MeasureT-loop
-μ-loop states number first₀ state₀ i₀ first state i = length states - i
+μ-loop states size kinds number first₀ i₀ first i = length states - i
 
 loop-holds : tie.Need-loop-holds Inv-loop μ-loop
 loop-holds c = (omega arith, refl)
 
-mul-s : tie.Need-mul-s Inv-loop μ-loop
-mul-s c = search needs
+mul-earlier : tie.Need-mul-earlier Inv-loop μ-loop
+mul-earlier c = search needs
 
-shared-slice-read-s : tie.Need-shared-slice-read-s Inv-loop μ-loop
-shared-slice-read-s c = search needs
+shared-slice-read-earlier : tie.Need-shared-slice-read-earlier Inv-loop μ-loop
+shared-slice-read-earlier c = search needs
 
-get-requires : tie.Need-get-requires Inv-loop μ-loop
-get-requires c κs = search needs
+earlier-requires : tie.Need-earlier-requires Inv-loop μ-loop
+earlier-requires c κs = search needs
 
 add-i : tie.Need-add-i Inv-loop μ-loop
-add-i c = omega (arith, c .before .before .before .loop-test .taken)
+add-i c = omega (arith, c .before .before .loop-test .taken)
 
 loop-less : tie.Need-loop-less Inv-loop μ-loop
-loop-less c = omega (arith, c .before .before .before .loop-test .taken)
+loop-less c = omega (arith, c .before .before .loop-test .taken)
+
+-- one state more
+next : (size kinds : ℕ) (number states : List ℕ) (first : First) (i : ℕ) → suc i ≤ length states
+    → among size kinds number (firstOf first (copiesUp size kinds (getD states i 0)) number) (drop (i + 1) states) ≡ among size kinds number first (drop i states)
+unfolding copiesUpAll
+next size kinds number states first i h =
+    let up : suc i ≡ i + 1 = omega arith in
+    sym (ap (among size kinds number first) (drop-cons states i 0 h ∙ ap (λ (k : ℕ). getD states i 0 ∷ drop k states) up)
+    ∙ first-append number first (copiesUp size kinds (getD states i 0)) (copiesUpAll size kinds (drop (i + 1) states)))
 
 loop-again : tie.Need-loop-again Inv-loop μ-loop
 loop-again c =
-    let g = c .before in
-    let t = g .before .before in
+    let t = c .before .before in
     let w = t .before .loop in
     let a = t .before .before .before .args in (
       omega (arith, t .loop-test .taken),
-      ⊎-elim
-          (λ k. (λ j. earliestFrom (k .1 j) (k .2 j) (drop (w .i + 1) (now (a .states))) (now (a .number)))
-          ∙ rest-less (now (a .number)) (now (a .states)) (w .i) (t .loop-test .taken) (w .first) (w .state) (g .get .result) (g .get .ensures) (k .0 .taken))
-          (λ k. (λ j. earliestFrom (k .1 j) (k .2 j) (drop (w .i + 1) (now (a .states))) (now (a .number)))
-          ∙ rest-stays (now (a .number)) (now (a .states)) (w .i) (t .loop-test .taken) (w .first) (w .state) (g .get .result) (g .get .ensures) (k .0 .left))
-          (c .if1 .came)
+      ap (λ (f : First). among (a .size) (a .kinds) (now (a .number)) f (drop (w .i + 1) (now (a .states)))) (c .earlier .ensures)
+          ∙ next (a .size) (a .kinds) (now (a .number)) (now (a .states)) (w .first) (w .i) (t .loop-test .taken)
           ∙ w .inv .1,
     )
 
+-- no state is left
+last : (size kinds : ℕ) (number states : List ℕ) (first : First) (i : ℕ) → length states ≤ i → first ≡ among size kinds number first (drop i states)
+unfolding copiesUpAll firstOf
+last size kinds number states first i h = sym (ap (among size kinds number first) (drop-of-length-le states h))
+
 returns : tie.Need-returns Inv-loop μ-loop
 returns c =
-    let w = c .before .before .loop in
-    sym (rest-none _ _ (w .i) (w .first) (w .state) (c .before .loop-test .left) (c .if2 .taken)) ∙ w .inv .1
+    let e = c .before .before in
+    let w = e .before .loop in
+    let a = e .before .before .before .args in
+    sym (taken-none (now (a .number)) (w .first) (c .if1 .taken)) ∙ ap takenUpAt (last (a .size) (a .kinds) (now (a .number)) (now (a .states)) (w .first) (w .i) (e .loop-test .left) ∙ w .inv .1)
 
 returns-2 : tie.Need-returns-2 Inv-loop μ-loop
 returns-2 c =
-    let w = c .before .before .loop in
-    sym (rest-at _ _ (w .i) (w .first) (w .state) (c .before .loop-test .left) (c .if2 .left)) ∙ w .inv .1
+    let e = c .before .before in
+    let w = e .before .loop in
+    let a = e .before .before .before .args in
+    sym (taken-at (now (a .number)) (w .first) (c .if1 .left)) ∙ ap takenUpAt (last (a .size) (a .kinds) (now (a .number)) (now (a .states)) (w .first) (w .i) (e .loop-test .left) ∙ w .inv .1)
 
 pub earliest-spec : {M : Type 1} → statement M
 earliest-spec =
@@ -68,9 +89,9 @@ earliest-spec =
     Inv-loop
     μ-loop
     loop-holds
-    mul-s
-    shared-slice-read-s
-    get-requires
+    mul-earlier
+    shared-slice-read-earlier
+    earlier-requires
     add-i
     loop-less
     loop-again

@@ -24,8 +24,8 @@ returns : tie.Need-returns
 returns c =
     let f = c .before in
     let a = f .before .args in
-    sym (edge-off (a .from) (a .to) (rowsOf (now (a .targets)) (now (a .starts))) (now (a .index)) (now (a .walk)) (a .tip) (a .on)
-    (le-ltb (placeOf (a .from) (entries (a .tip) 0 (now (a .walk)))) (a .tip) (omega (arith, f .find .ensures, c .if1 .taken))))
+    sym (edge-off (a .copy) (a .from) (a .to) (rowsOf (now (a .targets)) (now (a .starts))) (now (a .index)) (now (a .walk)) (a .tip) (a .on)
+    (le-ltb (placeOf (a .copy) (entries (a .tip) 0 (now (a .walk)))) (a .tip) (omega (arith, f .find .ensures, c .if1 .taken))))
 
 -- an edge that comes
 returns-2 : tie.Need-returns-2
@@ -35,8 +35,8 @@ returns-2 c =
     let a = f .before .args in
     let r = rowsOf (now (a .targets)) (now (a .starts)) in
     let way : a .on ≡ _ = c .if2 .taken in
-    sym (ap (λ (b : Bool). unexploredEdge b (a .from) (a .to) r (now (a .index)) (now (a .walk)) (a .tip)) way
-    ∙ edge-comes (a .from) (a .to) r (now (a .index)) (now (a .walk)) (a .tip) (lt-ltb (placeOf (a .from) (entries (a .tip) 0 (now (a .walk)))) (a .tip) (omega (arith, f .find .ensures, e .if1 .left))))
+    sym (ap (λ (b : Bool). unexploredEdge b (a .copy) (a .from) (a .to) r (now (a .index)) (now (a .walk)) (a .tip)) way
+    ∙ edge-comes (a .copy) (a .from) (a .to) r (now (a .index)) (now (a .walk)) (a .tip) (lt-ltb (placeOf (a .copy) (entries (a .tip) 0 (now (a .walk)))) (a .tip) (omega (arith, f .find .ensures, e .if1 .left))))
 
 add-get : tie.Need-add-get
 add-get c = search needs
@@ -60,13 +60,13 @@ returns-3 c =
     let f = e .before in
     let a = f .before .args in
     let r = rowsOf (now (a .targets)) (now (a .starts)) in
-    let i = placeOf (a .from) (entries (a .tip) 0 (now (a .walk))) in
+    let i = placeOf (a .copy) (entries (a .tip) 0 (now (a .walk))) in
     let way : a .on ≡ _ = b .if2 .left in
     let next : h .get .result ≡ getD (now (a .walk)) (suc i) 0 = h .get .ensures ∙ ap (λ (n : ℕ). getD (now (a .walk)) n 0) (add-one (f .find .result) ∙ ap suc (f .find .ensures)) in
     let last : g .get2 .result ≡ getD (now (a .index)) (getD (now (a .walk)) (suc i) 0) 0 = g .get2 .ensures ∙ ap (λ (n : ℕ). getD (now (a .index)) n 0) next in
     (λ k. ltb (last k) (c .place .ensures k))
-    ∙ sym (ap (λ (x : Bool). unexploredEdge x (a .from) (a .to) r (now (a .index)) (now (a .walk)) (a .tip)) way
-    ∙ edge-goes (a .from) (a .to) r (now (a .index)) (now (a .walk)) (a .tip) (lt-ltb i (a .tip) (omega (arith, f .find .ensures, e .if1 .left))))
+    ∙ sym (ap (λ (x : Bool). unexploredEdge x (a .copy) (a .from) (a .to) r (now (a .index)) (now (a .walk)) (a .tip)) way
+    ∙ edge-goes (a .copy) (a .from) (a .to) r (now (a .index)) (now (a .walk)) (a .tip) (lt-ltb i (a .tip) (omega (arith, f .find .ensures, e .if1 .left))))
 
 pub is-unexplored-spec : {M : Type 1} → statement M
 is-unexplored-spec =

@@ -20,7 +20,7 @@ returns : tie.Need-returns
 returns c =
     let k = c .before .before in
     let e = k .before .before in
-    updated-refused _ _ _ _ _ _ _ _ (e .attempt-call .result) _ (k .trial .given .0 .0) _ (e .attempt-call .ensures) (k .trial .given .1) (c .refused .ensures)
+    updated-refused _ _ _ _ _ _ _ _ _ (e .attempt-call .result) _ (k .trial .given .0 .0) _ (e .attempt-call .ensures) (k .trial .given .1) (c .refused .ensures)
 
 enum-told : tie.Need-enum-told
 enum-told c = search needs
@@ -40,7 +40,7 @@ begun c = resumed c .before .before .before .before .before .before .before .bef
 
 settle-requires : tie.Need-settle-requires
 settle-requires c κs =
-    (accepted-sized _ _ _ _ _ (attempted c .attempt-call .result) _ (attempted c .attempt-call .ensures) (tried-at c .enum-told .given .1) (begun c .pre .0, begun c .pre .1) .0, begun c .pre .2)
+    (accepted-sized _ _ _ _ _ _ (attempted c .attempt-call .result) _ (attempted c .attempt-call .ensures) (tried-at c .enum-told .given .1) (begun c .pre .0, begun c .pre .1) .0, begun c .pre .2)
 
 same-length : tie.Need-same-length
 same-length c = search needs
@@ -49,7 +49,7 @@ returns-2 : tie.Need-returns-2
 returns-2 c =
     let w = c .before .before in
     let g = w .before in
-    updated-accepted _ _ _ _ _ _ _ _ (attempted g .attempt-call .result) _ (resumed g .where-to-resume .result) _ _ _
+    updated-accepted _ _ _ _ _ _ _ _ _ (attempted g .attempt-call .result) _ (resumed g .where-to-resume .result) _ _ _
     (attempted g .attempt-call .ensures) (tried-at g .enum-told .given .1) (resumed g .where-to-resume .ensures) (w .settle .ensures)
 
 pub update-in-spec : {M : Type 1} → statement M

@@ -6,7 +6,7 @@ use native.Mathlib.Omega.{arith}
 use denote.Ref.{now}
 use lib.Seq.{length-take-le}
 use borrow.Author.Needs.{needs}
-use Rattle.session.specs.Model.{earliestOf}
+use Rattle.session.specs.Model.{copiesUpAll, earliestOf}
 use Rattle.session.proofs.Lines.{resumption-nowhere, resumption-earliest}
 use Rattle.session.proofs.where_to_resume.Statement.{statement}
 use Rattle.session.proofs.where_to_resume.Tie as tie
@@ -15,7 +15,7 @@ all-passed-over-requires : tie.Need-all-passed-over-requires
 all-passed-over-requires c κs = search needs
 
 returns : tie.Need-returns
-returns c = sym (resumption-nowhere _ _ _ _ _ _ (sym (c .before .all-passed-over .ensures) ∙ c .if1 .taken))
+returns c = sym (resumption-nowhere _ _ _ _ _ _ _ _ (sym (c .before .all-passed-over .ensures) ∙ c .if1 .taken))
 
 name-states-requires : tie.Need-name-states-requires
 name-states-requires c κs = search needs
@@ -35,8 +35,8 @@ returns-2 : tie.Need-returns-2
 returns-2 c =
     let n = c .before .before in
     let e = n .before .before in
-    c .earliest .ensures ∙ ap (λ (l : List ℕ). earliestOf l (now (e .before .before .before .args .number))) (n .name-states .ensures .2)
-    ∙ sym (resumption-earliest _ _ _ _ _ _ (sym (e .before .all-passed-over .ensures) ∙ e .if1 .left))
+    c .earliest .ensures ∙ ap (λ (l : List ℕ). earliestOf (copiesUpAll (e .before .before .before .args .size) (e .before .before .before .args .kinds) l) (now (e .before .before .before .args .number))) (n .name-states .ensures .2)
+    ∙ sym (resumption-earliest _ _ _ _ _ _ _ _ (sym (e .before .all-passed-over .ensures) ∙ e .if1 .left))
 
 pub where-to-resume-spec : {M : Type 1} → statement M
 where-to-resume-spec =

@@ -3,10 +3,11 @@
 use mathlib.Core.Path.{_≡_, refl, sym, ap, _∙_}
 use mathlib.Core.Logic.{⊎-elim}
 use mathlib.Core.Bool.{Bool, true, false}
+use mathlib.Core.List.{List}
 use Prim.Native.Nat.{ℕ, _+_, _-_, _<_}
 use native.Mathlib.Omega.{arith}
 use denote.Ref.{now}
-use lib.ListN.{set}
+use lib.ListN.{length, getD, set}
 use borrow.Author.Needs.{needs}
 use borrow.Author.Tests.{not-true, not-false}
 use borrow.Fn.Kinds.{In}
@@ -15,18 +16,22 @@ use Rattle.plain.specs.Table.{accepts}
 use Rattle.plain.proofs.Tests.{contra}
 use Rattle.rows.proofs.wide.Reads as wide-reads
 use Rattle.marks.proofs.accepts_in.Reads as accepts-in-reads
+use Rattle.look.specs.Numbers.{up}
+use Rattle.look.specs.Scan.{layoutOf, rowLaid}
 use Rattle.look.proofs.Counting.{up-is}
+use Rattle.look.proofs.Scans.{laid-length, laid-within}
 use Rattle.look.proofs.look.Reads as look-reads
 use Rattle.look.proofs.put.Reads as put-reads
-use Rattle.look.proofs.row_of.Reads as row-of-reads
+use Rattle.look.proofs.stretch_of.Reads as stretch-of-reads
 use Rattle.look.proofs.up.Reads as up-reads
 use Rattle.textbook.specs.Search.{boardOf, ReadsAll}
 use Rattle.textbook.proofs.Sets.{left, left-visit, left-explore}
 use Rattle.textbook.proofs.Steps.{Entered}
-use Rattle.textbook.proofs.Turns.{Turns, kept-entered, begins, ends, renamed, passed, went-on, stopped, visits-outer, visits-round, visits-paying}
+use Rattle.textbook.proofs.Turns.{Turns, edge-there, edge-target, kept-entered, begins, ends, renamed, passed, went-on, stopped, pays-below, pays-beyond, visits-outer, visits-round, visits-paying}
 use Rattle.textbook.proofs.contains.Reads as contains-reads
 use Rattle.textbook.proofs.insert.Reads as insert-reads
 use Rattle.textbook.proofs.is_round.Reads as is-round-reads
+use Rattle.textbook.proofs.lift.Reads as lift-reads
 use Rattle.textbook.proofs.nested_visit.Reads as nested-visit-reads
 use Rattle.textbook.proofs.explore.Reads as explore
 use Rattle.textbook.proofs.explore.Kinds as explore-kinds
@@ -37,31 +42,33 @@ use Rattle.textbook.proofs.+explore+visit.Lts-visit as visit-lts
 use Rattle.textbook.proofs.+explore+visit.{statement}
 use Rattle.textbook.proofs.+explore+visit.Tie.{close}
 
-abbrev μ-explore : Measures 7 explore-kinds.ps ℕ
-μ-explore κs a = left (a .1 .1 .1 .0 .now)
+abbrev μ-explore : Measures 9 explore-kinds.ps ℕ
+μ-explore κs a = left (a .1 .1 .1 .1 .1 .1 .0 .now)
 
-abbrev μ-visit : Measures 7 visit-kinds.ps ℕ
-μ-visit κs a = left (set (a .1 .1 .1 .0 .now) (a .1 .1 .1 .1 .1 .1 .1 .0) true) + 1
+abbrev μ-visit : Measures 9 visit-kinds.ps ℕ
+μ-visit κs a = left (set (a .1 .1 .1 .1 .1 .1 .0 .now) (a .1 .1 .1 .1 .1 .1 .1 .1 .1 .1 .0) true) + 1
 
-abbrev explore-at : ℕ → In 7 explore-kinds.ps
-explore-at t = and 7 explore-kinds.ps (is 7 explore-kinds.ps μ-explore t) explore.Pre
+abbrev explore-at : ℕ → In 9 explore-kinds.ps
+explore-at t = and 9 explore-kinds.ps (is 9 explore-kinds.ps μ-explore t) explore.Pre
 
-abbrev explore-below : ℕ → In 7 explore-kinds.ps
-explore-below t = and 7 explore-kinds.ps (falls 7 explore-kinds.ps _<_ μ-explore t) explore.Pre
+abbrev explore-below : ℕ → In 9 explore-kinds.ps
+explore-below t = and 9 explore-kinds.ps (falls 9 explore-kinds.ps _<_ μ-explore t) explore.Pre
 
-abbrev visit-at : ℕ → In 7 visit-kinds.ps
-visit-at t = and 7 visit-kinds.ps (is 7 visit-kinds.ps μ-visit t) visit.Pre
+abbrev visit-at : ℕ → In 9 visit-kinds.ps
+visit-at t = and 9 visit-kinds.ps (is 9 visit-kinds.ps μ-visit t) visit.Pre
 
-abbrev visit-below : ℕ → In 7 visit-kinds.ps
-visit-below t = and 7 visit-kinds.ps (falls 7 visit-kinds.ps _<_ μ-visit t) visit.Pre
+abbrev visit-below : ℕ → In 9 visit-kinds.ps
+visit-below t = and 9 visit-kinds.ps (falls 9 visit-kinds.ps _<_ μ-visit t) visit.Pre
 
 -- what the callees claim
 abbrev explore-claims : ℕ → explore-lts.Claims
 explore-claims t = (
-  row-of-reads.Asked,
-  row-of-reads.Learnt,
+  stretch-of-reads.Asked,
+  stretch-of-reads.Learnt,
   look-reads.Asked,
   look-reads.Learnt,
+  lift-reads.Asked,
+  lift-reads.Learnt,
   contains-reads.Asked,
   contains-reads.Learnt,
   visit-below t,
@@ -91,29 +98,60 @@ visit-claims t = (
 )
 
 abbrev Inv-loop : explore-lts.InvT-loop
-Inv-loop targets starts words met₀ marked₀ walk₀ spent₀ v place at₀ stop met marked walk spent at =
-    Turns targets (ReadsAll targets starts words) false v 0 place (boardOf met₀ marked₀ walk₀ spent₀) (boardOf met marked walk spent) stop at
+Inv-loop targets begins ends bases size words met₀ marked₀ walk₀ spent₀ v place from count base e₀ met marked walk spent e =
+    let layout = layoutOf begins ends bases in
+    Turns (rowLaid targets layout v) (ReadsAll targets layout size words) false v 0 place (boardOf met₀ marked₀ walk₀ spent₀) (boardOf met marked walk spent) e
 
 abbrev μ-loop : explore-lts.MeasureT-loop
-μ-loop targets starts words met₀ marked₀ walk₀ spent₀ v place at₀ stop met marked walk spent at = stop - at
+μ-loop targets begins ends bases size words met₀ marked₀ walk₀ spent₀ v place from count base e₀ met marked walk spent e = count - e
 
 -- ---- the edges
 
-row-of-requires : (t : ℕ) → explore-lts.Need-row-of-requires (explore-claims t) (explore-at t) explore.Post Inv-loop μ-loop
-row-of-requires t c κs = search needs
+stretch-of-requires : (t : ℕ) → explore-lts.Need-stretch-of-requires (explore-claims t) (explore-at t) explore.Post Inv-loop μ-loop
+stretch-of-requires t c κs = let y = c .pre .1 .0 in (y .begins-size, y .ends-size, y .bases-size)
 
 loop-holds : (t : ℕ) → explore-lts.Need-loop-holds (explore-claims t) (explore-at t) explore.Post Inv-loop μ-loop
-loop-holds t c = begins (λ g y. y .reads) (c .row-of .result) (c .row-of .ensures)
+loop-holds t c = begins (λ g y. y .reads)
+
+-- the place at which a turn looks is one of the array of targets
+within : (t : ℕ) (c : explore-lts.In-loop (explore-claims t) (explore-at t) explore.Post Inv-loop μ-loop) → c .before .before .stretch-of .result .from + c .before .loop .e < 2048
+within t c = let r = c .before .before in laid-within (now (r .before .args .targets)) _ _ _ (r .stretch-of .ensures) (c .before .loop .e) (c .loop-test .taken)
+
+add-look : (t : ℕ) → explore-lts.Need-add-look (explore-claims t) (explore-at t) explore.Post Inv-loop μ-loop
+add-look t c = omega (arith, within t (c .before))
 
 look-requires : (t : ℕ) → explore-lts.Need-look-requires (explore-claims t) (explore-at t) explore.Post Inv-loop μ-loop
-look-requires t c κs =
-    let i = c .before in
-    let r = i .before .before in
-    (r .before .pre .1 .0 .targets-size, omega (arith, i .loop-test .taken, r .row-of .ensures .stop-small))
+look-requires t c κs = (c .before .before .before .before .pre .1 .0 .targets-size, within t (c .before))
+
+lift-requires : (t : ℕ) → explore-lts.Need-lift-requires (explore-claims t) (explore-at t) explore.Post Inv-loop μ-loop
+lift-requires t c κs = c .before .before .before .before .stretch-of .ensures .base-small
+
+-- the edge at which a turn looks
+module _ (t : ℕ) (c : explore-lts.After-lift (explore-claims t) (explore-at t) explore.Post Inv-loop μ-loop) where
+  -- the turn, and where its row was read
+  abbrev turn : explore-lts.In-loop (explore-claims t) (explore-at t) explore.Post Inv-loop μ-loop
+  turn = c .before .before .before
+
+  abbrev read : explore-lts.After-stretch-of (explore-claims t) (explore-at t) explore.Post Inv-loop μ-loop
+  read = turn .before .before
+
+  -- the row
+  abbrev row : List ℕ
+  row = let a = read .before .args in rowLaid (now (a .targets)) (layoutOf (now (a .begins)) (now (a .ends)) (now (a .bases))) (a .v)
+
+  -- it is an edge of the row, to what the look hands out, raised; and the look is counted
+  there : turn .before .loop .e < length row
+  there = edge-there (now (read .before .args .targets)) (read .stretch-of .ensures) (turn .loop-test .taken)
+
+  target : c .lift .result ≡ getD row (turn .before .loop .e) 0
+  target = edge-target (now (read .before .args .targets)) (read .stretch-of .ensures) (turn .loop-test .taken) (c .before .look .ensures .0) (c .lift .ensures)
+
+  raises : c .before .look .last .1 .0 ≡ up (turn .before .loop .spent)
+  raises = c .before .look .ensures .1 ∙ sym (up-is (turn .before .loop .spent))
 
 contains-requires : (t : ℕ) → explore-lts.Need-contains-requires (explore-claims t) (explore-at t) explore.Post Inv-loop μ-loop
 contains-requires t c κs =
-    let l = c .before .before .before .before in
+    let l = c .before .before .before .before .before in
     l .loop .inv .kept .met-size ∙ l .before .before .pre .1 .1
 
 visit-requires : (t : ℕ) → explore-lts.Need-visit-requires (explore-claims t) (explore-at t) explore.Post Inv-loop μ-loop
@@ -121,10 +159,10 @@ visit-requires t c κs =
     let n = c .before .before .before .before in
     let k = n .before in
     let o = k .before .before in
-    let l = o .before .before .before in
+    let l = o .before .before .before .before in
     let a = l .before .before in
     let z = l .loop .inv .kept in
-    (left-visit _ _ (o .look .result) (a .pre .0) (z .met-fewer) (sym (k .contains .ensures) ∙ not-true _ (n .if1 .taken)), (a .pre .1 .0, z .met-size ∙ a .pre .1 .1, record { marked-size = z .marked-size ∙ a .pre .1 .2 .marked-size; walk-size = z .walk-size ∙ a .pre .1 .2 .walk-size }))
+    (left-visit _ _ (o .lift .result) (a .pre .0) (z .met-fewer) (sym (k .contains .ensures) ∙ not-true _ (n .if1 .taken)), (a .pre .1 .0, z .met-size ∙ a .pre .1 .1, record { marked-size = z .marked-size ∙ a .pre .1 .2 .marked-size; walk-size = z .walk-size ∙ a .pre .1 .2 .walk-size }))
 
 is-round-requires : (t : ℕ) → explore-lts.Need-is-round-requires (explore-claims t) (explore-at t) explore.Post Inv-loop μ-loop
 is-round-requires t c κs = search needs
@@ -135,33 +173,34 @@ returns t c =
     let v = r .before in
     let n = v .before .before .before .before .before in
     let k = n .before in
-    let l = k .before .before in
-    let i = l .before .before in
-    stopped (λ g y. y .reads) (i .before .loop .inv) (i .loop-test .taken) (l .look .ensures .0) (l .look .ensures .1 ∙ sym (up-is _)) (λ e. absurd (contra e refl))
+    let o = k .before .before in
+    stopped (λ g y. y .reads) (turn t o .before .loop .inv) (there t o) (target t o) (raises t o) (λ e. absurd (contra e refl))
     (sym (k .contains .ensures) ∙ not-true _ (n .if1 .taken)) (v .visit .ensures) (sym (r .is-round .ensures) ∙ c .if2 .taken)
 
-add-at : (t : ℕ) → explore-lts.Need-add-at (explore-claims t) (explore-at t) explore.Post Inv-loop μ-loop
-add-at t c = search needs
+add-e : (t : ℕ) → explore-lts.Need-add-e (explore-claims t) (explore-at t) explore.Post Inv-loop μ-loop
+add-e t c = omega (arith, within t (turn t (c .before .before .before)))
 
 loop-less : (t : ℕ) → explore-lts.Need-loop-less (explore-claims t) (explore-at t) explore.Post Inv-loop μ-loop
-loop-less t c = search needs
+loop-less t c = omega (arith, turn t (c .before .before .before) .loop-test .taken)
 
 loop-again : (t : ℕ) → explore-lts.Need-loop-again (explore-claims t) (explore-at t) explore.Post Inv-loop μ-loop
 loop-again t c =
     let k = c .before in
-    let l = k .before .before in
-    let i = l .before .before in
+    let o = k .before .before in
     ⊎-elim
     (λ w. renamed (w .8) (w .9) (w .10) (w .11)
-    (went-on (λ g y. y .reads) (i .before .loop .inv) (i .loop-test .taken) (l .look .ensures .0) (l .look .ensures .1 ∙ sym (up-is _)) (λ e. absurd (contra e refl))
+    (went-on (λ g y. y .reads) (turn t o .before .loop .inv) (there t o) (target t o) (raises t o) (λ e. absurd (contra e refl))
     (sym (k .contains .ensures) ∙ not-true _ (w .0 .taken)) (w .5 .ensures) (sym (w .6 .ensures) ∙ w .7 .left)))
     (λ w. renamed (w .1) (w .2) (w .3) (w .4)
-    (passed (λ g y. y .reads) (i .before .loop .inv) (i .loop-test .taken) (l .look .ensures .0) (l .look .ensures .1 ∙ sym (up-is _)) (λ e. absurd (contra e refl))
+    (passed (λ g y. y .reads) (turn t o .before .loop .inv) (there t o) (target t o) (raises t o) (λ e. absurd (contra e refl))
     (sym (k .contains .ensures) ∙ not-false _ (w .0 .left))))
     (c .if1 .came)
 
 returns-2 : (t : ℕ) → explore-lts.Need-returns-2 (explore-claims t) (explore-at t) explore.Post Inv-loop μ-loop
-returns-2 t c = ends (λ g y. y .reads) _ _ (c .loop-test .left) (c .before .loop .inv)
+returns-2 t c =
+    let h = c .before in
+    let r = h .before in
+    ends (λ g y. y .reads) (h .loop .e) (omega (arith, laid-length (now (r .before .args .targets)) _ _ _ (r .stretch-of .ensures), c .loop-test .left)) (h .loop .inv)
 
 -- ---- a visit
 
@@ -214,14 +253,14 @@ accepts-in-requires t c κs = search needs
 
 -- does the state pay?
 pays-as : (t : ℕ) (c : visit-lts.After-accepts-in (visit-claims t) (visit-at t) visit.Post) (b : Bool) → c .accepts-in .result ≡ b
-    → let a = start-at t (c .before .before .before .before .before) .args in accepts (now (a .words)) (a .v) ≡ b
+    → let a = start-at t (c .before .before .before .before .before .before) .args in accepts (now (a .words)) (a .v) ≡ b
 pays-as t c b e =
-    let a = start-at t (c .before .before .before .before .before) .args in
+    let a = start-at t (c .before .before .before .before .before .before) .args in
     ap (accepts (now (a .words))) (sym (c .before .wide .ensures .0)) ∙ sym (c .accepts-in .ensures) ∙ e
 
 nested-visit-requires : (t : ℕ) → visit-lts.Need-nested-visit-requires (visit-claims t) (visit-at t) visit.Post
 nested-visit-requires t c κs =
-    let m = c .before .before .before .before .before .before .before .before .before in
+    let m = c .before .before .before .before .before .before .before .before .before .before in
     let a = start-at t m in
     let y = kept-entered false (entered-by t (put-at t m)) in
     let z = m .explore .ensures .kept in
@@ -231,20 +270,31 @@ visit-returns-2 : (t : ℕ) → visit-lts.Need-returns-2 (visit-claims t) (visit
 visit-returns-2 t c =
     let n = c .before .before .before .before in
     let k = n .before in
-    let e = k .before .before .before in
+    let b = k .before .before .before in
+    let e = b .before in
     let m = e .before .before in
     let a = start-at t m in
     visits-paying (λ g y. y .reads) (entered-by t (put-at t m)) (a .pre .1 .1) (a .pre .1 .2 .walk-size) (m .before .before .before .before .before .up .ensures) (m .explore .ensures)
-    (sym (e .before .is-round .ensures) ∙ e .if1 .left) (λ g y. y .acceptance (a .args .v) ∙ pays-as t k true (n .if2 .taken)) (c .nested-visit .ensures (m .explore .last .1 .1 .1 .0))
+    (sym (e .before .is-round .ensures) ∙ e .if1 .left) (λ g y low. y .acceptance (a .args .v) low ∙ pays-below (a .args .v) (a .args .size) _ true (b .if2 .taken) (pays-as t k true (n .if3 .taken)))
+    (c .nested-visit .ensures (m .explore .last .1 .1 .1 .1 .1 .1 .0))
 
 visit-returns-3 : (t : ℕ) → visit-lts.Need-returns-3 (visit-claims t) (visit-at t) visit.Post
 visit-returns-3 t c =
     let k = c .before in
-    let e = k .before .before .before in
+    let b = k .before .before .before in
+    let e = b .before in
     let m = e .before .before in
     let a = start-at t m in
     visits-outer (λ g y. y .reads) (entered-by t (put-at t m)) (a .pre .1 .1) (a .pre .1 .2 .walk-size) (m .before .before .before .before .before .up .ensures) (m .explore .ensures)
-    (λ g y. y .acceptance (a .args .v) ∙ pays-as t k _ (c .if2 .left))
+    (λ g y low. y .acceptance (a .args .v) low ∙ pays-below (a .args .v) (a .args .size) _ false (b .if2 .taken) (pays-as t k false (c .if3 .left)))
+
+visit-returns-4 : (t : ℕ) → visit-lts.Need-returns-4 (visit-claims t) (visit-at t) visit.Post
+visit-returns-4 t c =
+    let e = c .before in
+    let m = e .before .before in
+    let a = start-at t m in
+    visits-outer (λ g y. y .reads) (entered-by t (put-at t m)) (a .pre .1 .1) (a .pre .1 .2 .walk-size) (m .before .before .before .before .before .up .ensures) (m .explore .ensures)
+    (λ g y low. y .acceptance (a .args .v) low ∙ pays-beyond (a .args .v) (a .args .size) (accepts (now (a .args .words)) (a .args .v)) (c .if2 .left))
 
 pub +explore+visit-spec : {M : Type 1} → statement M
 +explore+visit-spec = close μ-explore μ-visit (λ t. explore-lts.spec (explore-claims t)
@@ -252,14 +302,16 @@ pub +explore+visit-spec : {M : Type 1} → statement M
     explore.Post
     Inv-loop
     μ-loop
-    (row-of-requires t)
+    (stretch-of-requires t)
     (loop-holds t)
+    (add-look t)
     (look-requires t)
+    (lift-requires t)
     (contains-requires t)
     (visit-requires t)
     (is-round-requires t)
     (returns t)
-    (add-at t)
+    (add-e t)
     (loop-less t)
     (loop-again t)
     (returns-2 t))
@@ -277,3 +329,4 @@ pub +explore+visit-spec : {M : Type 1} → statement M
     (nested-visit-requires t)
     (visit-returns-2 t)
     (visit-returns-3 t)
+    (visit-returns-4 t)

@@ -1,30 +1,34 @@
 -- `nested_visit` and `nested_explore`, which call each other, meet their contracts. What falls is the count of the unmarked states (Sets.antt, `left`), and in the loop the edges
 -- left. Assumes nothing.
-use mathlib.Core.Path.{refl, sym, _∙_}
+use mathlib.Core.Path.{_≡_, refl, sym, _∙_}
 use mathlib.Core.Logic.{⊎-elim}
 use mathlib.Core.Bool.{Bool, true}
 use mathlib.Core.List.{List, []}
 use Prim.Native.Nat.{ℕ, _+_, _-_, _<_}
 use native.Mathlib.Omega.{arith}
 use denote.Ref.{now}
-use lib.ListN.{set}
+use lib.ListN.{length, getD, set}
 use borrow.Author.Needs.{needs}
 use borrow.Author.Tests.{not-true, not-false}
 use borrow.Fn.Kinds.{In}
 use borrow.Fn.PlainCycle.{Measures, is, falls, and}
+use Rattle.look.specs.Numbers.{up}
+use Rattle.look.specs.Scan.{layoutOf, rowLaid}
 use Rattle.look.proofs.Counting.{up-is}
+use Rattle.look.proofs.Scans.{laid-length, laid-within}
 use Rattle.look.proofs.find.Reads as find-reads
 use Rattle.look.proofs.look.Reads as look-reads
 use Rattle.look.proofs.put.Reads as put-reads
-use Rattle.look.proofs.row_of.Reads as row-of-reads
+use Rattle.look.proofs.stretch_of.Reads as stretch-of-reads
 use Rattle.look.proofs.up.Reads as up-reads
 use Rattle.textbook.specs.Search.{boardOf, Reads}
 use Rattle.textbook.proofs.Sets.{left, left-visit, left-explore}
 use Rattle.textbook.proofs.Steps.{Entered}
-use Rattle.textbook.proofs.Turns.{Turns, kept-entered, begins, ends, renamed, closed, passed, went-on, stopped, visits-nested}
+use Rattle.textbook.proofs.Turns.{Turns, edge-there, edge-target, kept-entered, begins, ends, renamed, closed, passed, went-on, stopped, visits-nested}
 use Rattle.textbook.proofs.contains.Reads as contains-reads
 use Rattle.textbook.proofs.insert.Reads as insert-reads
 use Rattle.textbook.proofs.is_round.Reads as is-round-reads
+use Rattle.textbook.proofs.lift.Reads as lift-reads
 use Rattle.textbook.proofs.nested_explore.Reads as nested-explore
 use Rattle.textbook.proofs.nested_explore.Kinds as nested-explore-kinds
 use Rattle.textbook.proofs.+nested_explore+nested_visit.Lts-nested_explore as nested-explore-lts
@@ -34,31 +38,33 @@ use Rattle.textbook.proofs.+nested_explore+nested_visit.Lts-nested_visi
 use Rattle.textbook.proofs.+nested_explore+nested_visit.{statement}
 use Rattle.textbook.proofs.+nested_explore+nested_visit.Tie.{close}
 
-abbrev μ-nested-explore : Measures 5 nested-explore-kinds.ps ℕ
-μ-nested-explore κs a = left (a .1 .1 .0 .now)
+abbrev μ-nested-explore : Measures 7 nested-explore-kinds.ps ℕ
+μ-nested-explore κs a = left (a .1 .1 .1 .1 .0 .now)
 
-abbrev μ-nested-visit : Measures 5 nested-visit-kinds.ps ℕ
-μ-nested-visit κs a = left (set (a .1 .1 .0 .now) (a .1 .1 .1 .1 .1 .0) true) + 1
+abbrev μ-nested-visit : Measures 7 nested-visit-kinds.ps ℕ
+μ-nested-visit κs a = left (set (a .1 .1 .1 .1 .0 .now) (a .1 .1 .1 .1 .1 .1 .1 .0) true) + 1
 
-abbrev nested-explore-at : ℕ → In 5 nested-explore-kinds.ps
-nested-explore-at t = and 5 nested-explore-kinds.ps (is 5 nested-explore-kinds.ps μ-nested-explore t) nested-explore.Pre
+abbrev nested-explore-at : ℕ → In 7 nested-explore-kinds.ps
+nested-explore-at t = and 7 nested-explore-kinds.ps (is 7 nested-explore-kinds.ps μ-nested-explore t) nested-explore.Pre
 
-abbrev nested-explore-below : ℕ → In 5 nested-explore-kinds.ps
-nested-explore-below t = and 5 nested-explore-kinds.ps (falls 5 nested-explore-kinds.ps _<_ μ-nested-explore t) nested-explore.Pre
+abbrev nested-explore-below : ℕ → In 7 nested-explore-kinds.ps
+nested-explore-below t = and 7 nested-explore-kinds.ps (falls 7 nested-explore-kinds.ps _<_ μ-nested-explore t) nested-explore.Pre
 
-abbrev nested-visit-at : ℕ → In 5 nested-visit-kinds.ps
-nested-visit-at t = and 5 nested-visit-kinds.ps (is 5 nested-visit-kinds.ps μ-nested-visit t) nested-visit.Pre
+abbrev nested-visit-at : ℕ → In 7 nested-visit-kinds.ps
+nested-visit-at t = and 7 nested-visit-kinds.ps (is 7 nested-visit-kinds.ps μ-nested-visit t) nested-visit.Pre
 
-abbrev nested-visit-below : ℕ → In 5 nested-visit-kinds.ps
-nested-visit-below t = and 5 nested-visit-kinds.ps (falls 5 nested-visit-kinds.ps _<_ μ-nested-visit t) nested-visit.Pre
+abbrev nested-visit-below : ℕ → In 7 nested-visit-kinds.ps
+nested-visit-below t = and 7 nested-visit-kinds.ps (falls 7 nested-visit-kinds.ps _<_ μ-nested-visit t) nested-visit.Pre
 
 -- what the callees claim
 abbrev explore-claims : ℕ → nested-explore-lts.Claims
 explore-claims t = (
-  row-of-reads.Asked,
-  row-of-reads.Learnt,
+  stretch-of-reads.Asked,
+  stretch-of-reads.Learnt,
   look-reads.Asked,
   look-reads.Learnt,
+  lift-reads.Asked,
+  lift-reads.Learnt,
   find-reads.Asked,
   find-reads.Learnt,
   contains-reads.Asked,
@@ -82,41 +88,71 @@ visit-claims t = (
 )
 
 abbrev Inv-loop : nested-explore-lts.InvT-loop
-Inv-loop targets starts marked₀ walk₀ spent₀ v height place at₀ stop marked walk spent at =
-    (met : List Bool) → Turns targets (Reads targets starts) true v height place (boardOf met marked₀ walk₀ spent₀) (boardOf met marked walk spent) stop at
+Inv-loop targets begins ends bases marked₀ walk₀ spent₀ v height place from count base e₀ marked walk spent e =
+    let layout = layoutOf begins ends bases in
+    (met : List Bool) → Turns (rowLaid targets layout v) (Reads targets layout) true v height place (boardOf met marked₀ walk₀ spent₀) (boardOf met marked walk spent) e
 
 abbrev μ-loop : nested-explore-lts.MeasureT-loop
-μ-loop targets starts marked₀ walk₀ spent₀ v height place at₀ stop marked walk spent at = stop - at
+μ-loop targets begins ends bases marked₀ walk₀ spent₀ v height place from count base e₀ marked walk spent e = count - e
 
 -- ---- the edges
 
-row-of-requires : (t : ℕ) → nested-explore-lts.Need-row-of-requires (explore-claims t) (nested-explore-at t) nested-explore.Post Inv-loop μ-loop
-row-of-requires t c κs = search needs
+stretch-of-requires : (t : ℕ) → nested-explore-lts.Need-stretch-of-requires (explore-claims t) (nested-explore-at t) nested-explore.Post Inv-loop μ-loop
+stretch-of-requires t c κs = let y = c .pre .1 .0 in (y .begins-size, y .ends-size, y .bases-size)
 
 loop-holds : (t : ℕ) → nested-explore-lts.Need-loop-holds (explore-claims t) (nested-explore-at t) nested-explore.Post Inv-loop μ-loop
-loop-holds t c = λ met. begins (λ g f. f) (c .row-of .result) (c .row-of .ensures)
+loop-holds t c = λ met. begins (λ g f. f)
+
+-- the place at which a turn looks is one of the array of targets
+within : (t : ℕ) (c : nested-explore-lts.In-loop (explore-claims t) (nested-explore-at t) nested-explore.Post Inv-loop μ-loop) → c .before .before .stretch-of .result .from + c .before .loop .e < 2048
+within t c = let r = c .before .before in laid-within (now (r .before .args .targets)) _ _ _ (r .stretch-of .ensures) (c .before .loop .e) (c .loop-test .taken)
+
+add-look : (t : ℕ) → nested-explore-lts.Need-add-look (explore-claims t) (nested-explore-at t) nested-explore.Post Inv-loop μ-loop
+add-look t c = omega (arith, within t (c .before))
 
 look-requires : (t : ℕ) → nested-explore-lts.Need-look-requires (explore-claims t) (nested-explore-at t) nested-explore.Post Inv-loop μ-loop
-look-requires t c κs =
-    let i = c .before in
-    let r = i .before .before in
-    (r .before .pre .1 .0 .targets-size, omega (arith, i .loop-test .taken, r .row-of .ensures .stop-small))
+look-requires t c κs = (c .before .before .before .before .pre .1 .0 .targets-size, within t (c .before))
+
+lift-requires : (t : ℕ) → nested-explore-lts.Need-lift-requires (explore-claims t) (nested-explore-at t) nested-explore.Post Inv-loop μ-loop
+lift-requires t c κs = c .before .before .before .before .stretch-of .ensures .base-small
+
+-- the edge at which a turn looks
+module _ (t : ℕ) (c : nested-explore-lts.After-lift (explore-claims t) (nested-explore-at t) nested-explore.Post Inv-loop μ-loop) where
+  -- the turn, and where its row was read
+  abbrev turn : nested-explore-lts.In-loop (explore-claims t) (nested-explore-at t) nested-explore.Post Inv-loop μ-loop
+  turn = c .before .before .before
+
+  abbrev read : nested-explore-lts.After-stretch-of (explore-claims t) (nested-explore-at t) nested-explore.Post Inv-loop μ-loop
+  read = turn .before .before
+
+  -- the row
+  abbrev row : List ℕ
+  row = let a = read .before .args in rowLaid (now (a .targets)) (layoutOf (now (a .begins)) (now (a .ends)) (now (a .bases))) (a .v)
+
+  -- it is an edge of the row, to what the look hands out, raised; and the look is counted
+  there : turn .before .loop .e < length row
+  there = edge-there (now (read .before .args .targets)) (read .stretch-of .ensures) (turn .loop-test .taken)
+
+  target : c .lift .result ≡ getD row (turn .before .loop .e) 0
+  target = edge-target (now (read .before .args .targets)) (read .stretch-of .ensures) (turn .loop-test .taken) (c .before .look .ensures .0) (c .lift .ensures)
+
+  raises : c .before .look .last .1 .0 ≡ up (turn .before .loop .spent)
+  raises = c .before .look .ensures .1 ∙ sym (up-is (turn .before .loop .spent))
 
 find-requires : (t : ℕ) → nested-explore-lts.Need-find-requires (explore-claims t) (nested-explore-at t) nested-explore.Post Inv-loop μ-loop
 find-requires t c κs =
-    let l = c .before .before .before .before in
+    let l = c .before .before .before .before .before in
     l .loop .inv [] .kept .walk-size ∙ l .before .before .pre .1 .1 .walk-size
 
 returns : (t : ℕ) → nested-explore-lts.Need-returns (explore-claims t) (nested-explore-at t) nested-explore.Post Inv-loop μ-loop
 returns t c =
     let f = c .before in
-    let l = f .before .before in
-    let i = l .before .before in
-    λ met. closed (λ g y. y) (i .before .loop .inv met) (i .loop-test .taken) (l .look .ensures .0) (l .look .ensures .1 ∙ sym (up-is _)) refl (f .find .result) (f .find .ensures) (c .if1 .taken)
+    let o = f .before .before in
+    λ met. closed (λ g y. y) (turn t o .before .loop .inv met) (there t o) (target t o) (raises t o) refl (f .find .result) (f .find .ensures) (c .if1 .taken)
 
 contains-requires : (t : ℕ) → nested-explore-lts.Need-contains-requires (explore-claims t) (nested-explore-at t) nested-explore.Post Inv-loop μ-loop
 contains-requires t c κs =
-    let l = c .before .before .before .before .before .before .before in
+    let l = c .before .before .before .before .before .before .before .before in
     l .loop .inv [] .kept .marked-size ∙ l .before .before .pre .1 .1 .marked-size
 
 nested-visit-requires : (t : ℕ) → nested-explore-lts.Need-nested-visit-requires (explore-claims t) (nested-explore-at t) nested-explore.Post Inv-loop μ-loop
@@ -124,10 +160,10 @@ nested-visit-requires t c κs =
     let n = c .before .before .before in
     let k = n .before in
     let o = k .before .before .before .before .before in
-    let l = o .before .before .before in
+    let l = o .before .before .before .before in
     let a = l .before .before in
     let z = l .loop .inv [] .kept in
-    (left-visit _ _ (o .look .result) (a .pre .0) (z .marked-fewer) (sym (k .contains .ensures) ∙ not-true _ (n .if2 .taken)), (a .pre .1 .0, record { marked-size = z .marked-size ∙ a .pre .1 .1 .marked-size; walk-size = z .walk-size ∙ a .pre .1 .1 .walk-size }))
+    (left-visit _ _ (o .lift .result) (a .pre .0) (z .marked-fewer) (sym (k .contains .ensures) ∙ not-true _ (n .if2 .taken)), (a .pre .1 .0, record { marked-size = z .marked-size ∙ a .pre .1 .1 .marked-size; walk-size = z .walk-size ∙ a .pre .1 .1 .walk-size }))
 
 is-round-requires : (t : ℕ) → nested-explore-lts.Need-is-round-requires (explore-claims t) (nested-explore-at t) nested-explore.Post Inv-loop μ-loop
 is-round-requires t c κs = search needs
@@ -140,35 +176,36 @@ returns-2 t c =
     let k = n .before in
     let e = k .before .before in
     let f = e .before in
-    let l = f .before .before in
-    let i = l .before .before in
-    λ met. stopped (λ g y. y) (i .before .loop .inv met) (i .loop-test .taken) (l .look .ensures .0) (l .look .ensures .1 ∙ sym (up-is _)) (λ _. omega (arith, e .if1 .left, f .find .ensures))
+    let o = f .before .before in
+    λ met. stopped (λ g y. y) (turn t o .before .loop .inv met) (there t o) (target t o) (raises t o) (λ _. omega (arith, e .if1 .left, f .find .ensures))
     (sym (k .contains .ensures) ∙ not-true _ (n .if2 .taken)) (v .nested-visit .ensures met) (sym (r .is-round .ensures) ∙ c .if3 .taken)
 
-add-at : (t : ℕ) → nested-explore-lts.Need-add-at (explore-claims t) (nested-explore-at t) nested-explore.Post Inv-loop μ-loop
-add-at t c = search needs
+add-e : (t : ℕ) → nested-explore-lts.Need-add-e (explore-claims t) (nested-explore-at t) nested-explore.Post Inv-loop μ-loop
+add-e t c = omega (arith, within t (turn t (c .before .before .before .before .before .before)))
 
 loop-less : (t : ℕ) → nested-explore-lts.Need-loop-less (explore-claims t) (nested-explore-at t) nested-explore.Post Inv-loop μ-loop
-loop-less t c = search needs
+loop-less t c = omega (arith, turn t (c .before .before .before .before .before .before) .loop-test .taken)
 
 loop-again : (t : ℕ) → nested-explore-lts.Need-loop-again (explore-claims t) (nested-explore-at t) nested-explore.Post Inv-loop μ-loop
 loop-again t c =
     let k = c .before in
     let e = k .before .before in
     let f = e .before in
-    let l = f .before .before in
-    let i = l .before .before in
+    let o = f .before .before in
     ⊎-elim
     (λ w met. renamed refl (w .7) (w .8) (w .9)
-    (went-on (λ g y. y) (i .before .loop .inv met) (i .loop-test .taken) (l .look .ensures .0) (l .look .ensures .1 ∙ sym (up-is _)) (λ _. omega (arith, e .if1 .left, f .find .ensures))
+    (went-on (λ g y. y) (turn t o .before .loop .inv met) (there t o) (target t o) (raises t o) (λ _. omega (arith, e .if1 .left, f .find .ensures))
     (sym (k .contains .ensures) ∙ not-true _ (w .0 .taken)) (w .4 .ensures met) (sym (w .5 .ensures) ∙ w .6 .left)))
     (λ w met. renamed refl (w .1) (w .2) (w .3)
-    (passed (λ g y. y) (i .before .loop .inv met) (i .loop-test .taken) (l .look .ensures .0) (l .look .ensures .1 ∙ sym (up-is _)) (λ _. omega (arith, e .if1 .left, f .find .ensures))
+    (passed (λ g y. y) (turn t o .before .loop .inv met) (there t o) (target t o) (raises t o) (λ _. omega (arith, e .if1 .left, f .find .ensures))
     (sym (k .contains .ensures) ∙ not-false _ (w .0 .left))))
     (c .if2 .came)
 
 returns-3 : (t : ℕ) → nested-explore-lts.Need-returns-3 (explore-claims t) (nested-explore-at t) nested-explore.Post Inv-loop μ-loop
-returns-3 t c = λ met. ends (λ g y. y) _ _ (c .loop-test .left) (c .before .loop .inv met)
+returns-3 t c =
+    let h = c .before in
+    let r = h .before in
+    λ met. ends (λ g y. y) (h .loop .e) (omega (arith, laid-length (now (r .before .args .targets)) _ _ _ (r .stretch-of .ensures), c .loop-test .left)) (h .loop .inv met)
 
 -- ---- a visit
 
@@ -209,16 +246,18 @@ pub +nested-explore+nested-visit-spec : {M : Type 1} → statement M
     nested-explore.Post
     Inv-loop
     μ-loop
-    (row-of-requires t)
+    (stretch-of-requires t)
     (loop-holds t)
+    (add-look t)
     (look-requires t)
+    (lift-requires t)
     (find-requires t)
     (returns t)
     (contains-requires t)
     (nested-visit-requires t)
     (is-round-requires t)
     (returns-2 t)
-    (add-at t)
+    (add-e t)
     (loop-less t)
     (loop-again t)
     (returns-3 t))
