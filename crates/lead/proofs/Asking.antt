@@ -1,7 +1,7 @@
 -- What a line asks for, one law for each way through the code. Assumes nothing.
 use Prim.Native.Nat.{_+_, _≤_, _<_}
-use mathlib.Core.Path.{_≡_, refl, sym, ap₂}
-use mathlib.Core.Bool.{Bool, true, false, _&&_, cond}
+use mathlib.Core.Path.{_≡_, refl}
+use mathlib.Core.Bool.{Bool, true, false, _&&_, and-false, cond}
 use mathlib.Core.List.{[], _∷_}
 use mathlib.Core.Logic.{⊎-elim}
 use native.Mathlib.Omega.{arith}
@@ -9,18 +9,16 @@ use denote.Enum.Declared.{tagOf}
 use types.Run.{OneOf}
 use borrow.Author.Tests.{eq-eqb, ne-eqb, lt-ltb, le-ltb}
 use lib.Dec.{eqb}
-use lib.ListN.{replicate}
-use Rattle.plain.specs.Table.{withMark}
 use Rattle.line.specs.Words.{isWord}
-use Rattle.line.specs.declared.Word.the-variants.{Game, Pay, Move, Go, End}
+use Rattle.line.specs.declared.Word.the-variants.{Game, Pay, Move, Go, End, Kinds}
 use Rattle.line.specs.declared.Record.{Record}
 use Rattle.batch.specs.Batches.{lineFor}
 use Rattle.lead.specs.declared.Stage.{Stage}
-use Rattle.lead.specs.declared.Stage.the-variants.{Gathering, Over}
+use Rattle.lead.specs.declared.Stage.the-variants.{Opened, Gathering, Over}
 use Rattle.lead.specs.declared.Lead.{Lead}
 use Rattle.lead.specs.declared.Request.{Request}
 use Rattle.lead.specs.declared.Request.the-variants as R
-use Rattle.lead.specs.Asked.{noTask, refusing, loading, ending, batching, isFull, askedFirst, askedMove, askedBefore, heldMost, holding, askedInside, askedAt, asked, lineFrom}
+use Rattle.lead.specs.Asked.{staged, noTask, refusing, loading, ending, batching, isFull, askedFirst, askedMove, askedBefore, askedOpened, heldMost, holding, askedInside, askedAt, asked, lineFrom}
 use Rattle.lead.proofs.Request.{the-type}
 
 -- ---- a `move`
@@ -30,7 +28,7 @@ module _ (l : Lead) where
   unfolding askedMove
   move-full h = rw h
 
-  pub move-more : isFull l ≡ false → noTask (record { stage = Gathering; size = l .size; start = l .start; words = l .words; count = l .count + 2 }) ≡ askedMove l
+  pub move-more : isFull l ≡ false → noTask (record { stage = Gathering; size = l .size; start = l .start; kinds = l .kinds; count = l .count + 2 }) ≡ askedMove l
   unfolding askedMove
   move-more h = rw h
 
@@ -43,10 +41,13 @@ module _ (by : Stage → Record → Bool) (r : Record) (room : Bool) (stage : St
   pub taken-at : (g : Stage) → room ≡ true → stage ≡ g → by g r ≡ room && by stage r
   taken-at g h e = rw (h, e)
 
+  pub not-at : (g : Stage) → stage ≡ g → by g r ≡ false → room && by stage r ≡ false
+  not-at g e h = rw (e, h, and-false room)
+
 -- ---- by the word
 
 module _ (l : Lead) (r : Record) where
-  pub first-game : isWord (r .word) Game ≡ true → noTask (record { stage = Gathering; size = r .first; start = r .second; words = replicate 8 0; count = 0 }) ≡ askedFirst l r
+  pub first-game : isWord (r .word) Game ≡ true → noTask (record { stage = Opened; size = r .first; start = r .second; kinds = 1; count = 0 }) ≡ askedFirst l r
   unfolding askedFirst
   first-game e = rw e
 
@@ -54,8 +55,7 @@ module _ (l : Lead) (r : Record) where
   unfolding askedFirst
   first-other e = rw e
 
-  pub before-pay : isWord (r .word) Pay ≡ true → l .count ≡ 0
-      → noTask (record { stage = Gathering; size = l .size; start = l .start; words = withMark (l .words) (r .first); count = 0 }) ≡ askedBefore l r
+  pub before-pay : isWord (r .word) Pay ≡ true → l .count ≡ 0 → noTask (staged Gathering l) ≡ askedBefore l r
   unfolding askedBefore
   before-pay e h = rw (e, eq-eqb (l .count) 0 h)
 
@@ -81,6 +81,14 @@ module _ (l : Lead) (r : Record) where
   pub before-other : Unpaid → isWord (r .word) Move ≡ false → isWord (r .word) Go ≡ false → refusing Over l 1 ≡ askedBefore l r
   unfolding Unpaid askedBefore
   before-other d e f = rw (d, e, f)
+
+  pub opened-kinds : isWord (r .word) Kinds ≡ true → noTask (record { stage = Gathering; size = l .size; start = l .start; kinds = r .first; count = 0 }) ≡ askedOpened l r
+  unfolding askedOpened
+  opened-kinds e = rw e
+
+  pub opened-other : isWord (r .word) Kinds ≡ false → askedBefore l r ≡ askedOpened l r
+  unfolding askedOpened
+  opened-other e = rw e
 
 -- ---- after `go`
 
@@ -121,6 +129,6 @@ module _ (l : Lead) where
 
 -- ---- by the stage
 
-pub asked-at : (g : Stage) (l : Lead) (r r′ : Record) → l .stage ≡ g → r ≡ r′ → askedAt g l r ≡ asked l r′
+pub asked-at : (g : Stage) (l : Lead) (r : Record) → l .stage ≡ g → askedAt g l r ≡ asked l r
 unfolding asked
-asked-at g l r r′ h e = ap₂ (λ (x : Stage) (y : Record). askedAt x l y) (sym h) e
+asked-at g l r h = rw h

@@ -1,13 +1,14 @@
--- The numbers of a line that is taken, put behind those of the lines before it. Assumes nothing.
-use Prim.Native.Nat.{ℕ, _+_, _≤_, _<_}
-use mathlib.Core.Path.{_≡_, refl, sym, ap, _∙_}
+-- The mark of a `pay` that is taken, and the numbers of a line that is taken, put behind those of the lines before it. Assumes nothing.
+use Prim.Native.Nat.{ℕ, _+_, _*_, _-_, _≤_, _<_}
+use mathlib.Core.Path.{_≡_, refl, sym, ap, ap₂, _∙_}
 use mathlib.Core.Bool.{Bool, true, false, _&&_, not, and-false, cond, true≢false}
 use mathlib.Core.List.{List, [], _∷_, _++_, append-assoc}
 use native.Mathlib.Omega.{arith}
 use borrow.Author.Tests.{le-leb, lt-leb, leb-true}
-use lib.Dec.{ltb, leb}
+use lib.Dec.{eqb, ltb, leb}
 use lib.ListN.{length, take, drop, set, length-set, length-append}
 use lib.Seq.{length-take-le, take-append-seam, take-append-le, take-take}
+use Rattle.plain.specs.Table.{withMark}
 use Rattle.plain.proofs.Tests.{and-true}
 use Rattle.line.specs.declared.Record.{Record}
 use Rattle.answer.specs.Bytes.{overwritten, Put}
@@ -15,8 +16,9 @@ use Rattle.answer.proofs.Laws.{length-overwritten, put-set, put-then}
 use Rattle.batch.specs.declared.BatchLine.{BatchLine}
 use Rattle.lead.specs.declared.Lead.{Lead}
 use Rattle.lead.specs.declared.Stage.{Stage}
-use Rattle.lead.specs.declared.Stage.the-variants.{Waiting, Gathering, Playing, Batching, Over}
-use Rattle.lead.specs.Asked.{isFull, heldMost, gathersMove, takesMove, filedMove, insideLine, takesLine, lineRead, numbersOf, filedLine, filed}
+use Rattle.lead.specs.declared.Stage.the-variants.{Waiting, Opened, Gathering, Playing, Batching, Over}
+use Rattle.lead.specs.Asked.{isFull, heldMost, gathersPay, takesPay, filedPay, gathersMove, takesMove, filedMove, insideLine, takesLine, lineRead, numbersOf, filedLine, filed}
+use Rattle.lead.proofs.Asking.{not-at}
 
 -- ---- numbers set one behind the other
 
@@ -81,11 +83,23 @@ module _ (taken : Bool) (n : ℕ) (bs ns : List ℕ) where
   head-put : taken ≡ true → n + length bs ≤ length ns → take (n + length bs) Behind ≡ take n ns ++ bs
   head-put t h = rw (t, le-leb (n + length bs) (length ns) h) (front-put ns bs n (omega arith))
 
+-- ---- the marks behind a line
+
+module _ (l : Lead) (r : Record) (marks : List ℕ) where
+  pub pay-filed : {ms : List ℕ} {layer s : ℕ} → takesPay l r ≡ true → layer ≡ r .second - 1 → s ≡ r .first → ms ≡ withMark marks (512 * layer + s) → ms ≡ filedPay l r marks
+  unfolding filedPay
+  pay-filed t e f m = rw t (m ∙ ap₂ (λ (i j : ℕ). withMark marks (512 * i + j)) e f)
+
+  pub pay-not : takesPay l r ≡ false → marks ≡ filedPay l r marks
+  unfolding filedPay
+  pay-not t = rw t
+
 -- ---- the list behind a line
 
 -- at a stage at which moves are gathered no line of a batch is
 apart : (g : Stage) (r : Record) → gathersMove g r ≡ true → insideLine g r ≡ false
 apart Waiting r e = refl
+apart Opened r e = refl
 apart Gathering r e = refl
 apart Playing r e = refl
 apart Batching r e = absurd (true≢false (sym e))
@@ -124,7 +138,7 @@ module _ (l : Lead) (r : Record) (ns : List ℕ) where
   -- a `move` is none
   no-line : takesMove l r ≡ true → takesLine l r ≡ false
   unfolding takesMove takesLine
-  no-line t = rw (apart (l .stage) r (and-true (not (isFull l)) _ t .1)) (and-false (ltb (l .count) heldMost))
+  no-line t = not-at insideLine r (ltb (l .count) heldMost) (l .stage) (l .stage) refl (apart (l .stage) r (and-true (not (isFull l)) _ t .1))
 
   -- ---- the head of the list: the numbers before the line stay
 
@@ -145,3 +159,26 @@ module _ (l : Lead) (r : Record) (ns : List ℕ) where
       let k : l .count + 3 ≤ length (filedMove l r ns) = omega (arith, length-behind (takesMove l r) (l .count) (r .first ∷ r .second ∷ []) ns) in
       head-put (takesLine l r) (l .count) (numbersOf (lineRead r)) (filedMove l r ns) t k
       ∙ ap (λ (xs : List ℕ). xs ++ numbersOf (lineRead r)) (head-kept (takesMove l r) (l .count) (r .first ∷ r .second ∷ []) ns)
+
+-- ---- by the stage: what is not filed there
+
+module _ (l : Lead) (r : Record) (g : Stage) (stage : l .stage ≡ g) where
+  pub no-pay-at : gathersPay g r ≡ false → (marks : List ℕ) → marks ≡ filedPay l r marks
+  unfolding takesPay
+  no-pay-at h marks = pay-not l r marks (not-at gathersPay r (eqb (l .count) 0) (l .stage) g stage h)
+
+  pub no-line-at : insideLine g r ≡ false → (ns : List ℕ) → filedMove l r ns ≡ filed l r ns
+  unfolding takesLine filed
+  no-line-at h ns = line-not l r (filedMove l r ns) (not-at insideLine r (ltb (l .count) heldMost) (l .stage) g stage h)
+
+  no-move : gathersMove g r ≡ false → takesMove l r ≡ false
+  unfolding takesMove
+  no-move h = not-at gathersMove r (not (isFull l)) (l .stage) g stage h
+
+  pub no-move-at : gathersMove g r ≡ false → (ns : List ℕ) → filedLine l r ns ≡ filed l r ns
+  unfolding filed
+  no-move-at h ns = ap (filedLine l r) (filed-not l r ns (no-move h))
+
+  -- neither a mark nor a number
+  pub none-at : gathersPay g r ≡ false → gathersMove g r ≡ false → insideLine g r ≡ false → (marks ns : List ℕ) → (marks ≡ filedPay l r marks) × (ns ≡ filed l r ns)
+  none-at p m h marks ns = (no-pay-at p marks, filed-not l r ns (no-move m) ∙ no-line-at h ns)

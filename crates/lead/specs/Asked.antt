@@ -1,13 +1,13 @@
 -- What a line asks for, and what is held from line to line, in the code's own terms. Cited by contracts; crates/watch/proofs/Steps.antt ties it to the
 -- plain definitions. Assumes nothing.
-use Prim.Native.Nat.{ℕ, _+_}
+use Prim.Native.Nat.{ℕ, _+_, _*_, _-_}
 use mathlib.Core.Bool.{Bool, true, false, _&&_, not, cond}
 use mathlib.Core.List.{List, [], _∷_}
 use lib.Dec.{eqb, ltb, leb}
-use lib.ListN.{length, replicate}
+use lib.ListN.{length}
 use Rattle.plain.specs.Table.{withMark}
 use Rattle.line.specs.Words.{isWord}
-use Rattle.line.specs.declared.Word.the-variants.{Game, Pay, Move, Go}
+use Rattle.line.specs.declared.Word.the-variants.{Game, Pay, Move, Go, Kinds}
 use Rattle.line.specs.declared.Word.the-variants as Word
 use Rattle.line.specs.declared.Record.{Record}
 use Rattle.answer.specs.Bytes.{overwritten}
@@ -20,7 +20,7 @@ use Rattle.batch.specs.Batches.{lineFor, lineTo}
 use Rattle.question.specs.declared.Question.{Question}
 use Rattle.question.specs.declared.Topic.the-variants.{Ways}
 use Rattle.lead.specs.declared.Stage.{Stage}
-use Rattle.lead.specs.declared.Stage.the-variants.{Waiting, Gathering, Playing, Batching, Over}
+use Rattle.lead.specs.declared.Stage.the-variants.{Waiting, Opened, Gathering, Playing, Batching, Over}
 use Rattle.lead.specs.declared.Lead.{Lead}
 use Rattle.lead.specs.declared.Ask.the-variants.{Load as AskLoad, Update as AskUpdate}
 use Rattle.lead.specs.declared.Request.{Request}
@@ -30,13 +30,13 @@ use Rattle.lead.specs.declared.Plan.{Plan}
 
 -- what is held before the first line
 abbrev pub firstLead : Lead
-firstLead = record { stage = Waiting; size = 0; start = 0; words = replicate 8 0; count = 0 }
+firstLead = record { stage = Waiting; size = 0; start = 0; kinds = 1; count = 0 }
 
 -- ---- what a line asks for
 
 -- the lead at another stage
 abbrev pub staged : Stage → Lead → Lead
-staged stage l = record { stage = stage; size = l .size; start = l .start; words = l .words; count = l .count }
+staged stage l = record { stage = stage; size = l .size; start = l .start; kinds = l .kinds; count = l .count }
 
 -- nothing is to be done
 abbrev pub noTask : Lead → Plan
@@ -64,12 +64,12 @@ ending l = record { lead = staged Playing l; task = Asks (AskUpdate Batch) }
 
 -- inside a batch, with so many numbers of its lines
 abbrev pub batching : Lead → ℕ → Lead
-batching l count = record { stage = Batching; size = l .size; start = l .start; words = l .words; count = count }
+batching l count = record { stage = Batching; size = l .size; start = l .start; kinds = l .kinds; count = count }
 
 -- "Order: one `game`"
 unfoldable pub askedFirst : Lead → Record → Plan
 askedFirst l r = cond (isWord (r .word) Game)
-    (noTask (record { stage = Gathering; size = r .first; start = r .second; words = replicate 8 0; count = 0 }))
+    (noTask (record { stage = Opened; size = r .first; start = r .second; kinds = 1; count = 0 }))
     (refusing Over l 1)
 
 -- the numbers of 2,048 moves, two for each
@@ -83,24 +83,30 @@ isFull l = leb numbersMost (l .count)
 -- "a 2,049th `move` line gets 5 as it is read"
 unfoldable pub askedMove : Lead → Plan
 askedMove l = cond (isFull l) (refusing Over l 5)
-    (noTask (record { stage = Gathering; size = l .size; start = l .start; words = l .words; count = l .count + 2 }))
+    (noTask (record { stage = Gathering; size = l .size; start = l .start; kinds = l .kinds; count = l .count + 2 }))
 
 -- ".. any `pay`, any `move`, one `go`"
 unfoldable pub askedBefore : Lead → Record → Plan
 askedBefore l r =
     cond (isWord (r .word) Pay && eqb (l .count) 0)
-    (noTask (record { stage = Gathering; size = l .size; start = l .start; words = withMark (l .words) (r .first); count = 0 }))
+    (noTask (staged Gathering l))
     (cond (isWord (r .word) Move) (askedMove l)
     (cond (isWord (r .word) Go) (loading l)
     (refusing Over l 1)))
+
+-- ticket 9: "A line `kinds` with K, 1 to 4, may directly follow `game`"; what K may be is tried at the load
+unfoldable pub askedOpened : Lead → Record → Plan
+askedOpened l r = cond (isWord (r .word) Kinds)
+    (noTask (record { stage = Gathering; size = l .size; start = l .start; kinds = r .first; count = 0 }))
+    (askedBefore l r)
 
 -- ".. then `add` and `cut`"; ticket 2: "Lines `mark` and `unmark` name a state"; ticket 5: `begin` and `end`; ticket 8: `ways`
 unfoldable pub requestOf : Record → Request
 requestOf r =
     cond (isWord (r .word) Word.Add) (R.Change (Add (r .first) (r .second)))
     (cond (isWord (r .word) Word.Cut) (R.Change (Cut (r .first) (r .second)))
-    (cond (isWord (r .word) Word.Mark) (R.Change (Mark (r .first)))
-    (cond (isWord (r .word) Word.Unmark) (R.Change (Unmark (r .first)))
+    (cond (isWord (r .word) Word.Mark) (R.Change (Mark (r .first) (r .second)))
+    (cond (isWord (r .word) Word.Unmark) (R.Change (Unmark (r .first) (r .second)))
     (cond (isWord (r .word) Word.Begin) R.Begin
     (cond (isWord (r .word) Word.End) R.End
     (cond (isWord (r .word) Word.Ways) (R.Question (record { topic = Ways; number = r .first }))
@@ -131,6 +137,7 @@ askedInside l r = cond (isWord (r .word) Word.End) (ending l) (holding l)
 
 abbrev pub askedAt : Stage → Lead → Record → Plan
 askedAt Waiting l r = askedFirst l r
+askedAt Opened l r = askedOpened l r
 askedAt Gathering l r = askedBefore l r
 askedAt Playing l r = askedAfter l r
 askedAt Batching l r = askedInside l r
@@ -139,11 +146,31 @@ askedAt Over l r = noTask l
 unfoldable pub asked : Lead → Record → Plan
 asked l r = askedAt (l .stage) l r
 
+-- ---- the marks
+
+-- is the line a `pay`, where marks are gathered?
+abbrev pub gathersPay : Stage → Record → Bool
+gathersPay Waiting r = false
+gathersPay Opened r = isWord (r .word) Pay
+gathersPay Gathering r = isWord (r .word) Pay
+gathersPay Playing r = false
+gathersPay Batching r = false
+gathersPay Over r = false
+
+-- is it one that is taken: is there no `move` yet?
+unfoldable pub takesPay : Lead → Record → Bool
+takesPay l r = eqb (l .count) 0 && gathersPay (l .stage) r
+
+-- The marks behind a line, eight words for each kind: a `pay` that is taken sets its state's in the words of its kind. Every other line leaves them as they were.
+unfoldable pub filedPay : Lead → Record → List ℕ → List ℕ
+filedPay l r marks = cond (takesPay l r) (withMark marks (512 * (r .second - 1) + r .first)) marks
+
 -- ---- the moves' numbers
 
 -- is the line a `move`, where moves are gathered?
 abbrev pub gathersMove : Stage → Record → Bool
 gathersMove Waiting r = false
+gathersMove Opened r = isWord (r .word) Move
 gathersMove Gathering r = isWord (r .word) Move
 gathersMove Playing r = false
 gathersMove Batching r = false
@@ -163,6 +190,7 @@ filedMove l r ns = cond (takesMove l r && leb (l .count + 2) (length ns)) (overw
 -- is the line one of a batch, other than its `end`?
 abbrev pub insideLine : Stage → Record → Bool
 insideLine Waiting r = false
+insideLine Opened r = false
 insideLine Gathering r = false
 insideLine Playing r = false
 insideLine Batching r = not (isWord (r .word) Word.End)
@@ -197,6 +225,7 @@ filed l r ns = filedLine l r (filedMove l r ns)
 
 abbrev pub isOver : Stage → Bool
 isOver Waiting = false
+isOver Opened = false
 isOver Gathering = false
 isOver Playing = false
 isOver Batching = false

@@ -12,24 +12,25 @@ use table::Position;
 use table::Refusal;
 ghost use mathlib.Core.Path.{_≡_};
 ghost use Rattle.line.specs.Records.{recordOf};
-ghost use Rattle.lead.specs.Asked.{firstLead, staged as Asked·staged, noTask, refusing as Asked·refusing, changing as Asked·changing, questioning as Asked·questioning, batching as Asked·batching, holding as Asked·holding, isFull, askedFirst, askedMove, askedBefore, requestOf, askedAfter, askedInside, asked, takesMove, filedMove, takesLine, lineRead, filedLine, filed, isOver};
+ghost use Rattle.lead.specs.Asked.{firstLead, staged as Asked·staged, noTask, refusing as Asked·refusing, changing as Asked·changing, questioning as Asked·questioning, batching as Asked·batching, holding as Asked·holding, isFull, askedFirst, askedMove, askedBefore, askedOpened, requestOf, askedAfter, askedInside, asked, takesPay, filedPay, takesMove, filedMove, takesLine, lineRead, filedLine, filed, isOver};
 
-// How far the lead has come: no line yet, before `go`, after it, inside a batch, or past a refusal that ends the run.
+// How far the lead has come: no line yet, straight behind `game`, before `go`, after it, inside a batch, or past a refusal that ends the run.
 pub enum Stage {
     Waiting,
+    Opened,
     Gathering,
     Playing,
     Batching,
     Over,
 }
 
-// What is held from line to line beside the session and a list of numbers. Before `go`: N, the start state, the marks, and how many numbers of the list are the
-// moves'. Inside a batch: how many are its lines'.
+// What is held from line to line beside the session, the marks and a list of numbers. Before `go`: N, the start state, the count of kinds, and how many numbers of the list are the
+// moves'. Inside a batch: how many are its lines'. The marks are lent beside it: here they would be copied at each line.
 pub struct Lead {
     pub stage: Stage,
     pub size: u16,
     pub start: u16,
-    pub words: [u64; 8],
+    pub kinds: u16,
     pub count: u16,
 }
 
@@ -62,6 +63,9 @@ pub struct Plan {
     pub task: Task,
 }
 
+// The bits of a kind's eight words.
+const BITS: usize = 512;
+
 // The numbers of 65 lines of a batch. Lines behind these are not held: the 65th is refused, whatever it is.
 const HELD: u16 = 195;
 
@@ -73,7 +77,7 @@ pub fn first_lead() -> Lead
         stage: Stage::Waiting,
         size: 0,
         start: 0,
-        words: [0; 8],
+        kinds: 1,
         count: 0,
     }
 }
@@ -82,12 +86,11 @@ pub fn first_lead() -> Lead
 pub fn staged(stage: Stage, lead: Lead) -> Lead
     ensures { λ r. ⌜ r ≡ Asked·staged stage lead ⌝ }
 {
-    let words = lead.words;
     Lead {
         stage,
         size: lead.size,
         start: lead.start,
-        words,
+        kinds: lead.kinds,
         count: lead.count,
     }
 }
@@ -122,10 +125,10 @@ fn ask_first(lead: Lead, r: Record) -> Plan
     let word = r.word;
     if is_word(word, Word::Game) {
         return no_task(Lead {
-            stage: Stage::Gathering,
+            stage: Stage::Opened,
             size: r.first,
             start: r.second,
-            words: [0; 8],
+            kinds: 1,
             count: 0,
         });
     }
@@ -146,12 +149,11 @@ fn ask_move(lead: Lead) -> Plan
     if is_full(lead) {
         return refusing(Stage::Over, lead, 5);
     }
-    let words = lead.words;
     no_task(Lead {
         stage: Stage::Gathering,
         size: lead.size,
         start: lead.start,
-        words,
+        kinds: lead.kinds,
         count: lead.count + 2,
     })
 }
@@ -163,15 +165,7 @@ fn ask_before(lead: Lead, r: Record) -> Plan
     let word = r.word;
     if is_word(word, Word::Pay) {
         if lead.count == 0 {
-            let words = lead.words;
-            let marked = marks::with_mark(words, wide(r.first));
-            return no_task(Lead {
-                stage: Stage::Gathering,
-                size: lead.size,
-                start: lead.start,
-                words: marked,
-                count: 0,
-            });
+            return no_task(staged(Stage::Gathering, lead));
         }
     }
     if is_word(word, Word::Move) {
@@ -184,6 +178,23 @@ fn ask_before(lead: Lead, r: Record) -> Plan
         };
     }
     refusing(Stage::Over, lead, 1)
+}
+
+// Straight behind `game`: `kinds`, or what may follow without it.
+fn ask_opened(lead: Lead, r: Record) -> Plan
+    ensures { λ p. ⌜ p ≡ askedOpened lead r ⌝ }
+{
+    let word = r.word;
+    if is_word(word, Word::Kinds) {
+        return no_task(Lead {
+            stage: Stage::Gathering,
+            size: lead.size,
+            start: lead.start,
+            kinds: r.first,
+            count: 0,
+        });
+    }
+    ask_before(lead, r)
 }
 
 // A change is asked of the session.
@@ -220,10 +231,16 @@ fn request_of(r: Record) -> Request
         return Request::Change(Op::Cut { from, to });
     }
     if is_word(word, Word::Mark) {
-        return Request::Change(Op::Mark { state: from });
+        return Request::Change(Op::Mark {
+            state: from,
+            kind: to,
+        });
     }
     if is_word(word, Word::Unmark) {
-        return Request::Change(Op::Unmark { state: from });
+        return Request::Change(Op::Unmark {
+            state: from,
+            kind: to,
+        });
     }
     if is_word(word, Word::Begin) {
         return Request::Begin;
@@ -244,12 +261,11 @@ fn request_of(r: Record) -> Request
 fn batching(lead: Lead, count: u16) -> Lead
     ensures { λ r. ⌜ r ≡ Asked·batching lead count ⌝ }
 {
-    let words = lead.words;
     Lead {
         stage: Stage::Batching,
         size: lead.size,
         start: lead.start,
-        words,
+        kinds: lead.kinds,
         count,
     }
 }
@@ -303,6 +319,7 @@ fn takes_move(lead: Lead, r: Record) -> bool
     let stage = lead.stage;
     match stage {
         Stage::Waiting => false,
+        Stage::Opened => is_word(word, Word::Move),
         Stage::Gathering => is_word(word, Word::Move),
         Stage::Playing => false,
         Stage::Batching => false,
@@ -323,6 +340,34 @@ fn file_move(lead: Lead, r: Record, numbers: &mut [u16])
     }
 }
 
+// Is the line a `pay` that is taken: before `go`, and before any `move`?
+fn takes_pay(lead: Lead, r: Record) -> bool
+    ensures { λ b. ⌜ b ≡ takesPay lead r ⌝ }
+{
+    if 0 < lead.count {
+        return false;
+    }
+    let word = r.word;
+    let stage = lead.stage;
+    match stage {
+        Stage::Waiting => false,
+        Stage::Opened => is_word(word, Word::Pay),
+        Stage::Gathering => is_word(word, Word::Pay),
+        Stage::Playing => false,
+        Stage::Batching => false,
+        Stage::Over => false,
+    }
+}
+
+// Sets the mark of a `pay` that is taken, in the words of its kind.
+fn file_pay(lead: Lead, r: Record, marks: &mut [u64; 32])
+    ensures { λ p. ⌜ now (marks .exit) ≡ filedPay lead r (now (marks .entry)) ⌝ }
+{
+    if takes_pay(lead, r) {
+        marks::set_mark(marks, BITS * wide(look::down(r.second)) + wide(r.first));
+    }
+}
+
 // Is the line one of a batch that is held?
 fn takes_line(lead: Lead, r: Record) -> bool
     ensures { λ b. ⌜ b ≡ takesLine lead r ⌝ }
@@ -334,6 +379,7 @@ fn takes_line(lead: Lead, r: Record) -> bool
     let stage = lead.stage;
     match stage {
         Stage::Waiting => false,
+        Stage::Opened => false,
         Stage::Gathering => false,
         Stage::Playing => false,
         Stage::Batching => !is_word(word, Word::End),
@@ -371,20 +417,31 @@ fn file_line(lead: Lead, r: Record, numbers: &mut [u16])
     }
 }
 
-// What a line asks for, and the numbers behind it.
-pub fn read(lead: Lead, numbers: &mut [u16], bytes: &[u8]) -> Plan
+// What a line asks for, and the marks and the numbers behind it.
+pub fn read(lead: Lead, marks: &mut [u64; 32], numbers: &mut [u16], bytes: &[u8]) -> Plan
     ensures { λ p. ⌜ p ≡ asked lead (recordOf (now (bytes .entry))) ⌝ }
+    ensures { λ p. ⌜ now (marks .exit) ≡ filedPay lead (recordOf (now (bytes .entry))) (now (marks .entry)) ⌝ }
     ensures { λ p. ⌜ now (numbers .exit) ≡ filed lead (recordOf (now (bytes .entry))) (now (numbers .entry)) ⌝ }
 {
     let r = line::read_record(bytes);
-    file_move(lead, r, numbers);
-    file_line(lead, r, numbers);
     let stage = lead.stage;
     match stage {
         Stage::Waiting => ask_first(lead, r),
-        Stage::Gathering => ask_before(lead, r),
+        Stage::Opened => {
+            file_pay(lead, r, marks);
+            file_move(lead, r, numbers);
+            ask_opened(lead, r)
+        }
+        Stage::Gathering => {
+            file_pay(lead, r, marks);
+            file_move(lead, r, numbers);
+            ask_before(lead, r)
+        }
         Stage::Playing => ask_after(lead, r),
-        Stage::Batching => ask_inside(lead, r),
+        Stage::Batching => {
+            file_line(lead, r, numbers);
+            ask_inside(lead, r)
+        }
         Stage::Over => no_task(lead),
     }
 }
@@ -396,6 +453,7 @@ pub fn is_over(lead: Lead) -> bool
     let stage = lead.stage;
     match stage {
         Stage::Waiting => false,
+        Stage::Opened => false,
         Stage::Gathering => false,
         Stage::Playing => false,
         Stage::Batching => false,

@@ -1,25 +1,25 @@
 -- What stands behind a field tells the fields behind it, and a word with the fields behind it is the record that the code makes. Assumes nothing.
 use mathlib.Core.Path.{_≡_, refl, sym, ap, subst, _∙_}
 use mathlib.Core.List.{List, [], _∷_, map}
-use mathlib.Core.Bool.{Bool, true, false, _&&_, cond}
-use Prim.Native.Nat.{ℕ, _+_, _≤_, _<_}
-use native.Mathlib.Decide.{decLt}
+use mathlib.Core.Bool.{Bool, true, false, _&&_, _||_, cond, and-true, and-false}
+use Prim.Native.Nat.{ℕ, suc, _+_, _≤_, _<_}
+use native.Mathlib.Decide.{ℕ-discrete, decLt}
 use native.Mathlib.Nat.{zero-add}
 use native.Mathlib.Omega.{arith}
 use borrow.Author.Tests.{eq-eqb, ne-eqb, lt-ltb, le-ltb}
-use lib.Dec.{eqb}
-use lib.ListN.{length, getD, take, length-take}
-use lib.Seq.{take-all}
+use lib.Dec.{eqb, ltb}
+use lib.ListN.{length, getD, take, drop, length-take}
+use lib.Seq.{take-all, take-length}
 use Rattle.line.specs.Fields.{tab, fieldsOf, fieldAt}
 use Rattle.line.specs.Numbers.{all, value, isNumber, numberOf}
-use Rattle.line.specs.Words.{countOf, limitOf}
-use Rattle.line.specs.Records.{unreadable, wordOf, worded, fromFields, recordOf}
-use Rattle.line.specs.Items.{asItem, itemAt, filledWith}
+use Rattle.line.specs.Words.{countOf, limitOf, kindOf, takesKind}
+use Rattle.line.specs.Records.{unreadable, wordOf, isKind, fieldsFit, worded, fromFields, recordOf}
+use Rattle.line.specs.Items.{asItem, itemAt, secondLimit, filledWith}
 use Rattle.line.specs.declared.Item.{Item}
 use Rattle.line.specs.declared.Item.the-variants as I
 use Rattle.line.specs.declared.Number.the-variants as N
 use Rattle.line.specs.declared.Word.{Word}
-use Rattle.line.specs.declared.Word.the-variants.{Game, Pay, Move, Go, Add, Cut, Mark, Unmark, Begin, End, Ways, Unreadable}
+use Rattle.line.specs.declared.Word.the-variants.{Game, Pay, Move, Go, Add, Cut, Mark, Unmark, Begin, End, Ways, Kinds, Unreadable}
 use Rattle.line.proofs.Fields.{behind-none, fieldsBehind, field-within, fields-at, behind-field}
 
 -- ---- what stands behind a field
@@ -54,72 +54,117 @@ item-tells limit l at i k e = elim (decLt at (length l)) [
 
 -- ---- a word and the fields behind it
 
-and-true : (b : Bool) → b && true ≡ b
-and-true true = refl
-and-true false = refl
+-- each field is a number within its limit, and none is without a limit
+unfoldable within : List ℕ → List (List ℕ) → Bool
+within limits [] = true
+within [] (f ∷ fs) = false
+within (n ∷ limits) (f ∷ fs) = isNumber n f && within limits fs
 
-and-false : (b : Bool) → b && false ≡ false
-and-false true = refl
-and-false false = refl
+within-all : (limit : ℕ) (fs : List (List ℕ)) → length fs ≤ 2 → within (limit ∷ limit ∷ []) fs ≡ all (isNumber limit) fs
+unfolding within all
+within-all limit [] h = refl
+within-all limit (f ∷ []) h = refl
+within-all limit (f ∷ g ∷ []) h = refl
+within-all limit (f ∷ g ∷ x ∷ rest) h = absurd (omega arith)
 
-worded-good : (w : Word) (fs : List (List ℕ)) → all (isNumber (limitOf w)) fs ≡ true
-    → filledWith w (length fs) (getD (map value fs) 0 0) (getD (map value fs) 1 0) ≡ worded w fs
+-- a word takes up to two numbers, or one and a kind
+data Takes (w : Word) : Type 0 where
+  numbers : takesKind w ≡ false → countOf w ≤ 2 → Takes w
+  kind : takesKind w ≡ true → countOf w ≡ 1 → Takes w
+
+takes : (w : Word) → Takes w
+takes Game = numbers refl (omega arith)
+takes Pay = kind refl refl
+takes Move = numbers refl (omega arith)
+takes Go = numbers refl (omega arith)
+takes Add = numbers refl (omega arith)
+takes Cut = numbers refl (omega arith)
+takes Mark = kind refl refl
+takes Unmark = kind refl refl
+takes Begin = numbers refl (omega arith)
+takes End = numbers refl (omega arith)
+takes Ways = numbers refl (omega arith)
+takes Kinds = numbers refl (omega arith)
+takes Unreadable = numbers refl (omega arith)
+
+pub two-at-most : (w : Word) → countOf w ≤ 2
+two-at-most w = elim (takes w) [
+  | numbers k h ↦ h
+  | kind k h ↦ omega arith
+]
+
+kind-alone : (a b v : Bool) → a && (b && true) && v ≡ a && true && (b && v && true)
+kind-alone true true v = sym (and-true v)
+kind-alone true false v = refl
+kind-alone false b v = refl
+
+-- the law below, for a word with one number and a kind; d is the kind that is meant where none is written
+kind-fits : (limit d : ℕ) (fs : List (List ℕ)) → within (limit ∷ 4 ∷ []) fs && (eqb (length fs) 1 || eqb (length fs) 2 && ltb 0 (getD (map value fs) 1 d))
+    ≡ all (isNumber limit) (take 1 fs) && (eqb (length fs) 1 || eqb (length fs) 2 && all isKind (drop 1 fs))
+unfolding within all isKind
+kind-fits limit d [] = refl
+kind-fits limit d (f ∷ []) = refl
+kind-fits limit d (f ∷ g ∷ []) = kind-alone (isNumber limit f) (isNumber 4 g) (ltb 0 (value g))
+kind-fits limit d (f ∷ g ∷ x ∷ rest) =
+    rw (ne-eqb (length (f ∷ g ∷ x ∷ rest)) 1 (λ e. omega arith), ne-eqb (length (f ∷ g ∷ x ∷ rest)) 2 (λ e. omega arith)) (simp and-false)
+
+-- the limits under which the numbers behind a word are read
+abbrev limitsOf : Word → List ℕ
+limitsOf w = limitOf w ∷ secondLimit w ∷ []
+
+-- the fields fit a word where its numbers can be read and it takes so many of them
+numbers-fit : (w : Word) (fs : List (List ℕ)) → Takes w
+    → within (limitsOf w) fs
+    && (eqb (length fs) (countOf w) || takesKind w && eqb (length fs) (suc (countOf w)) && ltb 0 (getD (map value fs) 1 (kindOf w)))
+    ≡ fieldsFit w fs
+unfolding secondLimit fieldsFit
+numbers-fit w fs (numbers k h) = elim (ℕ-discrete (length fs) (countOf w)) [
+  | yes e ↦ rw (k, ← e, eq-eqb (length fs) (length fs) refl, take-length fs, within-all (limitOf w) fs (omega arith))
+  | no d ↦ rw (k, ne-eqb (length fs) (countOf w) d) (simp and-false)
+]
+numbers-fit w fs (kind k h) = rw (k, h) (kind-fits (limitOf w) (kindOf w) fs)
+
+worded-good : (w : Word) (fs : List (List ℕ)) → within (limitsOf w) fs ≡ true
+    → filledWith w (length fs) (getD (map value fs) 0 0) (getD (map value fs) 1 (kindOf w)) ≡ worded w fs
 unfolding worded filledWith
-worded-good w fs e = rw (e, and-true (eqb (length fs) (countOf w)))
+worded-good w fs e = rw (← numbers-fit w fs (takes w), e)
 
-worded-bad : (w : Word) (fs : List (List ℕ)) → all (isNumber (limitOf w)) fs ≡ false → unreadable ≡ worded w fs
+worded-bad : (w : Word) (fs : List (List ℕ)) → within (limitsOf w) fs ≡ false → unreadable ≡ worded w fs
 unfolding worded
-worded-bad w fs e = rw (e, and-false (eqb (length fs) (countOf w)))
-
-two-at-most : (w : Word) → countOf w ≤ 2
-two-at-most Game = omega arith
-two-at-most Pay = omega arith
-two-at-most Move = omega arith
-two-at-most Go = omega arith
-two-at-most Add = omega arith
-two-at-most Cut = omega arith
-two-at-most Mark = omega arith
-two-at-most Unmark = omega arith
-two-at-most Begin = omega arith
-two-at-most End = omega arith
-two-at-most Ways = omega arith
-two-at-most Unreadable = omega arith
-
-worded-many : (w : Word) (fs : List (List ℕ)) → 2 < length fs → unreadable ≡ worded w fs
-unfolding worded
-worded-many w fs h = rw (ne-eqb (length fs) (countOf w) (λ e. omega (arith, two-at-most w)))
+worded-bad w fs e = rw (← numbers-fit w fs (takes w), e)
 
 -- ---- the ways in which a line goes on behind its word
 
-pub none-behind : (w : Word) (l : List ℕ) (at : ℕ) → Tells (limitOf w) l at I.End → filledWith w 0 0 0 ≡ worded w (fieldsBehind l at)
-unfolding all
+pub none-behind : (w : Word) (l : List ℕ) (at : ℕ) → Tells (limitOf w) l at I.End → filledWith w 0 0 (kindOf w) ≡ worded w (fieldsBehind l at)
+unfolding within
 none-behind w l at t = worded-good w [] refl ∙ rw t
 
 pub bad-behind : (w : Word) (l : List ℕ) (at : ℕ) → Tells (limitOf w) l at I.Bad → unreadable ≡ worded w (fieldsBehind l at)
-unfolding all
+unfolding within
 bad-behind w l at t = worded-bad w (fieldsBehind l at) (rw (t .2, t .3))
 
-pub one-behind : (w : Word) (l : List ℕ) (at v end : ℕ) → Tells (limitOf w) l at (I.Is v end) → Tells (limitOf w) l end I.End
-    → filledWith w 1 v 0 ≡ worded w (fieldsBehind l at)
-unfolding all
+pub one-behind : (w : Word) (l : List ℕ) (at v end : ℕ) → Tells (limitOf w) l at (I.Is v end) → Tells (secondLimit w) l end I.End
+    → filledWith w 1 v (kindOf w) ≡ worded w (fieldsBehind l at)
+unfolding within
 one-behind w l at v end t u = rw (t .1, u, sym (t .3)) (worded-good w (t .0 ∷ []) (rw (t .2)))
 
-pub bad-second : (w : Word) (l : List ℕ) (at v end : ℕ) → Tells (limitOf w) l at (I.Is v end) → Tells (limitOf w) l end I.Bad
+pub bad-second : (w : Word) (l : List ℕ) (at v end : ℕ) → Tells (limitOf w) l at (I.Is v end) → Tells (secondLimit w) l end I.Bad
     → unreadable ≡ worded w (fieldsBehind l at)
-unfolding all
+unfolding within
 bad-second w l at v end t u = worded-bad w (fieldsBehind l at) (rw (t .1, u .2, t .2, u .3))
 
-pub two-behind : (w : Word) (l : List ℕ) (at v end u last : ℕ) → Tells (limitOf w) l at (I.Is v end) → Tells (limitOf w) l end (I.Is u last)
+pub two-behind : (w : Word) (l : List ℕ) (at v end u last : ℕ) → Tells (limitOf w) l at (I.Is v end) → Tells (secondLimit w) l end (I.Is u last)
     → last ≡ length l → filledWith w 2 v u ≡ worded w (fieldsBehind l at)
-unfolding all
+unfolding within
 two-behind w l at v end u last s t e =
     rw (s .1, t .1, behind-none tab ([] ∷ []) l last (omega arith), sym (s .3), sym (t .3))
     (worded-good w (s .0 ∷ t .0 ∷ []) (rw (s .2, t .2)))
 
-pub more-behind : (w : Word) (l : List ℕ) (at v end u last : ℕ) → Tells (limitOf w) l at (I.Is v end) → Tells (limitOf w) l end (I.Is u last)
+pub more-behind : (w : Word) (l : List ℕ) (at v end u last : ℕ) → Tells (limitOf w) l at (I.Is v end) → Tells (secondLimit w) l end (I.Is u last)
     → (last ≡ length l → ⊥) → unreadable ≡ worded w (fieldsBehind l at)
+unfolding within
 more-behind w l at v end u last s t d =
-    rw (s .1, t .1, behind-field l last (omega (arith, t .4))) (worded-many w _ (omega arith))
+    worded-bad w (fieldsBehind l at) (rw (s .1, t .1, behind-field l last (omega (arith, t .4)), s .2, t .2))
 
 -- ---- a line
 

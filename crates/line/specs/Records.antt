@@ -1,15 +1,15 @@
 -- Document 01, "Lines on the lead": the words, and a line as a record. Assumes nothing.
-use Prim.Native.Nat.{ℕ}
-use mathlib.Core.Bool.{Bool, true, false, cond, _&&_}
+use Prim.Native.Nat.{ℕ, suc}
+use mathlib.Core.Bool.{Bool, true, false, cond, _&&_, _||_}
 use mathlib.Core.List.{List, [], _∷_, map}
 use lib.Dec.{eqb, ltb}
-use lib.ListN.{length, getD}
+use lib.ListN.{length, getD, take, drop}
 use Rattle.line.specs.declared.Word.{Word}
-use Rattle.line.specs.declared.Word.the-variants.{Game, Pay, Move, Go, Add, Cut, Mark, Unmark, Begin, End, Ways, Unreadable}
+use Rattle.line.specs.declared.Word.the-variants.{Game, Pay, Move, Go, Add, Cut, Mark, Unmark, Begin, End, Ways, Kinds, Unreadable}
 use Rattle.line.specs.declared.Record.{Record}
 use Rattle.line.specs.Fields.{bytes, fieldsOf}
 use Rattle.line.specs.Numbers.{all, value, isNumber}
-use Rattle.line.specs.Words.{countOf, limitOf}
+use Rattle.line.specs.Words.{countOf, limitOf, kindOf, takesKind}
 
 -- equality of lists of bytes, as a test
 unfoldable pub sameBytes : List ℕ → List ℕ → Bool
@@ -32,6 +32,7 @@ words =
     ∷ (bytes "begin", Begin)
     ∷ (bytes "end", End)
     ∷ (bytes "ways", Ways)
+    ∷ (bytes "kinds", Kinds)
     ∷ []
 
 -- the word that a field spells, by the table; an unknown one makes the line unreadable
@@ -45,10 +46,20 @@ wordOf field = wordIn words field
 abbrev pub unreadable : Record
 unreadable = record { word = Unreadable; first = 0; second = 0 }
 
--- a word with the fields behind it: "a wrong count of fields and a bad number" make it unreadable; a number that the word does not take is 0
+-- Ticket 9: "A kind outside 1 to 4 gets 1."
+unfoldable pub isKind : List ℕ → Bool
+isKind field = isNumber 4 field && ltb 0 (value field)
+
+-- The fields behind a word: its numbers, and behind them a kind where it takes one and one is written. "a wrong count of fields and a bad number" do not fit.
+unfoldable pub fieldsFit : Word → List (List ℕ) → Bool
+fieldsFit w fields =
+    all (isNumber (limitOf w)) (take (countOf w) fields)
+    && (eqb (length fields) (countOf w) || (takesKind w && eqb (length fields) (suc (countOf w)) && all isKind (drop (countOf w) fields)))
+
+-- a word with the fields behind it; a number that the word does not take is 0, and a kind "1 if left out"
 unfoldable pub worded : Word → List (List ℕ) → Record
-worded w fields = cond (eqb (length fields) (countOf w) && all (isNumber (limitOf w)) fields)
-    (record { word = w; first = getD (map value fields) 0 0; second = getD (map value fields) 1 0 })
+worded w fields = cond (fieldsFit w fields)
+    (record { word = w; first = getD (map value fields) 0 0; second = getD (map value fields) 1 (kindOf w) })
     unreadable
 
 unfoldable pub fromFields : List (List ℕ) → Record

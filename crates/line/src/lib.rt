@@ -6,7 +6,7 @@ ghost use Rattle.line.specs.Fields.{upTo, fieldAt};
 ghost use Rattle.line.specs.Numbers.{numberOf};
 ghost use Rattle.line.specs.Records.{sameBytes, wordOf, unreadable as Records·unreadable, recordOf};
 ghost use Rattle.line.specs.Words.{form as Words·form, formOf, isWord};
-ghost use Rattle.line.specs.Items.{itemAt, filledWith};
+ghost use Rattle.line.specs.Items.{itemAt, secondLimit, filledWith};
 
 // The words of the lead, as bytes.
 pub const GAME: [u8; 4] = *b"game";
@@ -31,6 +31,8 @@ pub const END: [u8; 3] = *b"end";
 
 pub const WAYS: [u8; 4] = *b"ways";
 
+pub const KINDS: [u8; 5] = *b"kinds";
+
 pub const TAB: u8 = 9;
 
 pub const NEWLINE: u8 = 10;
@@ -54,17 +56,20 @@ pub enum Word {
     Begin,
     End,
     Ways,
+    Kinds,
     Unreadable,
 }
 
-// What a word asks for: a number that tells it apart, how many numbers follow it, and how large they may be.
+// What a word asks for: a number that tells it apart, how many numbers follow it, how large they may be, and the kind that is meant where
+// none follows these, 0 for a word that takes no kind.
 struct Form {
     tag: u16,
     count: u16,
     limit: u16,
+    kind: u16,
 }
 
-// What a line says: its word and its numbers, 0 where the word takes fewer.
+// What a line says: its word and its numbers, 0 where the word takes fewer. A kind is the second of them, 1 where none is written.
 pub struct Record {
     pub word: Word,
     pub first: u16,
@@ -158,45 +163,43 @@ fn read_word(s: &[u8]) -> Word
     ensures { λ r. ⌜ r ≡ wordOf (now (s .entry)) ⌝ }
 {
     if same(s, &GAME) {
-        return Word::Game;
+        Word::Game
+    } else if same(s, &PAY) {
+        Word::Pay
+    } else if same(s, &MOVE) {
+        Word::Move
+    } else if same(s, &GO) {
+        Word::Go
+    } else if same(s, &ADD) {
+        Word::Add
+    } else if same(s, &CUT) {
+        Word::Cut
+    } else if same(s, &MARK) {
+        Word::Mark
+    } else if same(s, &UNMARK) {
+        Word::Unmark
+    } else if same(s, &BEGIN) {
+        Word::Begin
+    } else if same(s, &END) {
+        Word::End
+    } else if same(s, &WAYS) {
+        Word::Ways
+    } else if same(s, &KINDS) {
+        Word::Kinds
+    } else {
+        Word::Unreadable
     }
-    if same(s, &PAY) {
-        return Word::Pay;
-    }
-    if same(s, &MOVE) {
-        return Word::Move;
-    }
-    if same(s, &GO) {
-        return Word::Go;
-    }
-    if same(s, &ADD) {
-        return Word::Add;
-    }
-    if same(s, &CUT) {
-        return Word::Cut;
-    }
-    if same(s, &MARK) {
-        return Word::Mark;
-    }
-    if same(s, &UNMARK) {
-        return Word::Unmark;
-    }
-    if same(s, &BEGIN) {
-        return Word::Begin;
-    }
-    if same(s, &END) {
-        return Word::End;
-    }
-    if same(s, &WAYS) {
-        return Word::Ways;
-    }
-    Word::Unreadable
 }
 
-fn row(tag: u16, count: u16, limit: u16) -> Form
-    ensures { λ r. ⌜ r ≡ Words·form tag count limit ⌝ }
+fn row(tag: u16, count: u16, limit: u16, kind: u16) -> Form
+    ensures { λ r. ⌜ r ≡ Words·form tag count limit kind ⌝ }
 {
-    Form { tag, count, limit }
+    Form {
+        tag,
+        count,
+        limit,
+        kind,
+    }
 }
 
 // The table of words.
@@ -204,18 +207,19 @@ fn form_of(word: Word) -> Form
     ensures { λ r. ⌜ r ≡ formOf word ⌝ }
 {
     match word {
-        Word::Game => row(0, 2, 65535),
-        Word::Pay => row(1, 1, 511),
-        Word::Move => row(2, 2, 65535),
-        Word::Go => row(3, 0, 65535),
-        Word::Add => row(4, 2, 65535),
-        Word::Cut => row(5, 2, 65535),
-        Word::Mark => row(6, 1, 65535),
-        Word::Unmark => row(7, 1, 65535),
-        Word::Begin => row(8, 0, 65535),
-        Word::End => row(9, 0, 65535),
-        Word::Ways => row(10, 1, 65535),
-        Word::Unreadable => row(11, 0, 65535),
+        Word::Game => row(0, 2, 65535, 0),
+        Word::Pay => row(1, 1, 511, 1),
+        Word::Move => row(2, 2, 65535, 0),
+        Word::Go => row(3, 0, 65535, 0),
+        Word::Add => row(4, 2, 65535, 0),
+        Word::Cut => row(5, 2, 65535, 0),
+        Word::Mark => row(6, 1, 65535, 1),
+        Word::Unmark => row(7, 1, 65535, 1),
+        Word::Begin => row(8, 0, 65535, 0),
+        Word::End => row(9, 0, 65535, 0),
+        Word::Ways => row(10, 1, 65535, 0),
+        Word::Kinds => row(11, 1, 65535, 0),
+        Word::Unreadable => row(12, 0, 65535, 0),
     }
 }
 
@@ -254,17 +258,29 @@ fn read_item(line: &[u8], at: usize, limit: u16) -> Item
     }
 }
 
-// The record of a word behind which so many numbers stand.
+// How large the number behind the first may be: a kind is at most 4.
+fn second_limit(word: Word) -> u16
+    ensures { λ r. ⌜ r ≡ secondLimit word ⌝ }
+{
+    let form = form_of(word);
+    if 0 < form.kind { 4 } else { form.limit }
+}
+
+// The record of a word behind which so many numbers stand: as many as it takes, or a kind behind them, which is not 0.
 fn filled(word: Word, count: u16, first: u16, second: u16) -> Record
     ensures { λ r. ⌜ r ≡ filledWith word count first second ⌝ }
 {
     let form = form_of(word);
+    let record = Record {
+        word,
+        first,
+        second,
+    };
     if count == form.count {
-        return Record {
-            word,
-            first,
-            second,
-        };
+        return record;
+    }
+    if 0 < form.kind && count == form.count + 1 && 0 < second {
+        return record;
     }
     unreadable()
 }
@@ -279,12 +295,11 @@ pub fn read_record(line: &[u8]) -> Record
     let name = field(line, 0);
     let word = read_word(name);
     let form = form_of(word);
-    let limit = form.limit;
-    match read_item(line, name.len(), limit) {
-        Item::End => filled(word, 0, 0, 0),
+    match read_item(line, name.len(), form.limit) {
+        Item::End => filled(word, 0, 0, form.kind),
         Item::Bad => unreadable(),
-        Item::Is(first, end) => match read_item(line, end, limit) {
-            Item::End => filled(word, 1, first, 0),
+        Item::Is(first, end) => match read_item(line, end, second_limit(word)) {
+            Item::End => filled(word, 1, first, form.kind),
             Item::Bad => unreadable(),
             Item::Is(second, last) => {
                 if last == line.len() {

@@ -6,8 +6,8 @@ use mathlib.Core.List.{List, [], _∷_, _++_, append-nil, append-assoc, map, map
 use Prim.Native.Nat.{ℕ}
 use native.Mathlib.Omega.{arith}
 use Rattle.plain.specs.Search.{Verdict, none, lasso, unfinished, verdict, count}
-use Rattle.plain.specs.Table.{Table, final}
-use Rattle.plain.specs.Refusals.{Trial, accepted, refused, loadTrial, full}
+use Rattle.plain.specs.Table.{Table, printedVerdict, final}
+use Rattle.plain.specs.Refusals.{Trial, accepted, refused, loadTrial}
 use Rattle.plain.specs.Machine.{Change, add, cut, BatchLine, makes, other, changesIn, Update, single, batch, changesOf, applied, Answer, answer, answerLine, loadAnswer, tableOf, Call, callFor, trialOf, answerTo, tableAfter, Line, noLine, numbered}
 use Rattle.plain.specs.Questions.{Reply, noReply, degrees, replyTo, replyLine}
 use Rattle.plain.specs.Claims.{Arises, loaded, totalled, tableBehind}
@@ -18,9 +18,9 @@ use Rattle.plain.proofs.Views.{view-refl, same-call, same-reply}
 use Rattle.plain.proofs.Orders.{told-alike, same-views, brings-back, cut-follows}
 use Rattle.line.specs.Records.{recordOf}
 use Rattle.line.specs.Words.{isWord}
-use Rattle.line.specs.declared.Word.the-variants.{Game, Pay, Move, Go}
+use Rattle.line.specs.declared.Word.the-variants.{Game, Pay, Move, Go, Kinds}
 use Rattle.line.specs.declared.Record.{Record}
-use Rattle.watch.specs.Text.{Draft, Play, playOf, Held, waiting, gathering, playing, batching, ended, Step, quiet, empty, room, loadStep, loadOf, callOn, updateStep, Request, changing, beginning, ending, questioning, unknown, requestOf, playStep, batchStep, atFirst, beforeGo, afterGo, inBatch, step, printed, heldBehind}
+use Rattle.watch.specs.Text.{Draft, Play, playOf, Held, waiting, opened, gathering, playing, batching, ended, Step, quiet, empty, room, loadStep, loadOf, callOn, updateStep, Request, changing, beginning, ending, questioning, unknown, requestOf, playStep, batchStep, atFirst, moveMost, beforeGo, behindGame, afterGo, inBatch, step, printed, heldBehind}
 use Rattle.watch.specs.Truth.{All}
 use Rattle.watch.proofs.Records.{held-append, printed-append}
 use Rattle.watch.proofs.Truth.{Sound, right}
@@ -30,6 +30,7 @@ use Rattle.orders.specs.Texts.{NotNo, requested, Asking, nothing, one, s
 
 abbrev Tells : Held → List Line → Type 0
 Tells waiting v = Unit {0}
+Tells (opened d) v = Unit {0}
 Tells (gathering d) v = Unit {0}
 Tells (playing p) v = v ≡ answerLine (loadAnswer accepted (p .table))
 Tells (batching p xs) v = v ≡ answerLine (loadAnswer accepted (p .table))
@@ -43,18 +44,19 @@ cond-telling : (b : Bool) (v : List Line) (u w : Step) → Telling v u → Telli
 cond-telling true v u w h k = h
 cond-telling false v u w h k = k
 
--- an answer that has a verdict
-verdict-last : (before : List Line) (v : Verdict) (spent kept : ℕ) → v ≢ unfinished → lastVerdict before (answerLine (answer v spent kept)) ≡ answerLine (totalled (answer v spent kept))
-unfolding lastVerdict answerLine totalled totalLine
-verdict-last before none spent kept n = refl
-verdict-last before (lasso stem cycle) spent kept n = refl
-verdict-last before unfinished spent kept n = absurd (n refl)
+-- an answer that has a verdict, as it is printed
+verdict-last : (before : List Line) (t : Table) (v : Verdict) (spent kept : ℕ) → v ≢ unfinished
+    → lastVerdict before (answerLine (answer (printedVerdict t v) spent kept)) ≡ answerLine (totalled (answer (printedVerdict t v) spent kept))
+unfolding lastVerdict answerLine totalled totalLine printedVerdict
+verdict-last before t none spent kept n = refl
+verdict-last before t (lasso stem cycle) spent kept n = refl
+verdict-last before t unfinished spent kept n = absurd (n refl)
 
 load-telling : (x : Trial) (d : Draft) (v : List Line) → loadTrial (loadOf d) room ≡ x → Telling v (loadStep x d)
 unfolding lastVerdict loadAnswer
 load-telling accepted d v e =
     let t = tableOf (loadOf d) in
-    verdict-last v (verdict (final t)) (count (final t)) 0 (demand-2 t (loaded (loadOf d) room e) .ends) ∙ ap answerLine (fresh-reports t)
+    verdict-last v t (verdict (final t)) (count (final t)) 0 (demand-2 t (loaded (loadOf d) room e) .ends) ∙ ap answerLine (fresh-reports t)
 load-telling (refused n) d v e = tt
 
 call-telling : (c : Call) (t : Table) (v : List Line) → Arises t → v ≡ answerLine (loadAnswer accepted t)
@@ -65,7 +67,7 @@ call-telling c t v a e = by-trial (trialOf c t) refl
     by-trial : (x : Trial) → trialOf c t ≡ x → lastVerdict v (answerLine (answerTo c t)) ≡ answerLine (loadAnswer accepted (tableAfter c t))
     by-trial accepted k =
         let b : Arises (applied (c .update) t) = subst Arises (table-accepted c t k) (after-arises c t a k) in
-        ap (λ (w : Answer). lastVerdict v (answerLine w)) (answer-accepted c t k) ∙ verdict-last v _ _ _ (demand-2 (applied (c .update) t) b .ends)
+        ap (λ (w : Answer). lastVerdict v (answerLine w)) (answer-accepted c t k) ∙ verdict-last v (applied (c .update) t) _ _ _ (demand-2 (applied (c .update) t) b .ends)
         ∙ ap (λ (w : Answer). answerLine (totalled w)) (sym (answer-accepted c t k)) ∙ ap answerLine (after-reports c t a k)
     by-trial (refused n) k =
         ap (λ (w : Answer). lastVerdict v (answerLine w)) (answer-refused c t n k) ∙ e ∙ ap (λ (u : Table). answerLine (loadAnswer accepted u)) (sym (table-refused c t n k))
@@ -95,13 +97,18 @@ batch-telling ending p xs v a e = update-telling (batch xs) p v a e
 batch-telling (questioning q) p xs v a e = e
 batch-telling unknown p xs v a e = e
 
-telling : (p : Held) (r : Record) (v : List Line) → Sound p → Tells p v → Telling v (step p r)
-unfolding step atFirst beforeGo afterGo inBatch
-telling waiting r v s e = cond-telling (isWord (r .word) Game) v _ _ tt tt
-telling (gathering d) r v s e =
+before-telling : (d : Draft) (r : Record) (v : List Line) → Telling v (beforeGo d r)
+unfolding beforeGo
+before-telling d r v =
     cond-telling (isWord (r .word) Pay && empty (d .moves)) v _ _ tt
-    (cond-telling (isWord (r .word) Move) v _ _ (cond-telling (full (d .moves)) v _ _ tt tt)
+    (cond-telling (isWord (r .word) Move) v _ _ (cond-telling (moveMost (d .moves)) v _ _ tt tt)
     (cond-telling (isWord (r .word) Go) v _ _ (load-telling (loadTrial (loadOf d) room) d v refl) tt))
+
+telling : (p : Held) (r : Record) (v : List Line) → Sound p → Tells p v → Telling v (step p r)
+unfolding step atFirst behindGame afterGo inBatch
+telling waiting r v s e = cond-telling (isWord (r .word) Game) v _ _ tt tt
+telling (opened d) r v s e = cond-telling (isWord (r .word) Kinds) v _ _ tt (before-telling d r v)
+telling (gathering d) r v s e = before-telling d r v
 telling (playing p) r v s e = play-telling (requestOf r) p v s e
 telling (batching p xs) r v s e = batch-telling (requestOf r) p xs v s e
 telling ended r v s e = tt

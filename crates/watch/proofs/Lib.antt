@@ -1,6 +1,7 @@
 pub mod Texts
 pub mod Records
 pub mod Truth
+pub mod Marks
 pub mod Steps
 pub mod Writing
 pub mod Counting

@@ -3,6 +3,7 @@ use Prim.Native.Nat.{ℕ, min}
 use mathlib.Core.Path.{_≡_, ap, subst, _∙_}
 use mathlib.Core.List.{List}
 use lib.ListN.{length, take}
+use Rattle.plain.specs.Table.{byKind}
 use Rattle.session.specs.declared.Outcome.{Outcome}
 use Rattle.batch.specs.declared.Update.{Update}
 use Rattle.session.specs.declared.Session.{Session}
@@ -15,10 +16,10 @@ use Rattle.watch.proofs.Writing.{take-least}
 pub same-numbers : (l : Lead) (ns : List ℕ) (n k : ℕ) → n ≡ min k (length ns) → k ≡ l .count → take n ns ≡ numbersHeld l ns
 same-numbers l ns n k e f = ap (λ (m : ℕ). take m ns) (e ∙ ap (λ (m : ℕ). min m (length ns)) f) ∙ take-least (l .count) ns
 
-pub load-all : (l : Lead) (ns walk : List ℕ) (n k : ℕ) (r : Outcome) (walk′ : List ℕ) → n ≡ min k (length ns) → k ≡ l .count
-    → Loads (record { size = l .size; start = l .start; words = l .words; numbers = take n ns }) walk r walk′ → Loads (gathered l ns) walk r walk′
-load-all l ns walk n k r walk′ e f h =
-    subst (λ (xs : List ℕ). Loads (record { size = l .size; start = l .start; words = l .words; numbers = xs }) walk r walk′) (same-numbers l ns n k e f) h
+pub load-all : (l : Lead) (marks ns walk : List ℕ) (n k : ℕ) (r : Outcome) (walk′ : List ℕ) → n ≡ min k (length ns) → k ≡ l .count
+    → Loads (record { size = l .size; start = l .start; kinds = l .kinds; marks = byKind marks; numbers = take n ns }) walk r walk′ → Loads (gathered l marks ns) walk r walk′
+load-all l marks ns walk n k r walk′ e f h =
+    subst (λ (xs : List ℕ). Loads (record { size = l .size; start = l .start; kinds = l .kinds; marks = byKind marks; numbers = xs }) walk r walk′) (same-numbers l ns n k e f) h
 
 pub update-all : (asked : Update) (l : Lead) (ns : List ℕ) (s : Session) (walk : List ℕ) (n k : ℕ) (r : Outcome) (walk′ : List ℕ) → n ≡ min k (length ns) → k ≡ l .count
     → Updates (updateOf asked (take n ns)) s walk r walk′ → Updates (updateOf asked (numbersHeld l ns)) s walk r walk′

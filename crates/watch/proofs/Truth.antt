@@ -7,7 +7,7 @@ use mathlib.Core.List.{List, [], _∷_, map}
 use native.Mathlib.Omega.{arith}
 use Rattle.plain.specs.Search.{none, lasso, unfinished}
 use Rattle.plain.specs.Table.{Table}
-use Rattle.plain.specs.Refusals.{Trial, accepted, refused, loadTrial, full}
+use Rattle.plain.specs.Refusals.{Trial, accepted, refused, loadTrial}
 use Rattle.plain.specs.Machine.{BatchLine, Update, single, batch, applied, Answer, refusal, answer, answerLine, loadAnswer, tableOf, Call, trialOf, answerTo, tableAfter, after, Line, gameLine, roundLine, noneLine, noLine, waysLine}
 use Rattle.plain.specs.Claims.{Arises, loaded, LineTrue, NotNone}
 use Rattle.plain.proofs.Trials.{load-never-7}
@@ -17,14 +17,15 @@ use Rattle.plain.proofs.Loops.{loop-told}
 use Rattle.line.specs.Fields.{linesOf}
 use Rattle.line.specs.Records.{recordOf}
 use Rattle.line.specs.Words.{isWord}
-use Rattle.line.specs.declared.Word.the-variants.{Game, Pay, Move, Go}
+use Rattle.line.specs.declared.Word.the-variants.{Game, Pay, Move, Go, Kinds}
 use Rattle.line.specs.declared.Record.{Record}
-use Rattle.watch.specs.Text.{Draft, Play, playOf, Held, waiting, gathering, playing, batching, ended, Step, stop, empty, room, loadStep, loadOf, callOn, updateStep, Request, changing, beginning, ending, questioning, unknown, requestOf, playStep, batchStep, atFirst, beforeGo, afterGo, inBatch, step, counted}
+use Rattle.watch.specs.Text.{Draft, Play, playOf, Held, waiting, opened, gathering, playing, batching, ended, Step, stop, empty, room, loadStep, loadOf, callOn, updateStep, Request, changing, beginning, ending, questioning, unknown, requestOf, playStep, batchStep, atFirst, moveMost, beforeGo, behindGame, afterGo, inBatch, step, counted}
 use Rattle.watch.specs.Truth.{Verdictless, Says, SaysLoop, All, EachLine, True}
 
 -- the table that is held is one that a session can hold
 abbrev pub Sound : Held → Type 0
 Sound waiting = Unit {0}
+Sound (opened d) = Unit {0}
 Sound (gathering d) = Unit {0}
 Sound (playing p) = Arises (p .table)
 Sound (batching p xs) = Arises (p .table)
@@ -86,13 +87,18 @@ batch-right unknown p xs a = (tt, a)
 
 -- ---- one line
 
-pub right : (p : Held) (r : Record) → Sound p → Right (step p r)
-unfolding step atFirst beforeGo afterGo inBatch
-right waiting r s = cond-right (isWord (r .word) Game) _ _ (tt, tt) (stop-right 1 (early 1 (omega arith)))
-right (gathering d) r s =
+before-right : (d : Draft) (r : Record) → Right (beforeGo d r)
+unfolding beforeGo
+before-right d r =
     cond-right (isWord (r .word) Pay && empty (d .moves)) _ _ (tt, tt)
-    (cond-right (isWord (r .word) Move) _ _ (cond-right (full (d .moves)) _ _ (stop-right 5 (early 5 (omega arith))) (tt, tt))
+    (cond-right (isWord (r .word) Move) _ _ (cond-right (moveMost (d .moves)) _ _ (stop-right 5 (early 5 (omega arith))) (tt, tt))
     (cond-right (isWord (r .word) Go) _ _ (load-right (loadTrial (loadOf d) room) d refl) (stop-right 1 (early 1 (omega arith)))))
+
+pub right : (p : Held) (r : Record) → Sound p → Right (step p r)
+unfolding step atFirst behindGame afterGo inBatch
+right waiting r s = cond-right (isWord (r .word) Game) _ _ (tt, tt) (stop-right 1 (early 1 (omega arith)))
+right (opened d) r s = cond-right (isWord (r .word) Kinds) _ _ (tt, tt) (before-right d r)
+right (gathering d) r s = before-right d r
 right (playing p) r s = play-right (requestOf r) p s
 right (batching p xs) r s = batch-right (requestOf r) p xs s
 right ended r s = (tt, tt)
@@ -118,6 +124,7 @@ no-verdict (waysLine s leaving entering) h = tt
 
 says-loop : (l : Line) (p : Held) → Says l p → SaysLoop l p
 says-loop l waiting h = no-verdict l h
+says-loop l (opened d) h = no-verdict l h
 says-loop l (gathering d) h = no-verdict l h
 says-loop l (playing p) h = loop-told l (p .table) h
 says-loop l (batching p xs) h = no-verdict l h

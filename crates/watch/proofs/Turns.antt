@@ -12,6 +12,7 @@ use Rattle.plain.specs.Machine.{Line}
 use Rattle.line.specs.Fields.{upTo, linesOf}
 use Rattle.line.specs.Records.{recordOf}
 use Rattle.line.specs.declared.Record.{Record}
+use Rattle.line.proofs.Paying.{PayFits}
 use Rattle.line.proofs.Fields.{lines-at, lines-none}
 use Rattle.answer.specs.Rendering.{render}
 use Rattle.verdict.specs.declared.Answer.{Answer}
@@ -25,13 +26,13 @@ use Rattle.lead.specs.declared.Ask.{Ask}
 use Rattle.lead.specs.declared.Ask.the-variants.{Load as AskLoad, Update as AskUpdate}
 use Rattle.lead.specs.declared.Task.the-variants.{Nothing, Refuse, Ask as Asks, Question as Questions}
 use Rattle.lead.specs.declared.Plan.{Plan}
-use Rattle.lead.specs.Asked.{numbersMost, asked, filed, isOver}
+use Rattle.lead.specs.Asked.{numbersMost, asked, isOver}
 use Rattle.lead.proofs.Task.{the-type}
-use Rattle.watch.specs.Text.{Held, waiting, gathering, playing, batching, ended, room, step, printed}
+use Rattle.watch.specs.Text.{Held, waiting, opened, gathering, playing, batching, ended, room, step, printed}
 use Rattle.watch.specs.declared.Written.{Written}
 use Rattle.watch.specs.Model.{Serves, Replied, linesMost, linesFor, linesTold, Laid, Writes}
 use Rattle.watch.proofs.Output.{AtMostTwo}
-use Rattle.watch.proofs.Steps.{Tracks, Follows, stepped}
+use Rattle.watch.proofs.Steps.{Lent, filedIn, Tracks, Follows, stepped}
 use Rattle.watch.proofs.Writing.{told-lines}
 
 -- what is still to be written, where the text is read up to a place
@@ -62,39 +63,40 @@ none-printed (r ∷ rs) = none-printed rs
 false-true : {A : Type 0} → false ≡ true → A
 false-true e = let z : _≡_ {A = ℕ} 0 1 = cc in absurd (omega arith)
 
-pub over-told : (p : Held) (l : Lead) (ns : List ℕ) (s : Session) (text : List ℕ) (from : ℕ) → isOver (l .stage) ≡ true → Tracks l ns s p → toTell p text from ≡ []
-over-told waiting l ns s text from o h = false-true (sym (ap isOver h) ∙ o)
-over-told (gathering d) l ns s text from o h = false-true (sym (ap isOver (h .stage)) ∙ o)
-over-told (playing q) l ns s text from o h = false-true (sym (ap isOver (h .0)) ∙ o)
-over-told (batching q xs) l ns s text from o h = false-true (sym (ap isOver (h .0 .stage)) ∙ o)
-over-told ended l ns s text from o h = ap (map render) (none-printed (map recordOf (linesOf (drop from text))))
+pub over-told : (p : Held) (l : Lead) (y : Lent) (s : Session) (text : List ℕ) (from : ℕ) → isOver (l .stage) ≡ true → Tracks l y s p → toTell p text from ≡ []
+over-told waiting l y s text from o h = false-true (sym (ap isOver (h .0)) ∙ o)
+over-told (opened d) l y s text from o h = false-true (sym (ap isOver (h .0 .stage)) ∙ o)
+over-told (gathering d) l y s text from o h = false-true (sym (ap isOver (h .stage)) ∙ o)
+over-told (playing q) l y s text from o h = false-true (sym (ap isOver (h .0)) ∙ o)
+over-told (batching q xs) l y s text from o h = false-true (sym (ap isOver (h .0 .stage)) ∙ o)
+over-told ended l y s text from o h = ap (map render) (none-printed (map recordOf (linesOf (drop from text))))
 
 -- a line is told by at most two
 short-cond : (b : Bool) (x y z : Line) → AtMostTwo (cond b (x ∷ []) (y ∷ z ∷ []))
 short-cond true x y z = tt
 short-cond false x y z = tt
 
-pub short : (task : Task) (l : Lead) (answer : Answer) (reply : Reply) (walk : List ℕ) → AtMostTwo (linesFor task l answer reply walk)
-short Nothing l answer reply walk = tt
-short (Refuse n) l answer reply walk = tt
-short (Asks AskLoad) l answer reply walk = short-cond (isRefused answer) _ _ _
-short (Asks (AskUpdate asked)) l answer reply walk = tt
-short (Questions q) l answer reply walk = tt
+pub short : (task : Task) (l : Lead) (marks : List ℕ) (answer : Answer) (reply : Reply) (walk : List ℕ) → AtMostTwo (linesFor task l marks answer reply walk)
+short Nothing l marks answer reply walk = tt
+short (Refuse n) l marks answer reply walk = tt
+short (Asks AskLoad) l marks answer reply walk = short-cond (isRefused answer) _ _ _
+short (Asks (AskUpdate asked)) l marks answer reply walk = tt
+short (Questions q) l marks answer reply walk = tt
 
 -- ---- what is asked of the session
 
 -- What the task asks of the session is done, or nothing is, and the list of the walk keeps its length.
-pub record Done (task : Task) (l : Lead) (ns : List ℕ) (s : Session) (walk : List ℕ) (c : Outcome) (walk′ : List ℕ) : Type 0 where
-  pub follows : Follows task l ns s walk c walk′
+pub record Done (task : Task) (l : Lead) (y : Lent) (s : Session) (walk : List ℕ) (c : Outcome) (walk′ : List ℕ) : Type 0 where
+  pub follows : Follows task l y s walk c walk′
   pub size : length walk′ ≡ room
 
-module _ (l : Lead) (ns walk : List ℕ) (k : length walk ≡ room) (c : Outcome) (walk′ : List ℕ) where
+module _ (l : Lead) (y : Lent) (walk : List ℕ) (k : length walk ≡ room) (c : Outcome) (walk′ : List ℕ) where
   pub done-asked : (task : Task) (ask : Ask) (s : Session) (r : Outcome) (w : List ℕ) → task ≡ Asks ask → walk′ ≡ w → c ≡ r → length w ≡ length walk
-      → Serves ask l ns s walk r w → Done task l ns s walk c walk′
+      → Serves ask l (y .marks) (y .numbers) s walk r w → Done task l y s walk c walk′
   done-asked task ask s r w e f g h v = rw (e, f, g) (record { follows = v; size = h ∙ k })
 
   -- the tags of the tasks that ask for no load and no call
-  pub done-not : (task : Task) (c₀ : Outcome) → OneOf (0 ∷ 1 ∷ 3 ∷ []) (tagOf the-type task) → walk′ ≡ walk → c ≡ c₀ → Done task l ns (c₀ .session) walk c walk′
+  pub done-not : (task : Task) (c₀ : Outcome) → OneOf (0 ∷ 1 ∷ 3 ∷ []) (tagOf the-type task) → walk′ ≡ walk → c ≡ c₀ → Done task l y (c₀ .session) walk c walk′
   done-not Nothing c₀ o f g = record { follows = ap (λ (x : Outcome). x .session) g; size = ap length f ∙ k }
   done-not (Refuse n) c₀ o f g = record { follows = ap (λ (x : Outcome). x .session) g; size = ap length f ∙ k }
   done-not (Asks ask) c₀ o f g = absurd (⊎-elim (λ z. omega arith) (⊎-elim (λ z. omega arith) (λ z. omega arith)) o)
@@ -103,26 +105,26 @@ module _ (l : Lead) (ns walk : List ℕ) (k : length walk ≡ room) (c : Outcome
 -- ---- behind one line
 
 -- what is held, and the lines at the head of the buffer
-pub record Behind (p : Held) (r : Record) (ns : List ℕ) (s : Session) (d d′ : List ℕ) (w : Written) : Type 0 where
-  pub tracks : Tracks (w .lead) ns s (step p r .next)
+pub record Behind (p : Held) (r : Record) (y : Lent) (s : Session) (d d′ : List ℕ) (w : Written) : Type 0 where
+  pub tracks : Tracks (w .lead) y s (step p r .next)
   pub laid : Laid (step p r .lines) d d′ (w .first) (w .len)
   pub few : AtMostTwo (step p r .lines)
 
 -- the functions of a line, one after the other
-module _ (l : Lead) (ns : List ℕ) (s : Session) (p : Held) (walk : List ℕ) (r : Record) (ns′ : List ℕ) (c : Outcome) (reply : Reply) (walk′ d d′ : List ℕ) (w : Written)
-    (n : length ns ≡ numbersMost) (k : length walk ≡ room) (b : length d ≡ linesMost) (h : Tracks l ns s p) (f : ns′ ≡ filed l r ns) where
-  behind-asked : Done (asked l r .task) l ns′ s walk c walk′ → Replied (asked l r .task) (c .session) reply → Writes (asked l r) (c .answer) reply walk′ d d′ w → Behind p r ns′ (c .session) d d′ w
+module _ (l : Lead) (y : Lent) (s : Session) (p : Held) (walk : List ℕ) (r : Record) (y′ : Lent) (c : Outcome) (reply : Reply) (walk′ d d′ : List ℕ) (w : Written)
+    (n : length (y .numbers) ≡ numbersMost) (k : length walk ≡ room) (b : length d ≡ linesMost) (h : Tracks l y s p) (fits : PayFits r) (f : y′ ≡ filedIn l r y) where
+  behind-asked : Done (asked l r .task) l y′ s walk c walk′ → Replied (asked l r .task) (c .session) reply → Writes (asked l r) (y′ .marks) (c .answer) reply walk′ d d′ w → Behind p r y′ (c .session) d d′ w
   behind-asked v x t =
       let q = asked l r in
-      let m = stepped l ns s p walk r ns′ c reply walk′ n k h f (v .follows) x in
+      let m = stepped l y s p walk r y′ c reply walk′ n k fits h f (v .follows) x in
       let k′ = v .size in
-      let lines : linesTold q (c .answer) reply walk′ (length d) ≡ step p r .lines = sym (told-lines q (c .answer) reply walk′ (length d) (omega arith) (omega arith)) ∙ m .1 in
+      let lines : linesTold q (y′ .marks) (c .answer) reply walk′ (length d) ≡ step p r .lines = sym (told-lines q (y′ .marks) (c .answer) reply walk′ (length d) (omega arith) (omega arith)) ∙ m .1 in
       record {
-        tracks = subst⁻¹ (λ (x : Lead). Tracks x ns′ (c .session) (step p r .next)) (t .goes) (m .0);
+        tracks = subst⁻¹ (λ (x : Lead). Tracks x y′ (c .session) (step p r .next)) (t .goes) (m .0);
         laid = subst (λ (x : List Line). Laid x d d′ (w .first) (w .len)) lines (t .laid);
-        few = subst AtMostTwo (m .1) (short (q .task) (q .lead) (c .answer) reply walk′);
+        few = subst AtMostTwo (m .1) (short (q .task) (q .lead) (y′ .marks) (c .answer) reply walk′);
       }
 
-  pub behind : (plan : Plan) → plan ≡ asked l r → Done (plan .task) l ns′ s walk c walk′ → Replied (plan .task) (c .session) reply → Writes plan (c .answer) reply walk′ d d′ w → Behind p r ns′ (c .session) d d′ w
+  pub behind : (plan : Plan) → plan ≡ asked l r → Done (plan .task) l y′ s walk c walk′ → Replied (plan .task) (c .session) reply → Writes plan (y′ .marks) (c .answer) reply walk′ d d′ w → Behind p r y′ (c .session) d d′ w
   behind plan e v u t =
-      behind-asked (subst (λ (x : Plan). Done (x .task) l ns′ s walk c walk′) e v) (subst (λ (x : Plan). Replied (x .task) (c .session) reply) e u) (subst (λ (x : Plan). Writes x (c .answer) reply walk′ d d′ w) e t)
+      behind-asked (subst (λ (x : Plan). Done (x .task) l y′ s walk c walk′) e v) (subst (λ (x : Plan). Replied (x .task) (c .session) reply) e u) (subst (λ (x : Plan). Writes x (y′ .marks) (c .answer) reply walk′ d d′ w) e t)

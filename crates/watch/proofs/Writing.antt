@@ -10,6 +10,7 @@ use borrow.Author.Tests.{le-leb, lt-leb}
 use lib.Dec.{leb}
 use lib.ListN.{length, getD, take}
 use lib.Seq.{length-take-le, take-all}
+use Rattle.plain.specs.Lists.{any}
 use Rattle.plain.specs.Table.{accepts, acceptingCount}
 use Rattle.plain.specs.Machine.{atLine, numbered, Line as OutputLine, roundLine, noneLine, noLine, waysLine}
 use Rattle.marks.proofs.Counts.{count-le}
@@ -126,21 +127,21 @@ laid-as ls ms d d′ d″ n m e f g h = rw (← e, f, g) h
 
 -- ---- the paying states are at most 512
 
-pub few-paying : (words : List ℕ) → acceptingCount words ≤ 512
+pub few-paying : (marks : List (List ℕ)) → acceptingCount marks ≤ 512
 unfolding acceptingCount
-few-paying words = count-le 512 (accepts words)
+few-paying marks = count-le 512 (λ s. any (λ words. accepts words s) marks)
 
 -- ---- by whether there is room
 
-module _ (p : Plan) (answer : Answer) (reply : Reply) (walk : List ℕ) (size : ℕ) where
-  pub told-lines : length walk ≤ room → linesMost ≤ size → linesFor (p .task) (p .lead) answer reply walk ≡ linesTold p answer reply walk size
+module _ (p : Plan) (marks : List ℕ) (answer : Answer) (reply : Reply) (walk : List ℕ) (size : ℕ) where
+  pub told-lines : length walk ≤ room → linesMost ≤ size → linesFor (p .task) (p .lead) marks answer reply walk ≡ linesTold p marks answer reply walk size
   unfolding linesTold
   told-lines h k = rw (le-leb (length walk) room h, le-leb linesMost size k)
 
-  pub long-walk : room < length walk → [] ≡ linesTold p answer reply walk size
+  pub long-walk : room < length walk → [] ≡ linesTold p marks answer reply walk size
   unfolding linesTold
   long-walk h = rw (lt-leb (length walk) room h)
 
-  pub short-buffer : size < linesMost → [] ≡ linesTold p answer reply walk size
+  pub short-buffer : size < linesMost → [] ≡ linesTold p marks answer reply walk size
   unfolding linesTold
   short-buffer h = rw (lt-leb linesMost size h, and-false (leb (length walk) room))

@@ -6,7 +6,7 @@ use mathlib.Core.Bool.{_&&_, cond}
 use mathlib.Core.List.{List, [], _∷_}
 use lib.Dec.{leb}
 use lib.ListN.{length, take}
-use Rattle.plain.specs.Table.{acceptingCount}
+use Rattle.plain.specs.Table.{byKind, acceptingCount}
 use Rattle.plain.specs.Refusals.{Load}
 use Rattle.plain.specs.Machine.{Line, gameLine}
 use Rattle.answer.specs.Bytes.{overwritten}
@@ -37,14 +37,14 @@ use Rattle.watch.specs.Text.{room}
 abbrev pub numbersHeld : Lead → List ℕ → List ℕ
 numbersHeld l ns = take (l .count) ns
 
--- what the lead and the list gathered
-abbrev pub gathered : Lead → List ℕ → Load
-gathered l ns = record { size = l .size; start = l .start; words = l .words; numbers = numbersHeld l ns }
+-- what the lead, the marks and the list gathered
+abbrev pub gathered : Lead → List ℕ → List ℕ → Load
+gathered l marks ns = record { size = l .size; start = l .start; kinds = l .kinds; marks = byKind marks; numbers = numbersHeld l ns }
 
 -- by what is asked, the session's own promise
-abbrev pub Serves : Ask → Lead → List ℕ → Session → List ℕ → Outcome → List ℕ → Type 0
-Serves AskLoad l ns s walk r walk′ = Loads (gathered l ns) walk r walk′
-Serves (AskUpdate asked) l ns s walk r walk′ = Updates (updateOf asked (numbersHeld l ns)) s walk r walk′
+abbrev pub Serves : Ask → Lead → List ℕ → List ℕ → Session → List ℕ → Outcome → List ℕ → Type 0
+Serves AskLoad l marks ns s walk r walk′ = Loads (gathered l marks ns) walk r walk′
+Serves (AskUpdate asked) l marks ns s walk r walk′ = Updates (updateOf asked (numbersHeld l ns)) s walk r walk′
 
 -- By what is to be done, what is replied: to a question what the session promises of it; elsewhere nothing, and the 0 that stands for it is not told.
 abbrev pub Replied : Task → Session → Reply → Type 0
@@ -64,22 +64,22 @@ abbrev pub gameMost : ℕ
 gameMost = 23
 
 -- "An accepted load writes `game`, N, the count of moves and the count of paying states. Then come the load's answer .."
-abbrev pub linesOfLoad : Lead → Answer → List ℕ → List Line
-linesOfLoad l answer walk = cond (isRefused answer) (shown answer walk ∷ [])
-    (gameLine (l .size) (l .count / 2) (acceptingCount (l .words)) ∷ shown answer walk ∷ [])
+abbrev pub linesOfLoad : Lead → List ℕ → Answer → List ℕ → List Line
+linesOfLoad l marks answer walk = cond (isRefused answer) (shown answer walk ∷ [])
+    (gameLine (l .size) (l .count / 2) (acceptingCount (byKind marks)) ∷ shown answer walk ∷ [])
 
 -- a line that is refused as it is read is told by its plan alone
-abbrev pub linesFor : Task → Lead → Answer → Reply → List ℕ → List Line
-linesFor Nothing l answer reply walk = []
-linesFor (Refuse refusal) l answer reply walk = shown (Refused refusal) walk ∷ []
-linesFor (Asks AskLoad) l answer reply walk = linesOfLoad l answer walk
-linesFor (Asks (AskUpdate asked)) l answer reply walk = shown answer walk ∷ []
-linesFor (Questions q) l answer reply walk = replyShown reply ∷ []
+abbrev pub linesFor : Task → Lead → List ℕ → Answer → Reply → List ℕ → List Line
+linesFor Nothing l marks answer reply walk = []
+linesFor (Refuse refusal) l marks answer reply walk = shown (Refused refusal) walk ∷ []
+linesFor (Asks AskLoad) l marks answer reply walk = linesOfLoad l marks answer walk
+linesFor (Asks (AskUpdate asked)) l marks answer reply walk = shown answer walk ∷ []
+linesFor (Questions q) l marks answer reply walk = replyShown reply ∷ []
 
--- The lines told of a plan, an answer and a reply, with the list of the walk, in a buffer of so many bytes. Where that list is longer than the box's own, or the
+-- The lines told of a plan, the marks, an answer and a reply, with the list of the walk, in a buffer of so many bytes. Where that list is longer than the box's own, or the
 -- buffer too short for some answer, none is told.
-unfoldable pub linesTold : Plan → Answer → Reply → List ℕ → ℕ → List Line
-linesTold p answer reply walk size = cond (leb (length walk) room && leb linesMost size) (linesFor (p .task) (p .lead) answer reply walk) []
+unfoldable pub linesTold : Plan → List ℕ → Answer → Reply → List ℕ → ℕ → List Line
+linesTold p marks answer reply walk size = cond (leb (length walk) room && leb linesMost size) (linesFor (p .task) (p .lead) marks answer reply walk) []
 
 -- "A refusal up to and with `go` .. ends the program"
 abbrev pub leadLoaded : Lead → Answer → Lead
@@ -104,9 +104,9 @@ pub record Laid (ls : List Line) (out out′ : List ℕ) (first len : ℕ) : Typ
   pub ends : len ≡ length (rendered ls)
 
 -- what `write` does: the lines told, and what is held behind the line
-pub record Writes (p : Plan) (answer : Answer) (reply : Reply) (walk out out′ : List ℕ) (r : Written) : Type 0 where
+pub record Writes (p : Plan) (marks : List ℕ) (answer : Answer) (reply : Reply) (walk out out′ : List ℕ) (r : Written) : Type 0 where
   pub goes : r .lead ≡ leadFor (p .task) (p .lead) answer
-  pub laid : Laid (linesTold p answer reply walk (length out)) out out′ (r .first) (r .len)
+  pub laid : Laid (linesTold p marks answer reply walk (length out)) out out′ (r .first) (r .len)
 
 -- how many bytes of at most two lines fit whole
 unfoldable pub fits : ℕ → ℕ → ℕ → ℕ

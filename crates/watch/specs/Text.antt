@@ -8,22 +8,23 @@ use lib.ListN.{length, take, replicate}
 use Rattle.plain.specs.Lists.{any}
 use Rattle.plain.specs.Search.{Edge}
 use Rattle.plain.specs.Table.{Table, withMark, acceptingCount}
-use Rattle.plain.specs.Refusals.{Trial, accepted, refused, flat, Load, loadTrial, full}
-use Rattle.plain.specs.Machine.{Change, add, cut, mark, unmark, BatchLine, makes, other, Update, single, batch, Call, numbered, tableOf, loadAnswer, answerTo, tableAfter, Line, gameLine, noLine, answerLine}
+use Rattle.plain.specs.Refusals.{Trial, accepted, refused, flat, Load, loadTrial}
+use Rattle.plain.specs.Machine.{Change, add, cut, mark, unmark, BatchLine, makes, other, Update, single, batch, Call, numbered, inKind, tableOf, loadAnswer, answerTo, tableAfter, Line, gameLine, noLine, answerLine}
 use Rattle.plain.specs.Questions.{Question, ways, replyTo, replyLine}
 use Rattle.line.specs.Fields.{newline, linesOf}
 use Rattle.line.specs.Words.{isWord}
 use Rattle.line.specs.Records.{recordOf}
-use Rattle.line.specs.declared.Word.the-variants.{Game, Pay, Move, Go, Add, Cut, Mark, Unmark, Begin, End, Ways}
+use Rattle.line.specs.declared.Word.the-variants.{Game, Pay, Move, Go, Add, Cut, Mark, Unmark, Begin, End, Ways, Kinds}
 use Rattle.line.specs.declared.Record.{Record}
 use Rattle.answer.specs.Bytes.{overwritten}
 use Rattle.answer.specs.Rendering.{render}
 
--- What is gathered before `go`: N, the start state, the paying marks and the moves so far. Tickets of document 02 add to it.
+-- What is gathered before `go`: N, the start state, K, the paying marks of each kind and the moves so far. Tickets of document 02 add to it.
 pub record Draft : Type 0 where
   pub size : ℕ
   pub start : ℕ
-  pub marks : List ℕ
+  pub kinds : ℕ
+  pub marks : List (List ℕ)
   pub moves : List Edge
 
 -- What is held while playing: the plain table. Tickets of document 02 add to it.
@@ -34,7 +35,9 @@ pub record Play : Type 0 where
 pub data Held : Type 0 where
   -- no line was read
   waiting : Held
-  -- a `game` was read
+  -- a `game` was read, and nothing behind it
+  opened : Draft → Held
+  -- a `game` was read, and something behind it
   gathering : Draft → Held
   -- a `go` was accepted
   playing : Play → Held
@@ -68,7 +71,7 @@ abbrev pub room : ℕ
 room = 512
 
 abbrev pub loadOf : Draft → Load
-loadOf d = record { size = d .size; start = d .start; words = d .marks; numbers = flat (d .moves) }
+loadOf d = record { size = d .size; start = d .start; kinds = d .kinds; marks = d .marks; numbers = flat (d .moves) }
 
 abbrev pub playOf : Table → Play
 playOf t = record { table = t }
@@ -81,29 +84,45 @@ loadStep accepted d = record {
 }
 loadStep (refused n) d = stop n
 
--- "`game` (N, start)": no mark and no move yet
-abbrev pub draftOf : Record → Draft
-draftOf r = record { size = r .first; start = r .second; marks = replicate 8 0; moves = [] }
+-- no state carries any of the four kinds
+abbrev pub noMarks : List (List ℕ)
+noMarks = replicate 4 (replicate 8 0)
 
--- "`pay` (state)"; "Two `pay` lines for one state count as one."
+-- "`game` (N, start)": no mark and no move yet; document 02, ticket 9: "K = 1, also where the line is missing"
+abbrev pub draftOf : Record → Draft
+draftOf r = record { size = r .first; start = r .second; kinds = 1; marks = noMarks; moves = [] }
+
+-- ticket 9: "A line `kinds` with K"
+abbrev pub withKinds : Record → Draft → Draft
+withKinds r d = record { size = d .size; start = d .start; kinds = r .first; marks = d .marks; moves = d .moves }
+
+-- "`pay` (state)"; by ticket 9 with "a kind after the state"; "Two `pay` lines for one state count as one."
 abbrev pub withPay : Record → Draft → Draft
-withPay r d = record { size = d .size; start = d .start; marks = withMark (d .marks) (r .first); moves = d .moves }
+withPay r d = record { size = d .size; start = d .start; kinds = d .kinds; marks = inKind (r .second - 1) (λ words. withMark words (r .first)) (d .marks); moves = d .moves }
 
 -- "`move` (from, to)": behind the others, in the order of arrival
 abbrev pub withMove : Record → Draft → Draft
-withMove r d = record { size = d .size; start = d .start; marks = d .marks; moves = d .moves ++ ((r .first, r .second) ∷ []) }
+withMove r d = record { size = d .size; start = d .start; kinds = d .kinds; marks = d .marks; moves = d .moves ++ ((r .first, r .second) ∷ []) }
 
 -- "Order: one `game`": any other word is misplaced
 unfoldable pub atFirst : Record → Step
-atFirst r = cond (isWord (r .word) Game) (quiet (gathering (draftOf r))) (stop 1)
+atFirst r = cond (isWord (r .word) Game) (quiet (opened (draftOf r))) (stop 1)
+
+-- are there 2,048 moves, so that the next would be the 2,049th?
+abbrev pub moveMost : List Edge → Bool
+moveMost es = leb 2048 (length es)
 
 -- ".. any `pay`, any `move`, one `go`": a `pay` behind a `move` is misplaced; "a 2,049th `move` line gets 5 as it is read"
 unfoldable pub beforeGo : Draft → Record → Step
 beforeGo d r =
     cond (isWord (r .word) Pay && empty (d .moves)) (quiet (gathering (withPay r d)))
-    (cond (isWord (r .word) Move) (cond (full (d .moves)) (stop 5) (quiet (gathering (withMove r d))))
+    (cond (isWord (r .word) Move) (cond (moveMost (d .moves)) (stop 5) (quiet (gathering (withMove r d))))
     (cond (isWord (r .word) Go) (loadStep (loadTrial (loadOf d) room) d)
     (stop 1)))
+
+-- ticket 9: "A line `kinds` .. may directly follow `game`", and stands nowhere else
+unfoldable pub behindGame : Draft → Record → Step
+behindGame d r = cond (isWord (r .word) Kinds) (quiet (gathering (withKinds r d))) (beforeGo d r)
 
 -- ".. and one line for each change"; document 02, ticket 5: one for each batch
 abbrev pub callOn : Update → Call
@@ -124,14 +143,14 @@ pub data Request : Type 0 where
   questioning : Question → Request
   unknown : Request
 
--- ".. then `add` and `cut`", "(from, to)"; document 02, ticket 2: "Lines `mark` and `unmark` name a state"; ticket 5: `begin` and `end`; ticket 8: "A line `ways` with a
--- state"
+-- ".. then `add` and `cut`", "(from, to)"; document 02, ticket 2: "Lines `mark` and `unmark` name a state", by ticket 9 with a kind; ticket 5: `begin` and `end`; ticket 8:
+-- "A line `ways` with a state"
 unfoldable pub requestOf : Record → Request
 requestOf r =
     cond (isWord (r .word) Add) (changing (add (r .first, r .second)))
     (cond (isWord (r .word) Cut) (changing (cut (r .first, r .second)))
-    (cond (isWord (r .word) Mark) (changing (mark (r .first)))
-    (cond (isWord (r .word) Unmark) (changing (unmark (r .first)))
+    (cond (isWord (r .word) Mark) (changing (mark (r .first) (r .second)))
+    (cond (isWord (r .word) Unmark) (changing (unmark (r .first) (r .second)))
     (cond (isWord (r .word) Begin) beginning
     (cond (isWord (r .word) End) ending
     (cond (isWord (r .word) Ways) (questioning (ways (r .first)))
@@ -162,6 +181,7 @@ inBatch p xs r = batchStep (requestOf r) p xs
 
 unfoldable pub step : Held → Record → Step
 step waiting r = atFirst r
+step (opened d) r = behindGame d r
 step (gathering d) r = beforeGo d r
 step (playing p) r = afterGo p r
 step (batching p xs) r = inBatch p xs r

@@ -182,4 +182,24 @@ games =
     ∷ "ways\t1\t0\t2\n"
     ∷ "ways\t3\t0\t0\n"
     ∷ [])
+    -- Ticket 9: two kinds; the round goes, comes shorter, and comes another way; a state is marked with the other kind, and with one above K
+    ∷ dialogue "game\t3\t0\nkinds\t2\npay\t0\npay\t1\t2\npay\t2\t1\nmove\t0\t1\nmove\t1\t2\nmove\t2\t0\ngo\ncut\t2\t0\nadd\t2\t1\nadd\t1\t0\nmark\t2\t2\nmark\t9\t3\nmark\t0\t5\n"
+    ("game\t3\t3\t3\n"
+    ∷ "round\t6\t0\t1\t3\t0\t1\t2\t0\n"
+    ∷ "none\t2\t2\n"
+    ∷ "round\t2\t2\t1\t2\t0\t1\t2\n"
+    ∷ "round\t0\t4\t1\t2\t0\t1\t2\n"
+    ∷ "round\t2\t2\t1\t2\t0\t1\t2\n"
+    ∷ "no\t4\n"
+    ∷ "no\t1\n"
+    ∷ [])
+    -- three kinds: a round that passes state 0 three times
+    ∷ dialogue "game\t4\t0\nkinds\t3\npay\t1\npay\t2\t2\npay\t3\t3\nmove\t0\t1\nmove\t1\t0\nmove\t0\t2\nmove\t2\t0\nmove\t0\t3\ngo\nadd\t3\t0\ncut\t0\t2\n"
+    ("game\t4\t5\t3\n" ∷ "none\t26\t0\n" ∷ "round\t14\t11\t0\t6\t0\t1\t0\t2\t0\t3\n" ∷ "none\t13\t0\n" ∷ [])
+    -- game C with its one kind written
+    ∷ dialogue "game\t2\t0\nkinds\t1\npay\t1\t1\nmove\t0\t1\nmove\t1\t0\ngo\n" ("game\t2\t2\t1\n" ∷ "round\t3\t0\t0\t2\t0\t1\n" ∷ [])
+    -- `kinds` elsewhere than directly after `game`, too many kinds, and a kind above K
+    ∷ dialogue "game\t2\t0\npay\t0\nkinds\t2\n" ("no\t1\n" ∷ [])
+    ∷ dialogue "game\t2\t0\nkinds\t5\ngo\n" ("no\t16\n" ∷ [])
+    ∷ dialogue "game\t2\t0\nkinds\t2\npay\t0\t3\ngo\n" ("no\t4\n" ∷ [])
     ∷ []

@@ -4,7 +4,7 @@ use mathlib.Core.List.{List, [], _∷_}
 use Rattle.plain.specs.Machine.{Line, gameLine, roundLine, noneLine, noLine, waysLine}
 use Rattle.plain.specs.Claims.{LineTrue, NotNone, LoopTold}
 use Rattle.line.specs.declared.Record.{Record}
-use Rattle.watch.specs.Text.{Held, waiting, gathering, playing, batching, ended, step}
+use Rattle.watch.specs.Text.{Held, waiting, opened, gathering, playing, batching, ended, step}
 
 -- a line that tells no verdict and no count of moves; of a `no` line: "refusal 7 no longer occurs" (document 02, ticket 1)
 abbrev pub Verdictless : Line → Type 0
@@ -19,6 +19,7 @@ Verdictless (waysLine s leaving entering) = ⊥
 -- it tells neither.
 abbrev pub Says : Line → Held → Type 0
 Says l waiting = Verdictless l
+Says l (opened d) = Verdictless l
 Says l (gathering d) = Verdictless l
 Says l (playing p) = LineTrue l (p .table)
 Says l (batching p xs) = Verdictless l
@@ -27,6 +28,7 @@ Says l ended = Verdictless l
 -- Document 02, ticket 1: a line is not `none` where a paying state with a move to itself can be reached, nor where no table is held
 abbrev pub SaysLoop : Line → Held → Type 0
 SaysLoop l waiting = NotNone l
+SaysLoop l (opened d) = NotNone l
 SaysLoop l (gathering d) = NotNone l
 SaysLoop l (playing p) = LoopTold l (p .table)
 SaysLoop l (batching p xs) = NotNone l

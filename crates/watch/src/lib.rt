@@ -56,7 +56,7 @@ pub fn no_session() -> Outcome
 {
     let numbers: [u16; 1] = [0; 1];
     let mut lent: [u16; 1] = [0; 1];
-    session::load(0, 0, [0; 8], &numbers, &mut lent)
+    session::load(0, 0, 1, [0; 32], &numbers, &mut lent)
 }
 
 pub fn least(a: usize, b: usize) -> usize
@@ -66,15 +66,26 @@ pub fn least(a: usize, b: usize) -> usize
 }
 
 // What the session answers to what is asked of it.
-pub fn serve(s: Session, lead: Lead, ask: Ask, numbers: &[u16], walk: &mut [u16]) -> Outcome
-    ensures { λ r. ⌜ Serves ask lead (now (numbers .entry)) s (now (walk .entry)) r (now (walk .exit)) ⌝ }
+pub fn serve(
+    s: Session,
+    lead: Lead,
+    ask: Ask,
+    marks: &[u64; 32],
+    numbers: &[u16],
+    walk: &mut [u16],
+) -> Outcome
+    ensures { λ r. ⌜ Serves ask lead (now (marks .entry)) (now (numbers .entry)) s (now (walk .entry)) r (now (walk .exit)) ⌝ }
 {
     let n = least(wide(lead.count), numbers.len());
     match ask {
-        Ask::Load => {
-            let words = lead.words;
-            session::load(lead.size, lead.start, words, &numbers[..n], walk)
-        }
+        Ask::Load => session::load(
+            lead.size,
+            lead.start,
+            lead.kinds,
+            *marks,
+            &numbers[..n],
+            walk,
+        ),
         Ask::Update(asked) => session::update(s, asked, &numbers[..n], walk),
     }
 }
@@ -146,24 +157,36 @@ fn put_reply(out: &mut [u8], reply: Reply) -> usize
 }
 
 // The lines of a load: `game` and the answer, or the refusal.
-fn put_load(lead: Lead, answer: Answer, walk: &[u16], out: &mut [u8]) -> LineLengths
+fn put_load(
+    lead: Lead,
+    marks: &[u64; 32],
+    answer: Answer,
+    walk: &[u16],
+    out: &mut [u8],
+) -> LineLengths
     requires { ⌜ (length (now walk) ≤ room) × (linesMost ≤ length (now out)) ⌝ }
-    ensures { λ r. ⌜ Laid (linesOfLoad lead answer (now (walk .entry))) (now (out .entry)) (now (out .exit)) (r .first) (r .len) ⌝ }
+    ensures { λ r. ⌜ Laid (linesOfLoad lead (now (marks .entry)) answer (now (walk .entry))) (now (out .entry)) (now (out .exit)) (r .first) (r .len) ⌝ }
 {
     if verdict::is_refused(answer) {
         return put_one(answer, walk, out);
     }
-    let words = lead.words;
-    let paying = marks::count(words) as u16;
+    let paying = marks::count(*marks) as u16;
     let n = answer::put_game(out, 0, lead.size, lead.count / 2, paying);
     let m = put_answer(out, n, answer, walk);
     LineLengths { first: n, len: m }
 }
 
 // The lines that tell what came of a line.
-fn put_lines(plan: Plan, answer: Answer, reply: Reply, walk: &[u16], out: &mut [u8]) -> LineLengths
+fn put_lines(
+    plan: Plan,
+    marks: &[u64; 32],
+    answer: Answer,
+    reply: Reply,
+    walk: &[u16],
+    out: &mut [u8],
+) -> LineLengths
     requires { ⌜ (length (now walk) ≤ room) × (linesMost ≤ length (now out)) ⌝ }
-    ensures { λ r. ⌜ Laid (linesFor (plan .task) (plan .lead) answer reply (now (walk .entry))) (now (out .entry)) (now (out .exit)) (r .first) (r .len) ⌝ }
+    ensures { λ r. ⌜ Laid (linesFor (plan .task) (plan .lead) (now (marks .entry)) answer reply (now (walk .entry))) (now (out .entry)) (now (out .exit)) (r .first) (r .len) ⌝ }
 {
     let lead = plan.lead;
     let task = plan.task;
@@ -171,7 +194,7 @@ fn put_lines(plan: Plan, answer: Answer, reply: Reply, walk: &[u16], out: &mut [
         Task::Nothing => LineLengths { first: 0, len: 0 },
         Task::Refuse(refusal) => put_one(Answer::Refused(refusal), walk, out),
         Task::Ask(ask) => match ask {
-            Ask::Load => put_load(lead, answer, walk, out),
+            Ask::Load => put_load(lead, marks, answer, walk, out),
             Ask::Update(asked) => put_one(answer, walk, out),
         },
         Task::Question(question) => {
@@ -210,13 +233,20 @@ fn lead_behind(plan: Plan, answer: Answer) -> Lead
 
 // The lines that tell what came of a line, at the head of a buffer, and what is held behind it. Where the buffer is shorter than LINES bytes, or the walk
 // longer than WALK entries, no line is told.
-pub fn write(plan: Plan, answer: Answer, reply: Reply, walk: &[u16], out: &mut [u8]) -> Written
-    ensures { λ r. ⌜ Writes plan answer reply (now (walk .entry)) (now (out .entry)) (now (out .exit)) r ⌝ }
+pub fn write(
+    plan: Plan,
+    marks: &[u64; 32],
+    answer: Answer,
+    reply: Reply,
+    walk: &[u16],
+    out: &mut [u8],
+) -> Written
+    ensures { λ r. ⌜ Writes plan (now (marks .entry)) answer reply (now (walk .entry)) (now (out .entry)) (now (out .exit)) r ⌝ }
 {
     let mut n = LineLengths { first: 0, len: 0 };
     if walk.len() <= WALK {
         if LINES <= out.len() {
-            n = put_lines(plan, answer, reply, walk, out);
+            n = put_lines(plan, marks, answer, reply, walk, out);
         }
     }
     Written {
@@ -244,6 +274,7 @@ fn watch_text(text: &[u8], out: &mut [u8], space: usize) -> u64
     requires { ⌜ (space ≤ length (now out)) × (space ≤ outputMost) ⌝ }
     ensures { λ r. ⌜ Fitted (outputOf (now (text .entry))) space (now (out .entry)) (now (out .exit)) r ⌝ }
 {
+    let mut marks: [u64; 32] = [0; 32];
     let mut numbers: [u16; table::NUMBERS] = [0; table::NUMBERS];
     let mut walk: [u16; WALK] = [0; WALK];
     let mut lines: [u8; LINES] = [0; LINES];
@@ -253,14 +284,14 @@ fn watch_text(text: &[u8], out: &mut [u8], space: usize) -> u64
     let mut at: usize = 0;
     while from < text.len() {
         let end = line::end_of(text, from, line::NEWLINE);
-        let plan = lead::read(lead, &mut numbers, &text[from..end]);
+        let plan = lead::read(lead, &mut marks, &mut numbers, &text[from..end]);
         let task = plan.task;
         if let Task::Ask(ask) = task {
-            c = serve(c.session, lead, ask, &numbers, &mut walk);
+            c = serve(c.session, lead, ask, &marks, &numbers, &mut walk);
         }
         let answer = c.answer;
         let reply = reply_to(c.session, task);
-        let w = write(plan, answer, reply, &walk, &mut lines);
+        let w = write(plan, &marks, answer, reply, &walk, &mut lines);
         let len = w.len;
         let n = fitting(space - at, w.first, len);
         at = answer::put(out, at, &lines[..n]);

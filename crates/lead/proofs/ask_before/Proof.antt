@@ -1,10 +1,6 @@
 -- `lead::ask_before`: a law for each way out; where it is no `pay`, or one behind a move, the next words are tried.
-use mathlib.Core.Path.{_≡_, sym, ap, _∙_}
-use Prim.Native.Nat.{ℕ}
-use mathlib.Core.List.{List}
+use mathlib.Core.Path.{sym, ap, _∙_}
 use mathlib.Core.Logic.{⊎-elim}
-use Rattle.plain.specs.Table.{withMark}
-use Rattle.lead.specs.declared.Stage.the-variants.{Gathering}
 use Rattle.lead.specs.Asked.{noTask}
 use Rattle.lead.proofs.Asking.{Unpaid, before-pay, behind-moves, no-pay, before-move, before-go, before-other}
 use borrow.Author.Needs.{needs}
@@ -14,11 +10,8 @@ use Rattle.lead.proofs.ask_before.Tie as tie
 is-word-requires : tie.Need-is-word-requires
 is-word-requires c κs = search needs
 
-wide-requires : tie.Need-wide-requires
-wide-requires c κs = search needs
-
-with-mark-requires : tie.Need-with-mark-requires
-with-mark-requires c κs = search needs
+staged-requires : tie.Need-staged-requires
+staged-requires c κs = search needs
 
 no-task-requires : tie.Need-no-task-requires
 no-task-requires c κs = search needs
@@ -31,14 +24,9 @@ unpaid c =
 
 returns : tie.Need-returns
 returns c =
-    let m = c .before in
-    let t = m .before .before .before in
-    let i = t .before .before .before in
-    let l = i .before .args .lead in
-    let marked : m .with-mark .result ≡ withMark (l .words) (i .before .args .r .first) = m .with-mark .ensures ∙ ap (withMark (l .words)) (m .before .wide .ensures .0) in
-    c .no-task .ensures
-    ∙ ap (λ (w : List ℕ). noTask (record { stage = Gathering; size = l .size; start = l .start; words = w; count = 0 })) marked
-    ∙ before-pay _ _ (sym (i .is-word .ensures) ∙ t .before .before .if1 .taken) (t .if2 .taken)
+    let t = c .before .before in
+    let i = t .before .before in
+    c .no-task .ensures ∙ ap noTask (c .before .staged .ensures) ∙ before-pay _ _ (sym (i .before .is-word .ensures) ∙ i .if1 .taken) (t .if2 .taken)
 
 is-word-requires-2 : tie.Need-is-word-requires-2
 is-word-requires-2 c κs = search needs
@@ -70,8 +58,7 @@ ask-before-spec =
     tie.close
     (tie.spec
     is-word-requires
-    wide-requires
-    with-mark-requires
+    staged-requires
     no-task-requires
     returns
     is-word-requires-2

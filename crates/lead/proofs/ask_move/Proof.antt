@@ -27,17 +27,17 @@ few : (c : tie.Else1) → c .before .before .args .lead .count < 4096
 unfolding isFull
 few c = leb-false 4096 (c .before .before .args .lead .count) (not-full c)
 
-add-t6 : tie.Need-add-t6
-add-t6 c = omega (arith, few (c .before .before))
+add-t5 : tie.Need-add-t5
+add-t5 c = omega (arith, few (c .before))
 
 no-task-requires : tie.Need-no-task-requires
 no-task-requires c κs = search needs
 
 returns-2 : tie.Need-returns-2
-returns-2 c = let e = c .before .before .before in
+returns-2 c = let e = c .before .before in
     c .no-task .ensures ∙ move-more _ (not-full e)
 
 pub ask-move-spec : {M : Type 1} → statement M
 ask-move-spec =
     tie.close
-    (tie.spec is-full-requires refusing-requires returns add-t6 no-task-requires returns-2)
+    (tie.spec is-full-requires refusing-requires returns add-t5 no-task-requires returns-2)

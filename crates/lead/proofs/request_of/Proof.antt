@@ -25,10 +25,10 @@ abbrev from-begin : Record → Request
 from-begin r = cond (isWord (r .word) Word.Begin) R.Begin (from-end r)
 
 abbrev from-unmark : Record → Request
-from-unmark r = cond (isWord (r .word) Word.Unmark) (R.Change (Unmark (r .first))) (from-begin r)
+from-unmark r = cond (isWord (r .word) Word.Unmark) (R.Change (Unmark (r .first) (r .second))) (from-begin r)
 
 abbrev from-mark : Record → Request
-from-mark r = cond (isWord (r .word) Word.Mark) (R.Change (Mark (r .first))) (from-unmark r)
+from-mark r = cond (isWord (r .word) Word.Mark) (R.Change (Mark (r .first) (r .second))) (from-unmark r)
 
 abbrev from-cut : Record → Request
 from-cut r = cond (isWord (r .word) Word.Cut) (R.Change (Cut (r .first) (r .second))) (from-mark r)

@@ -5,9 +5,10 @@ use mathlib.Core.List.{List}
 use borrow.Author.Needs.{needs}
 use native.Mathlib.Omega.{arith}
 use lib.ListN.{length}
-use Rattle.line.specs.Words.{limitOf}
+use Rattle.line.specs.Words.{limitOf, kindOf}
 use Rattle.line.specs.Records.{worded, recordOf}
-use Rattle.line.specs.Items.{itemAt}
+use Rattle.line.specs.Items.{itemAt, secondLimit, filledWith}
+use Rattle.line.specs.declared.Word.{Word}
 use Rattle.line.specs.declared.Form.{Form}
 use Rattle.line.specs.declared.Item.{Item}
 use Rattle.line.specs.declared.Item.the-variants as I
@@ -29,26 +30,30 @@ name-within c = omega (arith, ap length (c .field .ensures), field-within (line-
 begun : (c : tie.After-read-word) → worded (c .read-word .result) (fieldsBehind (line-of (c .before)) (name-end (c .before))) ≡ recordOf (line-of (c .before))
 begun c = record-is (line-of (c .before)) _ _ (omega arith) (c .before .field .ensures) (c .read-word .ensures)
 
--- what an item tells under the limit of the word that was read
-abbrev Told : tie.After-read-word → ℕ → Item → Type 0
-Told c at i = Tells (limitOf (c .read-word .result)) (line-of (c .before)) at i
+-- what an item tells under a limit of the word that was read
+abbrev Told : (Word → ℕ) → tie.After-read-word → ℕ → Item → Type 0
+Told limit c at i = Tells (limit (c .read-word .result)) (line-of (c .before)) at i
 
-first-told : (c : tie.After-read-item) (i : Item) → c .read-item .result ≡ i → Told (c .before .before) (name-end (c .before .before .before)) i
+first-told : (c : tie.After-read-item) (i : Item) → c .read-item .result ≡ i → Told limitOf (c .before .before) (name-end (c .before .before .before)) i
 first-told c i e =
     let f = c .before .before .before in
     item-tells _ _ _ i (name-within f) (sym e ∙ c .read-item .ensures ∙ ap (λ (m : Form). itemAt (m .limit) (line-of f) (name-end f)) (c .before .form-of .ensures))
 
 first-number : (c : tie.After-first)
-    → Told (c .before .before .before .before) (name-end (c .before .before .before .before .before)) (I.Is (c .first .given .0 .0) (c .first .given .0 .1 .0))
+    → Told limitOf (c .before .before .before .before) (name-end (c .before .before .before .before .before)) (I.Is (c .first .given .0 .0) (c .first .given .0 .1 .0))
 first-number c = first-told (c .before .before) _ (c .first .given .1)
 
 second-told : (c : tie.After-read-item2) (i : Item) → c .read-item2 .result ≡ i
-    → Told (c .before .before .before .before .before .before) (c .before .before .first .given .0 .1 .0) i
+    → let f = c .before .before .before in Told secondLimit (f .before .before .before .before) (f .first .given .0 .1 .0) i
 second-told c i e =
-    let f = c .before .before in
-    let k = f .before .before .before in
+    let f = c .before .before .before in
     item-tells _ _ _ i (first-number f .4)
-    (sym e ∙ c .read-item2 .ensures ∙ ap (λ (m : Form). itemAt (m .limit) (line-of (k .before .before)) (f .first .given .0 .1 .0)) (k .form-of .ensures))
+    (sym e ∙ c .read-item2 .ensures ∙ ap (λ (n : ℕ). itemAt n (line-of (f .before .before .before .before .before)) (f .first .given .0 .1 .0)) (c .before .second-limit .ensures))
+
+-- the second number where it is left out
+left-out : (c : tie.After-form-of) (n first : ℕ)
+    → let w = c .before .read-word .result in filledWith w n first (c .form-of .result .kind) ≡ filledWith w n first (kindOf w)
+left-out c n first = ap (λ (m : Form). filledWith (c .before .read-word .result) n first (m .kind)) (c .form-of .ensures)
 
 unreadable-requires : tie.Need-unreadable-requires
 unreadable-requires c κs = search needs
@@ -83,8 +88,11 @@ unreadable-requires-2 c κs = search needs
 enum-known-first : tie.Need-enum-known-first
 enum-known-first c = search needs
 
+second-limit-requires : tie.Need-second-limit-requires
+second-limit-requires c κs = search needs
+
 read-item-requires-2 : tie.Need-read-item-requires-2
-read-item-requires-2 c κs = first-number (c .before) .4
+read-item-requires-2 c κs = first-number (c .before .before) .4
 
 enum-told-3 : tie.Need-enum-told-3
 enum-told-3 c = search needs
@@ -108,7 +116,7 @@ returns-2 : tie.Need-returns-2
 returns-2 c =
     let s = c .before .before .before in
     let r = s .before .before in
-    let f = r .before .before in
+    let f = r .before .before .before in
     c .filled3 .ensures ∙ two-behind _ _ _ _ _ _ _ (first-number f) (second-told r _ (s .second .given .1)) (c .before .if2 .taken) ∙ begun (f .before .before .before .before)
 
 unreadable-requires-4 : tie.Need-unreadable-requires-4
@@ -118,7 +126,7 @@ returns-3 : tie.Need-returns-3
 returns-3 c =
     let t = c .before in
     let r = t .before .before in
-    c .filled .ensures ∙ none-behind _ _ _ (first-told r _ (t .enum-told .given .1)) ∙ begun (r .before .before)
+    c .filled .ensures ∙ left-out (r .before) _ _ ∙ none-behind _ _ _ (first-told r _ (t .enum-told .given .1)) ∙ begun (r .before .before)
 
 returns-4 : tie.Need-returns-4
 returns-4 c =
@@ -130,21 +138,21 @@ returns-5 : tie.Need-returns-5
 returns-5 c =
     let t = c .before in
     let r = t .before .before in
-    let f = r .before .before in
-    c .filled2 .ensures ∙ one-behind _ _ _ _ _ (first-number f) (second-told r _ (t .enum-told3 .given .1)) ∙ begun (f .before .before .before .before)
+    let f = r .before .before .before in
+    c .filled2 .ensures ∙ left-out (f .before .before .before) _ _ ∙ one-behind _ _ _ _ _ (first-number f) (second-told r _ (t .enum-told3 .given .1)) ∙ begun (f .before .before .before .before)
 
 returns-6 : tie.Need-returns-6
 returns-6 c =
     let t = c .before in
     let r = t .before .before in
-    let f = r .before .before in
+    let f = r .before .before .before in
     c .unreadable3 .ensures ∙ bad-second _ _ _ _ _ (first-number f) (second-told r _ (t .enum-told4 .given .1)) ∙ begun (f .before .before .before .before)
 
 returns-7 : tie.Need-returns-7
 returns-7 c =
     let s = c .before .before .before in
     let r = s .before .before in
-    let f = r .before .before in
+    let f = r .before .before .before in
     c .unreadable4 .ensures ∙ more-behind _ _ _ _ _ _ _ (first-number f) (second-told r _ (s .second .given .1)) (c .before .if2 .left) ∙ begun (f .before .before .before .before)
 
 pub read-record-spec : {M : Type 1} → statement M
@@ -162,6 +170,7 @@ read-record-spec =
     enum-told-2
     unreadable-requires-2
     enum-known-first
+    second-limit-requires
     read-item-requires-2
     enum-told-3
     filled-requires-2

@@ -4,6 +4,7 @@ use mathlib.Core.Path.{sym, ap, _∙_}
 use native.Mathlib.Omega.{arith}
 use lib.ListN.{length}
 use borrow.Author.Needs.{needs}
+use Rattle.plain.specs.Table.{byKind}
 use Rattle.plain.specs.Machine.{gameLine}
 use Rattle.answer.specs.Rendering.{render}
 use Rattle.answer.proofs.Laws.{length-game}
@@ -31,7 +32,7 @@ count-requires c κs = search needs
 
 -- the count of the paying states is a number of 16 bits
 paying-short : (c : tie.After-count) → c .count .result < 65536
-paying-short c = omega (arith, c .count .ensures, few-paying (c .before .before .before .before .before .before .args .lead .words))
+paying-short c = omega (arith, c .count .ensures, few-paying (byKind (c .before .before .before .before .before .before .args .marks .now)))
 
 cast-paying : tie.Need-cast-paying
 cast-paying c = record { fits = paying-short c }

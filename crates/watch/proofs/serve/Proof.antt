@@ -37,7 +37,7 @@ returns c =
     let k = c .before .before in
     let t = k .before .before .before .before in
     let e = t .before .before in
-    rw (t .enum-told .given .1) (load-all (e .before .before .before .before .args .lead) _ _ _ _ _ _ (e .least .ensures) (e .before .wide .ensures .0) (k .load .ensures))
+    rw (t .enum-told .given .1) (load-all (e .before .before .before .before .args .lead) _ _ _ _ _ _ _ (e .least .ensures) (e .before .wide .ensures .0) (k .load .ensures))
 
 same-length-2 : tie.Need-same-length-2
 same-length-2 c = search needs

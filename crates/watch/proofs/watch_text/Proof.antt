@@ -10,38 +10,39 @@ use lib.Seq.{length-take-le}
 use Rattle.line.specs.Records.{recordOf}
 use Rattle.line.specs.declared.Record.{Record}
 use Rattle.line.proofs.Fields.{end-within}
+use Rattle.line.proofs.Paying.{record-pay}
 use Rattle.answer.specs.Rendering.{render}
 use Rattle.lead.specs.declared.Lead.{Lead}
 use Rattle.lead.specs.declared.Task.{Task}
 use Rattle.lead.specs.Asked.{numbersMost}
 use Rattle.watch.specs.Text.{Held, waiting, room, step, outputOf}
 use Rattle.watch.specs.Model.{Replied, linesMost}
-use Rattle.watch.proofs.Steps.{Tracks}
+use Rattle.watch.proofs.Steps.{Lent, lentTo, Tracks}
 use Rattle.watch.proofs.Output.{Rest, rest-start, rest-end, all-put, not-put, fits-within, laid-within, laid-first}
 use Rattle.watch.proofs.Turns.{toTell, turn, told-all, over-told, Done, done-asked, done-not, Behind, behind}
 use Rattle.watch.proofs.watch_text.Statement.{statement}
 use Rattle.watch.proofs.watch_text.Tie as tie
 
 abbrev Inv-loop : tie.InvT-loop
-Inv-loop text out₀ space numbers₀ walk₀ lines₀ lead₀ c₀ from₀ at₀ out numbers walk lines lead c from at =
+Inv-loop text out₀ space marks₀ numbers₀ walk₀ lines₀ lead₀ c₀ from₀ at₀ out marks numbers walk lines lead c from at =
     (at ≤ space) × (length out ≡ length out₀) × (length numbers ≡ numbersMost) × (length walk ≡ room) × (length lines ≡ linesMost)
-    × ((p : Held) × (Tracks lead numbers (c .session) p × Rest out₀ space (outputOf text) out at (toTell p text from)))
+    × ((p : Held) × (Tracks lead (lentTo marks numbers) (c .session) p × Rest out₀ space (outputOf text) out at (toTell p text from)))
 
 abbrev μ-loop : tie.MeasureT-loop
-μ-loop text out₀ space numbers₀ walk₀ lines₀ lead₀ c₀ from₀ at₀ out numbers walk lines lead c from at = length text - from
+μ-loop text out₀ space marks₀ numbers₀ walk₀ lines₀ lead₀ c₀ from₀ at₀ out marks numbers walk lines lead c from at = length text - from
 
 abbrev the-start : tie.At-loop Inv-loop μ-loop → tie.Start Inv-loop μ-loop
 the-start l = l .before .before .before .before .before
 
 -- the places before a line's answer is written
 abbrev served : tie.After-write Inv-loop μ-loop → tie.At-match-came Inv-loop μ-loop
-served c = c .before .before .before .before
+served c = c .before .before .before .before .before
 
 abbrev reading : tie.After-write Inv-loop μ-loop → tie.After-read Inv-loop μ-loop
 reading c = served c .before .before
 
 abbrev ending : tie.After-write Inv-loop μ-loop → tie.After-end-of Inv-loop μ-loop
-ending c = reading c .before .before .before
+ending c = reading c .before .before .before .before
 
 abbrev the-loop : tie.After-end-of Inv-loop μ-loop → tie.At-loop Inv-loop μ-loop
 the-loop c = c .before .before
@@ -57,7 +58,7 @@ no-session-requires c κs = search needs
 
 loop-holds : tie.Need-loop-holds Inv-loop μ-loop
 unfolding outputOf
-loop-holds c = (omega arith, refl, search needs, search needs, search needs, (waiting, (ap (λ (l : Lead). l .stage) (c .before .first-lead .ensures), rest-start _ _ _)))
+loop-holds c = (omega arith, refl, search needs, search needs, search needs, (waiting, ((ap (λ (l : Lead). l .stage) (c .before .first-lead .ensures), refl), rest-start _ _ _)))
 
 end-of-requires : tie.Need-end-of-requires Inv-loop μ-loop
 end-of-requires c κs = search needs
@@ -76,7 +77,7 @@ part-read-start : tie.Need-part-read-start Inv-loop μ-loop
 part-read-start c = search needs
 
 part-read-end : tie.Need-part-read-end Inv-loop μ-loop
-part-read-end c = ends (c .before)
+part-read-end c = ends (c .before .before)
 
 read-requires : tie.Need-read-requires Inv-loop μ-loop
 read-requires c κs = search needs
@@ -93,28 +94,32 @@ slice-aggregate-serve-2 c = search needs
 serve-requires : tie.Need-serve-requires Inv-loop μ-loop
 serve-requires c κs = search needs
 
+-- what is lent behind a line that was read
+abbrev lent-behind : tie.After-read Inv-loop μ-loop → Lent
+lent-behind r = lentTo (r .read .last .1 .0) (r .read .last .1 .1 .0)
+
 -- what the line asks of the session is done
 served-by : (c : tie.At-match-came Inv-loop μ-loop)
     → let r = c .before .before in
-    let l = the-loop (r .before .before .before) in
-    Done (r .read .result .task) (l .loop .lead) (r .read .last .1 .0) (l .loop .c .session) (l .loop .walk) (c .match .c) (c .match .walk)
+    let l = the-loop (r .before .before .before .before) in
+    Done (r .read .result .task) (l .loop .lead) (lent-behind r) (l .loop .c .session) (l .loop .walk) (c .match .c) (c .match .walk)
 served-by c =
     let r = c .before .before in
-    let l = the-loop (r .before .before .before) in
+    let l = the-loop (r .before .before .before .before) in
     ⊎-elim
-    (λ w. done-asked (l .loop .lead) _ _ (l .loop .inv .3) _ _ (r .read .result .task) _ _ _ _ (w .1 .given .1) (w .7) (w .8) (w .5 .kept .1 .1 .1 .1 .0) (w .5 .ensures))
+    (λ w. done-asked (l .loop .lead) _ _ (l .loop .inv .3) _ _ (r .read .result .task) _ _ _ _ (w .1 .given .1) (w .8) (w .9) (w .6 .kept .1 .1 .1 .1 .1 .0) (w .6 .ensures))
     (λ w. done-not (l .loop .lead) _ _ (l .loop .inv .3) _ _ (r .read .result .task) (l .loop .c) (w .0 .keys2) (w .1) (w .2))
     (c .match .came)
 
 -- and the task is what it was
 same-task : (c : tie.At-match-came Inv-loop μ-loop) → c .match .task ≡ c .before .before .read .result .task
-same-task c = ⊎-elim {C = c .match .task ≡ c .before .before .read .result .task} (λ w. w .9 ∙ sym (w .1 .given .1)) (λ w. w .3) (c .match .came)
+same-task c = ⊎-elim {C = c .match .task ≡ c .before .before .read .result .task} (λ w. w .10 ∙ sym (w .1 .given .1)) (λ w. w .3) (c .match .came)
 
 reply-to-requires : tie.Need-reply-to-requires Inv-loop μ-loop
 reply-to-requires c κs = search needs
 
 slice-aggregate-write : tie.Need-slice-aggregate-write Inv-loop μ-loop
-slice-aggregate-write c = sym (served-by (c .before .before) .size)
+slice-aggregate-write c = sym (served-by (c .before .before .before) .size)
 
 slice-aggregate-write-2 : tie.Need-slice-aggregate-write-2 Inv-loop μ-loop
 slice-aggregate-write-2 c = search needs
@@ -130,10 +135,10 @@ abbrev line-in : tie.After-write Inv-loop μ-loop → Record
 line-in c = recordOf (take (ending c .end-of .result - at-loop c .loop .from) (drop (at-loop c .loop .from) (the-start (at-loop c) .args .text .now)))
 
 told : (c : tie.After-write Inv-loop μ-loop)
-    → Behind (was c) (line-in c) (reading c .read .last .1 .0) (served c .match .c .session) (at-loop c .loop .lines) (c .write .last .1 .1 .1 .1 .0) (c .write .result)
+    → Behind (was c) (line-in c) (lent-behind (reading c)) (served c .match .c .session) (at-loop c .loop .lines) (c .write .last .1 .1 .1 .1 .1 .0) (c .write .result)
 told c =
     let i = at-loop c .loop .inv in
-    behind (at-loop c .loop .lead) _ _ (was c) _ (line-in c) _ _ _ _ _ _ _ (i .2) (i .3) (i .4) (i .5 .1 .0) (reading c .read .ensures .1) _ (reading c .read .ensures .0) (served-by (served c)) (subst (λ (x : Task). Replied x (served c .match .c .session) (c .before .before .before .reply-to .result)) (same-task (served c)) (c .before .before .before .reply-to .ensures)) (c .write .ensures)
+    behind (at-loop c .loop .lead) _ _ (was c) _ (line-in c) _ _ _ _ _ _ _ (i .2) (i .3) (i .4) (i .5 .1 .0) (record-pay _) (λ j. lentTo (reading c .read .ensures .1 .0 j) (reading c .read .ensures .1 .1 j)) _ (reading c .read .ensures .0) (served-by (served c)) (subst (λ (x : Task). Replied x (served c .match .c .session) (c .before .before .before .before .reply-to .result)) (same-task (served c)) (c .before .before .before .before .reply-to .ensures)) (c .write .ensures)
 
 sub-fitting : tie.Need-sub-fitting Inv-loop μ-loop
 sub-fitting c = omega (arith, at-loop (c .before) .loop .inv .0)
@@ -154,7 +159,7 @@ array-share-prefix-lines : tie.Need-array-share-prefix-lines Inv-loop μ-loop
 array-share-prefix-lines c = omega (arith, sizes (c .before) .1, sizes (c .before) .2)
 
 -- the buffer keeps its length
-buffer : (c : tie.After-lines3 Inv-loop μ-loop) → c .before .before .fitting .result ≤ length (c .before .before .before .before .write .last .1 .1 .1 .1 .0)
+buffer : (c : tie.After-lines3 Inv-loop μ-loop) → c .before .before .fitting .result ≤ length (c .before .before .before .before .write .last .1 .1 .1 .1 .1 .0)
 buffer c =
     let f = c .before .before in
     let w = f .before .before in
@@ -162,8 +167,8 @@ buffer c =
 
 -- what is put has as many bytes as fit
 part-length : (c : tie.After-lines3 Inv-loop μ-loop)
-    → length (take (c .before .before .fitting .result) (c .before .before .before .before .write .last .1 .1 .1 .1 .0)) ≡ c .before .before .fitting .result
-part-length c = length-take-le (c .before .before .fitting .result) (c .before .before .before .before .write .last .1 .1 .1 .1 .0) (buffer c)
+    → length (take (c .before .before .fitting .result) (c .before .before .before .before .write .last .1 .1 .1 .1 .1 .0)) ≡ c .before .before .fitting .result
+part-length c = length-take-le (c .before .before .fitting .result) (c .before .before .before .before .write .last .1 .1 .1 .1 .1 .0) (buffer c)
 
 slice-aggregate-put : tie.Need-slice-aggregate-put Inv-loop μ-loop
 slice-aggregate-put c = sym (part-length c)
@@ -248,7 +253,7 @@ returns-2 : tie.Need-returns-2 Inv-loop μ-loop
 returns-2 c =
     let e = c .before .before .before in
     let w = written-at (e .before .before .before) in
-    rest-end _ _ _ _ _ _ (over-told (step (was w) (line-in w) .next) (w .write .result .lead) (reading w .read .last .1 .0) (served w .match .c .session) (the-start (at-loop w) .args .text .now) (ending w .end-of .result + 1) (sym (c .before .is-over .ensures) ∙ c .if2 .taken) (told w .tracks)) (left-behind e)
+    rest-end _ _ _ _ _ _ (over-told (step (was w) (line-in w) .next) (w .write .result .lead) (lent-behind (reading w)) (served w .match .c .session) (the-start (at-loop w) .args .text .now) (ending w .end-of .result + 1) (sym (c .before .is-over .ensures) ∙ c .if2 .taken) (told w .tracks)) (left-behind e)
 
 add-from : tie.Need-add-from Inv-loop μ-loop
 add-from c =
@@ -268,7 +273,7 @@ loop-again c =
     let i = at-loop w .loop .inv in (
       put-within p,
       out-length p,
-      reading w .read .kept .1 .0 ∙ i .2,
+      reading w .read .kept .1 .1 .0 ∙ i .2,
       served-by (served w) .size,
       search needs,
       (step (was w) (line-in w) .next, (told w .tracks, left-behind e)),

@@ -16,7 +16,7 @@ lead-behind-requires : tie.Need-lead-behind-requires
 lead-behind-requires c κs = search needs
 
 same-length : tie.Need-same-length
-same-length c = ⊎-elim (λ w. ap length (w .6) ∙ w .3 .kept .1 .1 .1 .1 .0) (λ o. ⊎-elim (λ w. ap length (w .2)) (λ w. ap length (w .1)) o) (c .before .if1 .came)
+same-length c = ⊎-elim (λ w. ap length (w .6) ∙ w .3 .kept .1 .1 .1 .1 .1 .0) (λ o. ⊎-elim (λ w. ap length (w .2)) (λ w. ap length (w .1)) o) (c .before .if1 .came)
 
 -- the lengths where no line is told
 abbrev nothing : LineLengths
@@ -25,16 +25,16 @@ nothing = record { first = 0; len = 0 }
 abbrev Told : tie.Joined1 → Type 0
 Told c =
     let a = c .before .before .before .args in
-    Laid (linesTold (a .plan) (a .answer) (a .reply) (a .walk .now) (length (a .out .now))) (a .out .now) (c .if1 .out) (c .if1 .n .first) (c .if1 .n .len)
+    Laid (linesTold (a .plan) (a .marks .now) (a .answer) (a .reply) (a .walk .now) (length (a .out .now))) (a .out .now) (c .if1 .out) (c .if1 .n .first) (c .if1 .n .len)
 
 told : (c : tie.Joined1) → Told c
 told c =
     let a = c .before .before .before .args in
     ⊎-elim {C = Told c}
-    (λ w. laid-as _ _ _ _ _ (w .3 .result) (c .if1 .n) (told-lines (a .plan) (a .answer) (a .reply) (a .walk .now) _ (w .0 .taken) (w .1 .taken)) (w .6) (w .7) (w .3 .ensures))
+    (λ w. laid-as _ _ _ _ _ (w .3 .result) (c .if1 .n) (told-lines (a .plan) (a .marks .now) (a .answer) (a .reply) (a .walk .now) _ (w .0 .taken) (w .1 .taken)) (w .6) (w .7) (w .3 .ensures))
     (λ o. ⊎-elim {C = Told c}
-    (λ w. laid-as _ _ _ (a .out .now) _ nothing (c .if1 .n) (short-buffer (a .plan) (a .answer) (a .reply) (a .walk .now) _ (w .1 .left)) (w .2) (w .3) (no-lines (a .out .now)))
-    (λ w. laid-as _ _ _ (a .out .now) _ nothing (c .if1 .n) (long-walk (a .plan) (a .answer) (a .reply) (a .walk .now) _ (w .0 .left)) (w .1) (w .2) (no-lines (a .out .now)))
+    (λ w. laid-as _ _ _ (a .out .now) _ nothing (c .if1 .n) (short-buffer (a .plan) (a .marks .now) (a .answer) (a .reply) (a .walk .now) _ (w .1 .left)) (w .2) (w .3) (no-lines (a .out .now)))
+    (λ w. laid-as _ _ _ (a .out .now) _ nothing (c .if1 .n) (long-walk (a .plan) (a .marks .now) (a .answer) (a .reply) (a .walk .now) _ (w .0 .left)) (w .1) (w .2) (no-lines (a .out .now)))
     o)
     (c .if1 .came)
 
