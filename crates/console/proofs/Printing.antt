@@ -90,10 +90,10 @@ printed r′ held′ buf′ seen ls d d′ first len c l = record {
   lines = laid-bytes _ d d′ first len l;
 }
 
-pub told-bytes : (line : List ℕ) (lead : Lead) (plan : Plan) (answer : Answer) (reply : Reply) (walk d d′ : List ℕ) (w : Written) → length d ≡ linesMost → plan ≡ asked lead (recordOf line)
-    → Writes plan answer reply walk d d′ w → take (w .len) d′ ≡ bytesTold line lead answer reply walk
+pub told-bytes : (line : List ℕ) (lead : Lead) (plan : Plan) (marks : List ℕ) (answer : Answer) (reply : Reply) (walk d d′ : List ℕ) (w : Written) → length d ≡ linesMost → plan ≡ asked lead (recordOf line)
+    → Writes plan marks answer reply walk d d′ w → take (w .len) d′ ≡ bytesTold line lead marks answer reply walk
 unfolding bytesTold
-told-bytes line lead plan answer reply walk d d′ w e f t =
+told-bytes line lead plan marks answer reply walk d d′ w e f t =
     laid-bytes _ d d′ (w .first) (w .len) (t .laid) ∙ rw (e, f)
 
 pub one-behind : (ls : List (List ℕ)) (l : List ℕ) → step (heldBehind waiting (map recordOf ls)) (recordOf l) .next ≡ heldBehind waiting (map recordOf (ls ++ (l ∷ [])))

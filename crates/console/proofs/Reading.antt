@@ -1,5 +1,7 @@
 -- One byte of a read leaves the lines handed on as they are, a line or the limit ends the taking of bytes, and a further read goes on with them. Assumes nothing.
-use Prim.Native.Nat.{ℕ, zero, suc, _+_, _-_, _≤_, _<_}
+use Prim.Native.Nat.{ℕ, zero, suc, _+_, _-_, _≤_, _<_, min}
+use native.Mathlib.Nat.{min-eq-left, min-eq-right}
+use native.Mathlib.Decide.{decLe}
 use mathlib.Core.Path.{_≡_, refl, sym, ap, _∙_}
 use mathlib.Core.Bool.{Bool, true, false, true≢false, cond}
 use mathlib.Core.List.{List, [], _∷_, _++_, append-nil, append-assoc}
@@ -51,83 +53,100 @@ push-full held len b h m k =
 
 -- ---- taking the bytes of one read
 
--- what holds at each byte: the lines to come are those of the bytes left with what is held now
-pub record Going (held₀ buf : List ℕ) (end at₀ len₀ left₀ : ℕ) (held : List ℕ) (at len left : ℕ) : Type 0 where
-  pub from : at₀ ≤ at
-  pub to : at ≤ end
-  pub within : end ≤ length buf
+-- where the taking of bytes stops: with the read, or earlier where fewer may still come
+pub stops : (at left end n : ℕ) → at ≤ end → n ≡ min left (end - at) → (at + n ≤ end) × (at + n ≤ at + left) × (at + n < end → left ≤ n)
+stops at left end n h e = elim (decLe left (end - at)) [
+  | yes k ↦ let z : n ≡ left = e ∙ min-eq-left k in (omega arith, omega arith, λ _. omega arith)
+  | no k ↦
+      let less : end - at ≤ left = omega arith in
+      let z : n ≡ end - at = e ∙ min-eq-right less in
+      (omega arith, omega arith, λ t. absurd (omega arith))
+]
+
+-- What holds at each byte: the lines to come are those of the bytes left with what is held now. How many may still come is counted from the first byte on.
+pub record Going (held₀ buf : List ℕ) (r : Reader) (held : List ℕ) (at len : ℕ) : Type 0 where
+  pub from : r .at ≤ at
+  pub to : at ≤ r .end
+  pub within : r .end ≤ length buf
+  pub enough : at ≤ r .at + r .left
   pub len-most : len ≤ 33
   pub size : length held ≡ 33
-  pub falls : left + (at - at₀) ≡ left₀
-  pub rest : (more : List ℕ) → handed (take len₀ held₀) left₀ (drop at₀ (take end buf) ++ more) ≡ handed (take len held) left (drop at (take end buf) ++ more)
+  pub rest : (more : List ℕ) → handed (take (r .len) held₀) (r .left) (drop (r .at) (take (r .end) buf) ++ more) ≡ handed (take len held) (r .left - (at - r .at)) (drop at (take (r .end) buf) ++ more)
 
 next-byte : (buf : List ℕ) (at end : ℕ) → at < end → end ≤ length buf → drop at (take end buf) ≡ getD buf at 0 ∷ drop (at + 1) (take end buf)
 next-byte buf at end h k =
     let e : getD (take end buf) at 0 ≡ getD buf at 0 = getD-take end buf at 0 h in
     rw (add-one, sym e) (drop-cons (take end buf) at 0 (omega (arith, length-take end buf)))
 
-pub going-start : (held buf : List ℕ) (r : Reader) → Within r (length buf) → length held ≡ 33 → Going held buf (r .end) (r .at) (r .len) (r .left) held (r .at) (r .len) (r .left)
+pub going-start : (held buf : List ℕ) (r : Reader) → Within r (length buf) → length held ≡ 33 → Going held buf r held (r .at) (r .len)
 going-start held buf r w k = record {
   from = omega arith;
   to = w .at;
   within = w .end;
+  enough = omega arith;
   len-most = w .len;
   size = k;
-  falls = omega arith;
-  rest = λ more. refl;
+  rest = λ more. let all : r .left ≡ r .left - (r .at - r .at) = omega arith in ap (λ (n : ℕ). handed (take (r .len) held) n (drop (r .at) (take (r .end) buf) ++ more)) all;
 }
 
-pub going-byte : (held₀ buf : List ℕ) (end at₀ len₀ left₀ : ℕ) (held : List ℕ) (at len left : ℕ) (held′ : List ℕ) (len′ : ℕ)
-    → Going held₀ buf end at₀ len₀ left₀ held at len left → at < end → (left ≡ 0 → ⊥) → (getD buf at 0 ≡ 10 → ⊥)
-    → len′ ≤ 33 → length held′ ≡ 33 → take len′ held′ ≡ pushed (take len held) (getD buf at 0)
-    → Going held₀ buf end at₀ len₀ left₀ held′ (at + 1) len′ (left - 1)
-going-byte held₀ buf end at₀ len₀ left₀ held at len left held′ len′ g t z b k l p = record {
-  from = omega (arith, g .from);
-  to = omega arith;
-  within = g .within;
-  len-most = k;
-  size = l;
-  falls = omega (arith, g .falls, g .from, z);
-  rest = λ more. g .rest more ∙ ap (λ (bs : List ℕ). handed (take len held) left (bs ++ more)) (next-byte buf at end t (g .within))
-      ∙ handed-byte (take len held) left (getD buf at 0) (drop (at + 1) (take end buf) ++ more) (omega (arith, z)) b
-      ∙ ap (λ (h : List ℕ). handed h (left - 1) (drop (at + 1) (take end buf) ++ more)) (sym p);
-}
+module _ (r : Reader) (held₀ buf held : List ℕ) (at len : ℕ) (g : Going held₀ buf r held at len) where
+  -- how many may still come, here and behind one more byte
+  abbrev left : ℕ
+  left = r .left - (at - r .at)
 
-module _ (r : Reader) (held₀ buf held : List ℕ) (at len left : ℕ) (g : Going held₀ buf (r .end) (r .at) (r .len) (r .left) held at len left) (s : Reader) where
-  pub took-over : at < r .end → left ≡ 0 → s ≡ record { at = at; end = r .end; len = len; left = left; status = Over } → Took r held₀ buf s held
-  took-over t z e = rw e (record {
-    within = record { at = g .to; end = g .within; len = g .len-most };
-    size = g .size;
-    end = refl;
-    falls = g .falls;
-    moved = λ l. absurd (true≢false (sym (ap isLine l)));
-    goes = λ more. g .rest more ∙ ap (λ (bs : List ℕ). handed (take len held) left (bs ++ more)) (next-byte buf at (r .end) t (g .within))
-        ∙ handed-over (take len held) left (getD buf at 0) (drop (at + 1) (take (r .end) buf) ++ more) z;
-  })
+  less : at < r .at + r .left → left - 1 ≡ r .left - (at + 1 - r .at)
+  less h = omega (arith, g .from)
 
-  pub took-line : at < r .end → (left ≡ 0 → ⊥) → getD buf at 0 ≡ 10
-      → s ≡ record { at = at + 1; end = r .end; len = len; left = left - 1; status = Line } → Took r held₀ buf s held
-  took-line t z b e = rw e (record {
-    within = record { at = omega arith; end = g .within; len = g .len-most };
-    size = g .size;
-    end = refl;
-    falls = omega (arith, g .falls, g .from, z);
-    moved = λ l. omega (arith, g .from);
-    goes = λ more. g .rest more ∙ ap (λ (bs : List ℕ). handed (take len held) left (bs ++ more)) (next-byte buf at (r .end) t (g .within))
-        ∙ handed-line (take len held) left (getD buf at 0) (drop (at + 1) (take (r .end) buf) ++ more) (omega (arith, z)) b;
-  })
+  pub going-byte : (held′ : List ℕ) (len′ : ℕ) → at < r .end → at < r .at + r .left → (getD buf at 0 ≡ 10 → ⊥) → len′ ≤ 33 → length held′ ≡ 33 → take len′ held′ ≡ pushed (take len held) (getD buf at 0)
+      → Going held₀ buf r held′ (at + 1) len′
+  going-byte held′ len′ t z b k l p = record {
+    from = omega (arith, g .from);
+    to = omega arith;
+    within = g .within;
+    enough = omega arith;
+    len-most = k;
+    size = l;
+    rest = λ more. g .rest more ∙ ap (λ (bs : List ℕ). handed (take len held) left (bs ++ more)) (next-byte buf at (r .end) t (g .within))
+        ∙ handed-byte (take len held) left (getD buf at 0) (drop (at + 1) (take (r .end) buf) ++ more) (omega (arith, g .from)) b
+        ∙ (λ i. handed (sym p i) (less z i) (drop (at + 1) (take (r .end) buf) ++ more));
+  }
 
-  pub took-all : r .end ≤ at → s ≡ record { at = at; end = r .end; len = len; left = left; status = More } → Took r held₀ buf s held
-  took-all t e =
-      let none : drop at (take (r .end) buf) ≡ [] = drop-of-length-le (take (r .end) buf) {i = at} (omega (arith, length-take (r .end) buf)) in
-      rw e (record {
-        within = record { at = g .to; end = g .within; len = g .len-most };
-        size = g .size;
-        end = refl;
-        falls = g .falls;
-        moved = λ l. absurd (true≢false (sym (ap isLine l)));
-        goes = (none, λ more. g .rest more ∙ ap (λ (bs : List ℕ). handed (take len held) left (bs ++ more)) none);
-      })
+  module _ (s : Reader) where
+    pub took-over : at < r .end → r .at + r .left ≤ at → s ≡ record { at = at; end = r .end; len = len; left = left; status = Over } → Took r held₀ buf s held
+    took-over t z e = rw e (record {
+      within = record { at = g .to; end = g .within; len = g .len-most };
+      size = g .size;
+      end = refl;
+      falls = omega (arith, g .from, g .enough);
+      moved = λ l. absurd (true≢false (sym (ap isLine l)));
+      goes = λ more. g .rest more ∙ ap (λ (bs : List ℕ). handed (take len held) left (bs ++ more)) (next-byte buf at (r .end) t (g .within))
+          ∙ handed-over (take len held) left (getD buf at 0) (drop (at + 1) (take (r .end) buf) ++ more) (omega arith);
+    })
+
+    pub took-line : at < r .end → at < r .at + r .left → getD buf at 0 ≡ 10
+        → s ≡ record { at = at + 1; end = r .end; len = len; left = r .left - (at + 1 - r .at); status = Line } → Took r held₀ buf s held
+    took-line t z b e = rw e (record {
+      within = record { at = omega arith; end = g .within; len = g .len-most };
+      size = g .size;
+      end = refl;
+      falls = omega (arith, g .from);
+      moved = λ l. omega (arith, g .from);
+      goes = λ more. g .rest more ∙ ap (λ (bs : List ℕ). handed (take len held) left (bs ++ more)) (next-byte buf at (r .end) t (g .within))
+          ∙ handed-line (take len held) left (getD buf at 0) (drop (at + 1) (take (r .end) buf) ++ more) (omega (arith, g .from)) b
+          ∙ ap (λ (n : ℕ). take len held ∷ handed [] n (drop (at + 1) (take (r .end) buf) ++ more)) (less z);
+    })
+
+    pub took-all : r .end ≤ at → s ≡ record { at = at; end = r .end; len = len; left = left; status = More } → Took r held₀ buf s held
+    took-all t e =
+        let none : drop at (take (r .end) buf) ≡ [] = drop-of-length-le (take (r .end) buf) {i = at} (omega (arith, length-take (r .end) buf)) in
+        rw e (record {
+          within = record { at = g .to; end = g .within; len = g .len-most };
+          size = g .size;
+          end = refl;
+          falls = omega (arith, g .from, g .enough);
+          moved = λ l. absurd (true≢false (sym (ap isLine l)));
+          goes = (none, λ more. g .rest more ∙ ap (λ (bs : List ℕ). handed (take len held) left (bs ++ more)) none);
+        })
 
 -- ---- reading on
 

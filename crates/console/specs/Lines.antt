@@ -103,9 +103,9 @@ endOf r = cond (eqb (r .len) 0)
 
 -- ---- what is written
 
--- the bytes of the lines told for what a line asks of a lead, with an answer, a reply and the list of the walk, in the box's buffer
-unfoldable pub bytesTold : List ℕ → Lead → Answer → Reply → List ℕ → List ℕ
-bytesTold line lead answer reply walk = rendered (linesTold (asked lead (recordOf line)) answer reply walk linesMost)
+-- the bytes of the lines told for what a line asks of a lead, with the marks behind the line, an answer, a reply and the list of the walk, in the box's buffer
+unfoldable pub bytesTold : List ℕ → Lead → List ℕ → Answer → Reply → List ℕ → List ℕ
+bytesTold line lead marks answer reply walk = rendered (linesTold (asked lead (recordOf line)) marks answer reply walk linesMost)
 
 -- The bytes are what the plain definition prints for this line of what was read, behind some earlier lines: only the history of the reads holds these.
 pub record Printed (line bytes : List ℕ) : Type 0 where

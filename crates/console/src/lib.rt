@@ -58,29 +58,30 @@ pub fn onward(r: Reader) -> Reader
     standing(r.at, r.end, 0, r.left, Status::More)
 }
 
-// Takes bytes up to a newline or the end of the read.
+// Takes bytes up to a newline, or up to the end of the read or of what may still come. How many may come is counted once, for all bytes that were taken.
 fn take_bytes(buf: &[u8], held: &mut [u8; HELD], r: Reader) -> Reader
     requires { ⌜ Within r (length (now buf)) × (length (now held) ≡ heldMost) ⌝ }
     ensures { λ s. ⌜ Took r (now (held .entry)) (now (buf .entry)) s (now (held .exit)) ⌝ }
 {
     let end = r.end;
-    let mut at = r.at;
+    let from = r.at;
+    let stop = from + watch::least(r.left, end - from);
+    let mut at = from;
     let mut len = r.len;
-    let mut left = r.left;
-    while at < end {
-        if left == 0 {
-            return standing(at, end, len, left, Status::Over);
-        }
+    while at < stop {
         let b = buf[at];
         at += 1;
-        left -= 1;
         if b == line::NEWLINE {
-            return standing(at, end, len, left, Status::Line);
+            return standing(at, end, len, r.left - (at - from), Status::Line);
         }
         if len < HELD {
             held[len] = b;
             len += 1;
         }
+    }
+    let left = r.left - (at - from);
+    if at < end {
+        return standing(at, end, len, left, Status::Over);
     }
     standing(at, end, len, left, Status::More)
 }
@@ -126,17 +127,18 @@ pub fn next_line(buf: &mut [u8; CHUNK], held: &mut [u8; HELD], r: Reader) -> Rea
 }
 
 // Writes the lines that answer a line, as often as it takes: false where a write takes nothing or fails. Only this function writes. Its parameters fix what it
-// writes: the line that was read, what was held before it, the answer, the reply and the walk. That the plain definition prints these bytes for this line is true behind
+// writes: the line that was read, what was held before it, the marks behind it, the answer, the reply and the walk. That the plain definition prints these bytes for this line is true behind
 // some earlier lines, which only the history of the reads holds. No contract says that a write happened: only the tests see that.
 pub fn print(
     line: &[u8],
     lead: Lead,
+    marks: &[u64; 32],
     answer: Answer,
     reply: Reply,
     walk: &[u16],
     bytes: &[u8],
 ) -> bool
-    requires { ⌜ (now bytes ≡ bytesTold (now line) lead answer reply (now walk)) × Printed (now line) (now bytes) ⌝ }
+    requires { ⌜ (now bytes ≡ bytesTold (now line) lead (now marks) answer reply (now walk)) × Printed (now line) (now bytes) ⌝ }
 {
     let mut at: usize = 0;
     while at < bytes.len() {

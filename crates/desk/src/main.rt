@@ -18,6 +18,7 @@ fn is_read(lead: Lead) -> bool
     let stage = lead.stage;
     match stage {
         Stage::Waiting => false,
+        Stage::Opened => false,
         Stage::Gathering => false,
         Stage::Playing => true,
         Stage::Batching => true,
@@ -26,16 +27,23 @@ fn is_read(lead: Lead) -> bool
 }
 
 // The textbook search of what was gathered.
-fn search(lead: Lead, numbers: &[u16], walk: &mut [u16]) -> Answer
-    ensures { λ r. ⌜ LoadAnswered (gathered lead (now (numbers .entry))) (now (walk .entry)) r (now (walk .exit)) ⌝ }
+fn search(lead: Lead, marks: &[u64; 32], numbers: &[u16], walk: &mut [u16]) -> Answer
+    ensures { λ r. ⌜ LoadAnswered (gathered lead (now (marks .entry)) (now (numbers .entry))) (now (walk .entry)) r (now (walk .exit)) ⌝ }
 {
     let n = watch::least(wide(lead.count), numbers.len());
-    let words = lead.words;
-    textbook::search(lead.size, lead.start, words, &numbers[..n], walk)
+    textbook::search(
+        lead.size,
+        lead.start,
+        lead.kinds,
+        *marks,
+        &numbers[..n],
+        walk,
+    )
 }
 
 // Until `go` no line asks for an answer, and none for a reply: those held before it are never told.
 fn main() {
+    let mut marks: [u64; 32] = [0; 32];
     let mut numbers: [u16; table::NUMBERS] = [0; table::NUMBERS];
     let mut walk: [u16; watch::WALK] = [0; watch::WALK];
     let mut lines: [u8; watch::LINES] = [0; watch::LINES];
@@ -50,15 +58,23 @@ fn main() {
             return;
         }
         let len = r.len;
-        let plan = lead::read(lead, &mut numbers, &held[..len]);
+        let plan = lead::read(lead, &mut marks, &mut numbers, &held[..len]);
         let task = plan.task;
         if let Task::Ask(ask) = task {
-            answer = search(lead, &numbers, &mut walk);
+            answer = search(lead, &marks, &numbers, &mut walk);
         }
         let reply = Reply::Refused(0);
-        let w = watch::write(plan, answer, reply, &walk, &mut lines);
+        let w = watch::write(plan, &marks, answer, reply, &walk, &mut lines);
         let n = w.len;
-        if !console::print(&held[..len], lead, answer, reply, &walk, &lines[..n]) {
+        if !console::print(
+            &held[..len],
+            lead,
+            &marks,
+            answer,
+            reply,
+            &walk,
+            &lines[..n],
+        ) {
             return;
         }
         lead = w.lead;

@@ -2,6 +2,7 @@
 use lead::Task;
 
 fn main() {
+    let mut marks: [u64; 32] = [0; 32];
     let mut numbers: [u16; table::NUMBERS] = [0; table::NUMBERS];
     let mut walk: [u16; watch::WALK] = [0; watch::WALK];
     let mut lines: [u8; watch::LINES] = [0; watch::LINES];
@@ -16,16 +17,24 @@ fn main() {
             return;
         }
         let len = r.len;
-        let plan = lead::read(lead, &mut numbers, &held[..len]);
+        let plan = lead::read(lead, &mut marks, &mut numbers, &held[..len]);
         let task = plan.task;
         if let Task::Ask(ask) = task {
-            c = watch::serve(c.session, lead, ask, &numbers, &mut walk);
+            c = watch::serve(c.session, lead, ask, &marks, &numbers, &mut walk);
         }
         let answer = c.answer;
         let reply = watch::reply_to(c.session, task);
-        let w = watch::write(plan, answer, reply, &walk, &mut lines);
+        let w = watch::write(plan, &marks, answer, reply, &walk, &mut lines);
         let n = w.len;
-        if !console::print(&held[..len], lead, answer, reply, &walk, &lines[..n]) {
+        if !console::print(
+            &held[..len],
+            lead,
+            &marks,
+            answer,
+            reply,
+            &walk,
+            &lines[..n],
+        ) {
             return;
         }
         lead = w.lead;

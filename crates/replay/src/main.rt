@@ -1,9 +1,9 @@
 // Replays scripts of loads, changes, batches and questions, and prints what each is answered.
 // Standard input is a list of blocks of 65,536 bytes, of which the last may be shorter. Each is a script, which starts without a session: 16-bit numbers, the low
 // byte first.
-// - a load: 1, size, start, the paying words as 32 numbers, a count, so many numbers of moves, room
-// - a change: 2 (add), 3 (cut), 4 (mark) or 5 (unmark), two states, room
-// - a batch: 6, room, a count, so many lines of three numbers: 2 to 5 as above, or any other for a line that makes no change, and two states
+// - a load: 1, size, start, kinds of pay, a count, the paying words of so many kinds (at most 4) as 32 numbers each, a count, so many numbers of moves, room
+// - a change: 2 (add) or 3 (cut) and two states, or 4 (mark) or 5 (unmark) and a state and a kind, room
+// - a batch: 6, room, a count, so many lines of three numbers: 2 to 5 as above, or any other for a line that makes no change, and two more
 // - a question: 7, a state
 // - 0 at the end
 // The room says how much of the list is lent.
@@ -30,6 +30,9 @@ const BATCH: u16 = 6;
 
 // And a question.
 const QUESTION: u16 = 7;
+
+// The most kinds whose words a load has.
+const KINDS: usize = 4;
 
 // The most lines of a batch in a script.
 const LINES: usize = 70;
@@ -91,12 +94,27 @@ fn word_at(text: &[u8], at: usize, on: usize) -> u64
     ((d * 65536 + c) * 65536 + b) * 65536 + a
 }
 
-// The eight paying words of the load at a place.
-fn words_at(text: &[u8], at: usize) -> [u64; 8] {
-    let mut words: [u64; 8] = [0; 8];
+// How many kinds the load at a place has words for.
+fn kind_count(text: &[u8], at: usize) -> usize
+    ensures { λ r. ⌜ r ≤ 4 ⌝ }
+{
+    least(wide(number_at(text, at, 8)), KINDS)
+}
+
+// How many bytes the load at a place has before the count of its numbers.
+fn head_at(text: &[u8], at: usize) -> usize
+    ensures { λ r. ⌜ r < 300 ⌝ }
+{
+    10 + kind_count(text, at) * 64
+}
+
+// The paying words of the load at a place, eight for each kind; 0 for the kinds that it has none for.
+fn words_at(text: &[u8], at: usize) -> [u64; 32] {
+    let mut words: [u64; 32] = [0; 32];
+    let count = kind_count(text, at) * 8;
     let mut i: usize = 0;
-    while i < 8 {
-        words[i] = word_at(text, at, 6 + i * 8);
+    while i < count {
+        words[i] = word_at(text, at, 10 + i * 8);
         i += 1;
     }
     words
@@ -207,24 +225,39 @@ fn print_answer(answer: Answer, lent: &[u16]) {
 // The load at a place, with as much of the list lent as it says.
 fn load_at(text: &[u8], at: usize, lent: &mut [u16]) -> Outcome {
     let mut list: [u16; 5000] = [0; 5000];
-    let count = least(wide(number_at(text, at, 70)), 5000);
-    list_at(text, at, 72, count, &mut list);
-    let room = least(wide(number_at(text, at, 72 + count * 2)), lent.len());
+    let head = head_at(text, at);
+    let count = least(wide(number_at(text, at, head)), 5000);
+    list_at(text, at, head + 2, count, &mut list);
+    let end = head + 2 + count * 2;
+    let room = least(wide(number_at(text, at, end)), lent.len());
     let words = words_at(text, at);
     let size = number_at(text, at, 2);
     let start = number_at(text, at, 4);
-    session::load(size, start, words, &list[..count], &mut lent[..room])
+    let kinds = number_at(text, at, 6);
+    session::load(size, start, kinds, words, &list[..count], &mut lent[..room])
 }
 
 // The change at a place.
 fn op_at(text: &[u8], at: usize, what: u16) -> Op {
-    let from = number_at(text, at, 2);
-    let to = number_at(text, at, 4);
+    let first = number_at(text, at, 2);
+    let second = number_at(text, at, 4);
     match what {
-        3 => Op::Cut { from, to },
-        4 => Op::Mark { state: from },
-        5 => Op::Unmark { state: from },
-        _ => Op::Add { from, to },
+        3 => Op::Cut {
+            from: first,
+            to: second,
+        },
+        4 => Op::Mark {
+            state: first,
+            kind: second,
+        },
+        5 => Op::Unmark {
+            state: first,
+            kind: second,
+        },
+        _ => Op::Add {
+            from: first,
+            to: second,
+        },
     }
 }
 
@@ -322,7 +355,8 @@ fn size_at(text: &[u8], at: usize, what: u16) -> usize
     ensures { λ r. ⌜ (0 < r) × (r < 200000) ⌝ }
 {
     if what == 1 {
-        return 74 + wide(number_at(text, at, 70)) * 2;
+        let head = head_at(text, at);
+        return head + 4 + wide(number_at(text, at, head)) * 2;
     }
     if what == BATCH {
         return 6 + line_count(text, at, what) * 6;

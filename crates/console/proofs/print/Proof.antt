@@ -7,10 +7,10 @@ use Rattle.console.proofs.print.Statement.{statement}
 use Rattle.console.proofs.print.Tie as tie
 
 abbrev Inv-loop : tie.InvT-loop
-Inv-loop line walk bytes at₀ at = at ≤ length bytes
+Inv-loop line marks walk bytes at₀ at = at ≤ length bytes
 
 abbrev μ-loop : tie.MeasureT-loop
-μ-loop line walk bytes at₀ at = length bytes - at
+μ-loop line marks walk bytes at₀ at = length bytes - at
 
 loop-holds : tie.Need-loop-holds Inv-loop μ-loop
 loop-holds c = search needs

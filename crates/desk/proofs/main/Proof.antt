@@ -1,4 +1,4 @@
--- `main` is safe and ends, and writes what the plain definition prints: behind the lines of what was read so far, the lead and the list of numbers stand for what is held
+-- `main` is safe and ends, and writes what the plain definition prints: behind the lines of what was read so far, the lead and what is lent beside it stand for what is held
 -- behind their records, and the game is not read whole. The arrays keep their lengths, and each line takes off what may still come. Assumes nothing.
 use mathlib.Core.Path.{_≡_, refl, sym, ap, subst, _∙_}
 use mathlib.Core.List.{List, [], _∷_, _++_, map}
@@ -12,12 +12,13 @@ use lib.ListN.{length}
 use lib.Seq.{length-take-le}
 use Rattle.line.specs.Records.{recordOf}
 use Rattle.question.specs.declared.Reply.the-variants.{Refused}
+use Rattle.line.proofs.Paying.{record-pay}
 use Rattle.lead.specs.declared.Lead.{Lead}
 use Rattle.lead.specs.Asked.{numbersMost}
 use Rattle.session.specs.Model.{noGame}
 use Rattle.watch.specs.Text.{waiting, room, heldBehind}
 use Rattle.watch.specs.Model.{linesMost}
-use Rattle.watch.proofs.Steps.{Tracks}
+use Rattle.watch.proofs.Steps.{Lent, lentTo, Tracks}
 use Rattle.watch.proofs.Output.{laid-within, laid-first}
 use Rattle.console.specs.Lines.{chunk, heldMost, Within, heldIn, isLine, hasLine}
 use Rattle.console.proofs.Reading.{within-first}
@@ -28,12 +29,12 @@ use Rattle.desk.proofs.main.Statement.{statement}
 use Rattle.desk.proofs.main.Tie as tie
 
 abbrev Inv-loop : tie.InvT-loop
-Inv-loop numbers₀ walk₀ lines₀ buf₀ held₀ lead₀ answer₀ r₀ numbers walk lines buf held lead answer r =
+Inv-loop marks₀ numbers₀ walk₀ lines₀ buf₀ held₀ lead₀ answer₀ r₀ marks numbers walk lines buf held lead answer r =
     (length numbers ≡ numbersMost) × (length walk ≡ room) × (length lines ≡ linesMost) × (length buf ≡ chunk) × (length held ≡ heldMost) × Within r chunk
-    × ((ls : List (List ℕ)) × ((seen : List ℕ) × (Read r held buf seen ls × ((isRead (lead .stage) ≡ false) × Tracks lead numbers noGame (heldBehind waiting (map recordOf ls))))))
+    × ((ls : List (List ℕ)) × ((seen : List ℕ) × (Read r held buf seen ls × ((isRead (lead .stage) ≡ false) × Tracks lead (lentTo marks numbers) noGame (heldBehind waiting (map recordOf ls))))))
 
 abbrev μ-loop : tie.MeasureT-loop
-μ-loop numbers₀ walk₀ lines₀ buf₀ held₀ lead₀ answer₀ r₀ numbers walk lines buf held lead answer r = r .left
+μ-loop marks₀ numbers₀ walk₀ lines₀ buf₀ held₀ lead₀ answer₀ r₀ marks numbers walk lines buf held lead answer r = r .left
 
 first-lead-requires : tie.Need-first-lead-requires Inv-loop μ-loop
 first-lead-requires c κs = search needs
@@ -53,7 +54,7 @@ loop-holds c = (
   search needs,
   search needs,
   within-first (c .begin .result) (c .begin .ensures),
-  ([], ([], (read-first (c .begin .result) _ _ (c .begin .ensures), (ap (λ (l : Lead). isRead (l .stage)) (c .before .before .first-lead .ensures), ap (λ (l : Lead). l .stage) (c .before .before .first-lead .ensures))))),
+  ([], ([], (read-first (c .begin .result) _ _ (c .begin .ensures), (ap (λ (l : Lead). isRead (l .stage)) (c .before .before .first-lead .ensures), (ap (λ (l : Lead). l .stage) (c .before .before .first-lead .ensures), refl))))),
 )
 
 next-line-requires : tie.Need-next-line-requires Inv-loop μ-loop
@@ -73,7 +74,7 @@ array-share-prefix-held c = search needs
 
 slice-aggregate-read-2 : tie.Need-slice-aggregate-read-2 Inv-loop μ-loop
 slice-aggregate-read-2 c =
-    let n = c .before .before .before .before .next-line in
+    let n = c .before .before .before .before .before .next-line in
     sym (length-take-le (n .result .len) (n .last .1 .0) (omega (arith, n .ensures .within .len, n .ensures .size)))
 
 read-requires : tie.Need-read-requires Inv-loop μ-loop
@@ -92,39 +93,43 @@ search-requires : tie.Need-search-requires Inv-loop μ-loop
 search-requires c κs = search needs
 
 abbrev the-loop : tie.At-match-came Inv-loop μ-loop → tie.At-loop Inv-loop μ-loop
-the-loop c = c .before .before .before .before .before .before .before .before .before .before
+the-loop c = c .before .before .before .before .before .before .before .before .before .before .before
+
+-- what is lent behind a line that was read
+abbrev lent-behind : tie.After-read Inv-loop μ-loop → Lent
+lent-behind r = lentTo (r .read .last .1 .0) (r .read .last .1 .1 .0)
 
 -- what the line asks for is searched for
 served-by : (c : tie.At-match-came Inv-loop μ-loop)
     → let r = c .before .before in
     let l = the-loop c in
-    Done (l .loop .lead) (r .read .last .1 .0) (l .loop .walk) (l .loop .inv .1) (c .match .answer) (c .match .walk) (r .read .result .task)
+    Done (l .loop .lead) (lent-behind r) (l .loop .walk) (l .loop .inv .1) (c .match .answer) (c .match .walk) (r .read .result .task)
 served-by c =
     let r = c .before .before in
     let l = the-loop c in
     ⊎-elim
-    (λ w. done-asked (l .loop .lead) _ _ (l .loop .inv .1) _ _ (r .read .result .task) _ _ _ (w .1 .given .1) (w .7) (w .8) (w .5 .kept .1 .1 .0) (w .5 .ensures))
+    (λ w. done-asked (l .loop .lead) _ _ (l .loop .inv .1) _ _ (r .read .result .task) _ _ _ (w .1 .given .1) (w .8) (w .9) (w .6 .kept .1 .1 .1 .0) (w .6 .ensures))
     (λ w. done-not (l .loop .lead) _ _ (l .loop .inv .1) _ _ (r .read .result .task) (w .0 .keys2) (w .1))
     (c .match .came)
 
 slice-aggregate-write : tie.Need-slice-aggregate-write Inv-loop μ-loop
-slice-aggregate-write c = sym (served-by (c .before) .size)
+slice-aggregate-write c = sym (served-by (c .before .before) .size)
 
 slice-aggregate-write-2 : tie.Need-slice-aggregate-write-2 Inv-loop μ-loop
-slice-aggregate-write-2 c = sym (the-loop (c .before .before) .loop .inv .2)
+slice-aggregate-write-2 c = sym (the-loop (c .before .before .before) .loop .inv .2)
 
 write-requires : tie.Need-write-requires Inv-loop μ-loop
 write-requires c κs = search needs
 
 -- the places before a line's answer is written
 abbrev served : tie.After-write Inv-loop μ-loop → tie.At-match-came Inv-loop μ-loop
-served w = w .before .before .before
+served w = w .before .before .before .before
 
 abbrev reading : tie.After-write Inv-loop μ-loop → tie.After-read Inv-loop μ-loop
 reading w = served w .before .before
 
 abbrev found : tie.After-write Inv-loop μ-loop → tie.After-next-line Inv-loop μ-loop
-found w = reading w .before .before .before .before .before
+found w = reading w .before .before .before .before .before .before
 
 abbrev at-loop : tie.After-write Inv-loop μ-loop → tie.At-loop Inv-loop μ-loop
 at-loop w = the-loop (served w)
@@ -137,11 +142,11 @@ abbrev line-in : tie.After-write Inv-loop μ-loop → List ℕ
 line-in w = heldIn (found w .next-line .result) (found w .next-line .last .1 .0)
 
 told : (w : tie.After-write Inv-loop μ-loop)
-    → Behind (heldBehind waiting (map recordOf (before-it w))) (recordOf (line-in w)) (reading w .read .last .1 .0) (at-loop w .loop .lines) (w .write .last .1 .1 .1 .1 .0) (w .write .result)
+    → Behind (heldBehind waiting (map recordOf (before-it w))) (recordOf (line-in w)) (lent-behind (reading w)) (at-loop w .loop .lines) (w .write .last .1 .1 .1 .1 .1 .0) (w .write .result)
 told w =
     let i = at-loop w .loop .inv in
     let d = served-by (served w) in
-    behind (at-loop w .loop .lead) _ (heldBehind waiting (map recordOf (before-it w))) _ (recordOf (line-in w)) _ _ (Refused 0) _ refl (i .0) (i .1) (i .6 .1 .1 .1 .1) (i .6 .1 .1 .1 .0) (reading w .read .ensures .1) _ (reading w .read .ensures .0)
+    behind (at-loop w .loop .lead) _ (heldBehind waiting (map recordOf (before-it w))) _ (recordOf (line-in w)) _ _ (Refused 0) _ refl (i .0) (i .1) (i .6 .1 .1 .1 .1) (i .6 .1 .1 .1 .0) (record-pay (line-in w)) (λ j. lentTo (reading w .read .ensures .1 .0 j) (reading w .read .ensures .1 .1 j)) _ (reading w .read .ensures .0)
     _ _ _ (d .searched) (d .size) (i .2) (w .write .ensures)
 
 -- what was read, the bytes that this line took included
@@ -151,7 +156,7 @@ seen-by w = at-loop w .loop .inv .6 .1 .0 ++ found w .next-line .ensures .brough
 -- there is a line
 there : (w : tie.After-write Inv-loop μ-loop) → hasLine (found w .next-line .result .status) ≡ true
 there w =
-    let e = reading w .before .before .before in
+    let e = reading w .before .before .before .before in
     sym (e .before .has-line .ensures) ∙ not-false (e .before .has-line .result) (e .if1 .left)
 
 came : (w : tie.After-write Inv-loop μ-loop)
@@ -159,7 +164,7 @@ came : (w : tie.After-write Inv-loop μ-loop)
 came w = come (at-loop w .loop .r) (at-loop w .loop .held) (at-loop w .loop .buf) _ _ _ _ _ (found w .next-line .ensures) (there w) (at-loop w .loop .inv .6 .1 .1 .0)
 
 -- the lines end within the buffer, and the first within both
-within : (w : tie.After-write Inv-loop μ-loop) → (w .write .result .len ≤ length (w .write .last .1 .1 .1 .1 .0)) × (w .write .result .first ≤ w .write .result .len)
+within : (w : tie.After-write Inv-loop μ-loop) → (w .write .result .len ≤ length (w .write .last .1 .1 .1 .1 .1 .0)) × (w .write .result .first ≤ w .write .result .len)
 within w = (laid-within _ _ _ _ _ (told w .laid), laid-first _ _ _ _ _ (told w .laid))
 
 array-share-prefix-held-2 : tie.Need-array-share-prefix-held-2 Inv-loop μ-loop
@@ -171,22 +176,22 @@ slice-aggregate-print c =
     sym (length-take-le (n .result .len) (n .last .1 .0) (omega (arith, n .ensures .within .len, n .ensures .size)))
 
 slice-aggregate-print-2 : tie.Need-slice-aggregate-print-2 Inv-loop μ-loop
-slice-aggregate-print-2 c = sym (served-by (served (c .before .before .before)) .size)
+slice-aggregate-print-2 c = sym (served-by (served (c .before .before .before .before)) .size)
 
 array-share-prefix-lines : tie.Need-array-share-prefix-lines Inv-loop μ-loop
 array-share-prefix-lines c =
-    let w = c .before .before .before in
-    omega (arith, within w, w .write .kept .1 .1 .1 .1 .0, at-loop w .loop .inv .2)
+    let w = c .before .before .before .before in
+    omega (arith, within w, w .write .kept .1 .1 .1 .1 .1 .0, at-loop w .loop .inv .2)
 
 slice-aggregate-print-3 : tie.Need-slice-aggregate-print-3 Inv-loop μ-loop
 slice-aggregate-print-3 c =
-    let w = c .before .before .before .before in
-    sym (length-take-le _ (w .write .last .1 .1 .1 .1 .0) (omega (arith, within w)))
+    let w = c .before .before .before .before .before in
+    sym (length-take-le _ (w .write .last .1 .1 .1 .1 .1 .0) (omega (arith, within w)))
 
 print-requires : tie.Need-print-requires Inv-loop μ-loop
 print-requires c κs =
-    let w = c .before .before .before .before in (
-      told-bytes (line-in w) _ _ _ _ _ _ _ _ (at-loop w .loop .inv .2) (reading w .read .ensures .0) (w .write .ensures),
+    let w = c .before .before .before .before .before in (
+      told-bytes (line-in w) _ _ _ _ _ _ _ _ _ (at-loop w .loop .inv .2) (reading w .read .ensures .0) (w .write .ensures),
       printed _ _ _ _ _ _ _ _ _ (came w) (told w .laid),
     )
 
@@ -209,7 +214,7 @@ onward-requires : tie.Need-onward-requires Inv-loop μ-loop
 onward-requires c κs = search needs
 
 abbrev answered : tie.After-onward Inv-loop μ-loop → tie.After-write Inv-loop μ-loop
-answered c = c .before .before .before .before .before .before .before .before .before .before .before .before
+answered c = c .before .before .before .before .before .before .before .before .before .before .before .before .before
 
 -- the line was not the last
 ended : (c : tie.After-onward Inv-loop μ-loop) → isLine (found (answered c) .next-line .result .status) ≡ true
@@ -237,13 +242,13 @@ loop-again c =
     let w = answered c in
     let i = at-loop w .loop .inv in
     let e = found w .next-line .ensures in (
-      reading w .read .kept .1 .0 ∙ i .0,
+      reading w .read .kept .1 .1 .0 ∙ i .0,
       served-by (served w) .size,
-      w .write .kept .1 .1 .1 .1 .0 ∙ i .2,
+      w .write .kept .1 .1 .1 .1 .1 .0 ∙ i .2,
       e .space,
       e .size,
       goes-on c .within,
-      (before-it w ++ (line-in w ∷ []), (seen-by w, (goes-on c .read, (unread c, subst (Tracks (w .write .result .lead) (reading w .read .last .1 .0) noGame) (one-behind (before-it w) (line-in w)) (told w .tracks (unread c)))))),
+      (before-it w ++ (line-in w ∷ []), (seen-by w, (goes-on c .read, (unread c, subst (Tracks (w .write .result .lead) (lent-behind (reading w)) noGame) (one-behind (before-it w) (line-in w)) (told w .tracks (unread c)))))),
     )
 
 pub main-spec : {M : Type 1} → statement M

@@ -24,7 +24,7 @@ returns : tie.Need-returns
 returns c =
     let s = c .before .before in
     let e = s .before .before .before .before in
-    search-all (e .before .before .before .before .args .lead) _ _ _ _ _ _ (e .least .ensures) (e .before .wide .ensures .0) (s .search .ensures)
+    search-all (e .before .before .before .before .args .lead) _ _ _ _ _ _ _ (e .least .ensures) (e .before .wide .ensures .0) (s .search .ensures)
 
 pub search-spec : {M : Type 1} → statement M
 search-spec =

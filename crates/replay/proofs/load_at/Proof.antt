@@ -5,6 +5,9 @@ use borrow.Author.Needs.{needs}
 use Rattle.replay.proofs.load_at.Statement.{statement}
 use Rattle.replay.proofs.load_at.Tie as tie
 
+head-at-requires : tie.Need-head-at-requires
+head-at-requires c κs = search needs
+
 number-at-requires : tie.Need-number-at-requires
 number-at-requires c κs = search needs
 
@@ -14,17 +17,23 @@ wide-requires c κs = search needs
 least-requires : tie.Need-least-requires
 least-requires c κs = search needs
 
+add-list-at : tie.Need-add-list-at
+add-list-at c = search needs
+
 slice-aggregate-list-at : tie.Need-slice-aggregate-list-at
 slice-aggregate-list-at c = search needs
 
 list-at-requires : tie.Need-list-at-requires
 list-at-requires c κs = search needs
 
-mul-number-at : tie.Need-mul-number-at
-mul-number-at c = search needs
+add-end : tie.Need-add-end
+add-end c = search needs
 
-add-number-at : tie.Need-add-number-at
-add-number-at c = search needs
+mul-end : tie.Need-mul-end
+mul-end c = search needs
+
+add-end-2 : tie.Need-add-end-2
+add-end-2 c = search needs
 
 number-at-requires-2 : tie.Need-number-at-requires-2
 number-at-requires-2 c κs = search needs
@@ -43,6 +52,9 @@ number-at-requires-3 c κs = search needs
 
 number-at-requires-4 : tie.Need-number-at-requires-4
 number-at-requires-4 c κs = search needs
+
+number-at-requires-5 : tie.Need-number-at-requires-5
+number-at-requires-5 c κs = search needs
 
 array-share-prefix-list : tie.Need-array-share-prefix-list
 array-share-prefix-list c = search needs
@@ -69,19 +81,23 @@ pub load-at-spec : {M : Type 1} → statement M
 load-at-spec =
     tie.close
     (tie.spec
+    head-at-requires
     number-at-requires
     wide-requires
     least-requires
+    add-list-at
     slice-aggregate-list-at
     list-at-requires
-    mul-number-at
-    add-number-at
+    add-end
+    mul-end
+    add-end-2
     number-at-requires-2
     wide-requires-2
     least-requires-2
     words-at-requires
     number-at-requires-3
     number-at-requires-4
+    number-at-requires-5
     array-share-prefix-list
     slice-aggregate-load
     slice-relend-prefix-load

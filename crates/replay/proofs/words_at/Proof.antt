@@ -1,4 +1,4 @@
--- `words_at` is safe and ends: i counts up to 8, and no store changes the array's length. Assumes nothing.
+-- `words_at` is safe and ends: i counts up to the count, at most 32, and no store changes the array's length. Assumes nothing.
 use mathlib.Core.Path.{_≡_}
 use Prim.Native.Nat.{_-_, _≤_}
 use borrow.Author.Needs.{needs}
@@ -7,10 +7,16 @@ use Rattle.replay.proofs.words_at.Statement.{statement}
 use Rattle.replay.proofs.words_at.Tie as tie
 
 abbrev Inv-loop : tie.InvT-loop
-Inv-loop text at words₀ i₀ words i = (i ≤ 8) × (length words ≡ 8)
+Inv-loop text at words₀ count i₀ words i = (count ≤ 32) × (i ≤ count) × (length words ≡ 32)
 
 abbrev μ-loop : tie.MeasureT-loop
-μ-loop text at words₀ i₀ words i = 8 - i
+μ-loop text at words₀ count i₀ words i = count - i
+
+kind-count-requires : tie.Need-kind-count-requires Inv-loop μ-loop
+kind-count-requires c κs = search needs
+
+mul-count : tie.Need-mul-count Inv-loop μ-loop
+mul-count c = search needs
 
 loop-holds : tie.Need-loop-holds Inv-loop μ-loop
 loop-holds c = search needs
@@ -48,6 +54,8 @@ words-at-spec =
     (tie.spec
     Inv-loop
     μ-loop
+    kind-count-requires
+    mul-count
     loop-holds
     mul-word-at
     add-word-at
