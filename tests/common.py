@@ -132,8 +132,8 @@ def in_parts(program, parts):
 
 def compare_in_parts(program, texts, model, rng):
     """Each of these texts, named, in parts of three sorts."""
-    def single_bytes(text):
-        return ((text[i:i + 1], 0) for i in range(len(text)))
+    def single_bytes(text):                    # with pauses up to where `kinds` may stand, since the program has first to start
+        return ((text[i:i + 1], 0.001 * (i < 24)) for i in range(len(text)))
 
     def random_places(text):
         at = sorted(rng.sample(range(len(text) + 1), min(len(text), 30)))
@@ -192,7 +192,10 @@ class Hall:
             fail(self.what + ": there is more output")
 
 
-REFUSED_LOADS = [as_lines(rows) for rows in (["go"], ["game 2 2", "go"], ["game 2 0", "", "go"], ["game 2 0", "pay 512"])]
+REFUSED_LOADS = [as_lines(rows) for rows in (
+    ["go"], ["game 2 2", "go"], ["game 2 0", "", "go"], ["game 2 0", "pay 512"], ["kinds 2"], ["game 2 0", "kinds 2", "kinds 2"],
+    ["game 2 0", "kinds 65536"], ["game 2 0", "pay 0", "kinds 2"], ["game 2 0", "kinds 2", "pay 0 5"], ["game 2 0", "pay 0 2", "go"],
+    ["game 2 0", "kinds 5", "go"], ["game 257 0", "kinds 2", "go"])]
 
 
 def ends_behind(program, what, text, wanted):

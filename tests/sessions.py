@@ -16,10 +16,11 @@ import sys
 
 import common
 from common import ROOT, STORED, as_lines, difference, fail, game_a
-from batches import LENGTHS, NUMBERS, some_lines
-from reference import (BATCH_GAMES, CHANGES, FIELDS, GAMES, INSIDE, MARK_GAMES, MOST_MOVES, MOST_STATES, OUTSIDE, SELF_GAMES,
-                       UNREACHED_GAMES, WAYS_GAMES, Table, answer_text, bench_answer, flat, made, plain_search, read_line, records,
-                       rows_of, words_of)
+from batches import KIND_NUMBERS, LENGTHS, NUMBERS, some_lines
+from reference import (BATCH_GAMES, CHANGES, FIELDS, GAMES, INSIDE, KIND_GAMES, MARK_GAMES, MOST_KINDS, MOST_MOVES, MOST_STATES,
+                       MOVE_WORDS, OUTSIDE, SELF_GAMES, UNREACHED_GAMES, WAYS_GAMES, WITH_KIND, Table, answer_text, bench_answer,
+                       carried, game_rows, in_full, load_args, made, of_kinds, plain_search, random_kind, read_line, records,
+                       rows_of, states_of, up_to_go)
 
 
 # ------------------------------------------------------------ one text
@@ -28,16 +29,27 @@ class Text:
     """Collects lines, and holds the moves present and the marks so that the next line can be about them."""
 
     def __init__(self, size, start, pays=(), moves=()):
+        """pays: the states that pay, or with kinds what carries each, as the reference's games have it."""
         self.size, self.start = size, start
-        self.rows = ["game %d %d" % (size, start)] + ["pay %d" % s for s in pays]
-        self.rows += ["move %d %d" % m for m in moves] + ["go"]
+        self.written, carriers = carried(pays)                  # K, or None where the line is left out
+        self.kinds = 1 if self.written is None else self.written
+        self.rows = game_rows(size, start, pays, moves)
         self.moves = dict.fromkeys(moves)
-        self.pays = dict.fromkeys(pays)
+        self.marks = {(s, kind): None for kind, states in enumerate(carriers, 1) for s in states}
         self.last_cut = None
+
+    @property
+    def pays(self):
+        """The states that carry kind 1."""
+        return [s for s, kind in self.marks if kind == 1]
+
+    def carried(self):
+        """The marks of this moment."""
+        return of_kinds(self.written, *([s for s, own in self.marks if own == kind] for kind in range(1, MOST_KINDS + 1)))
 
     def add(self, move):
         self.rows.append("add %d %d" % move)
-        if len(self.moves) < MOST_MOVES and max(move) < self.size:
+        if (len(self.moves) + 1) * self.kinds <= MOST_MOVES and max(move) < self.size:
             self.moves.setdefault(move)
 
     def cut(self, move):
@@ -50,14 +62,16 @@ class Text:
         """The state's move to itself comes or goes."""
         (self.cut if (state, state) in self.moves else self.add)((state, state))
 
-    def mark(self, state):
-        self.rows.append("mark %d" % state)
-        if state < self.size:
-            self.pays.setdefault(state)
+    def mark(self, state, *kind):
+        """The kind may be left out."""
+        self.rows += rows_of(("mark", state, *kind))
+        _, *mark = in_full("mark", state, *kind)
+        if state < self.size and mark[1] <= self.kinds:
+            self.marks.setdefault(tuple(mark))
 
-    def unmark(self, state):
-        self.rows.append("unmark %d" % state)
-        self.pays.pop(state, None)
+    def unmark(self, state, *kind):
+        self.rows += rows_of(("unmark", state, *kind))
+        self.marks.pop(in_full("unmark", state, *kind)[1:], None)
 
     def turn(self, state):
         """The state's pay comes or goes."""
@@ -157,10 +171,11 @@ NUMBERS_TO_READ = [b"", b"0", b"00", b"01", b"1", b"9", b"511", b"512", b"513", 
 
 
 def distorted(line):
-    """A right line, and what becomes of it."""
+    """A right line, and what becomes of it. Where a kind may follow, one that there never is does."""
     fields = line.split(b"\t")
+    more = b"\t5" if fields[0] in WITH_KIND and len(fields) == 2 else b"\t1"
     yield from [line, line.upper(), line.title(), b"\t" + line, b" " + line, line + b"\t", line + b"\t\t", line + b" ",
-                line + b"\r", line + b"\0", b"\0" + line, line + b"\t1", line + b"\t1\t1", b"\t".join(fields[:-1]),
+                line + b"\r", line + b"\0", b"\0" + line, line + more, line + b"\t1\t1", b"\t".join(fields[:-1]),
                 line.replace(b"\t", b" "), line.replace(b"\t", b"\t\t"), line.replace(b"\t", b"\x0b"), fields[0]]
     for at in range(1, len(fields)):
         yield from (b"\t".join(fields[:at] + [n] + fields[at + 1:]) for n in NUMBERS_TO_READ)
@@ -181,6 +196,16 @@ def hostile_lines():
     return list(dict.fromkeys(lines))
 
 
+def kind_lines():
+    """The same about kinds, apart from the others, so that what was drawn from those stays as it was."""
+    lines = [one for line in (b"kinds\t2", b"pay\t1\t2", b"mark\t0\t2", b"unmark\t1\t2") for one in distorted(line)]
+    named = b"0\t1", b"0\t3", b"0\t4", b"2\t3", b"2\t1", b"512\t2"
+    lines += [word + b"\t" + one for word in sorted(WITH_KIND) for one in named]
+    lines += [b"kind\t2", b"kindss\t2", b"kinds2", b"kinds\tkinds", b"kinds\t1", b"kinds\t3", b"kinds\t4", b"kinds\t5",
+              b"add\t0\t1\t2", b"cut\t0\t1\t2", b"move\t0\t1\t2", b"ways\t0\t2"]
+    return list(dict.fromkeys(lines))
+
+
 HOSTILE = hostile_lines()
 # Those that are 1 inside a batch, and those that are outside one.
 NO_CHANGE = [line for line in HOSTILE if read_line(line, INSIDE) is None]
@@ -190,13 +215,24 @@ STAGES = [b"", b"game\t2\t0\n", b"game\t2\t0\npay\t1\n", b"game\t2\t0\npay\t1\nm
           b"game\t2\t0\npay\t1\nmove\t1\t0\ngo\n", b"game\t2\t0\npay\t1\nmove\t1\t0\ngo\nbegin\nadd\t0\t0\n"]
 BEHIND = [b"go\n"] * 4 + [b"", b"cut\t0\t0\nend\n"]
 BEFORE_GO = 4                                  # how many of these are places before `go`
+ENDING = b"ways\t0\nadd\t0\t1\nunmark\t1\nways\t1\ncut\t0\t1"
+KIND_HOSTILE = kind_lines()
+KIND_NO_CHANGE = [line for line in KIND_HOSTILE if read_line(line, INSIDE) is None]
+KIND_NO_CALL = [line for line in KIND_HOSTILE if read_line(line, OUTSIDE) is None]
+TWO_KINDS = b"game\t2\t0\nkinds\t2\n"
+KIND_STAGES = [b"game\t2\t0\n", TWO_KINDS, TWO_KINDS + b"pay\t1\t2\n", TWO_KINDS + b"pay\t1\t2\nmove\t1\t0\n",
+               TWO_KINDS + b"pay\t1\t2\nmove\t1\t0\ngo\n", TWO_KINDS + b"pay\t1\t2\nmove\t1\t0\ngo\nbegin\nadd\t0\t0\n"]
+KIND_ENDING = b"ways\t0\nadd\t0\t1\nmark\t0\nmark\t0\t2\nunmark\t1\t2\nunmark\t1\ncut\t0\t1"
 
 
 def staged(places=len(STAGES)):
-    """Each hostile line at each of the first places of a small session, with lines behind it that show what became of it."""
-    for line in HOSTILE + [b"x" * 70000, b"add\t0\t1\n" * 9000]:
-        for before, behind in list(zip(STAGES, BEHIND))[:places]:
-            yield before + line + b"\n" + behind + b"ways\t0\nadd\t0\t1\nunmark\t1\nways\t1\ncut\t0\t1"
+    """Each hostile line at each of the first places of a small session, with lines behind it that show what became of it; and
+    those about kinds in one with two of them."""
+    sorts = ((HOSTILE + [b"x" * 70000, b"add\t0\t1\n" * 9000], STAGES, ENDING), (KIND_HOSTILE, KIND_STAGES, KIND_ENDING))
+    for lines, stages, ending in sorts:
+        for line in lines:
+            for before, behind in list(zip(stages, BEHIND))[:places]:
+                yield before + line + b"\n" + behind + ending
 
 
 # ------------------------------------------------------- random sessions
@@ -357,7 +393,7 @@ class Beside:
 
     def __init__(self, text):
         self.text, self.table = text, Table()
-        self.table.load(text.size, text.start, words_of(text.pays), flat(text.moves), MOST_STATES)
+        self.table.load(*load_args(text.size, text.start, text.carried(), text.moves), MOST_STATES)
         self.named = []                        # the states of the last change or batch, which the next question may be about
 
     def send(self, *call):
@@ -365,7 +401,7 @@ class Beside:
         made(self.table, call, MOST_STATES)
         if call[0] in ("add", "cut", "mark", "unmark", "batch"):
             lines = call[1] if call[0] == "batch" else [call]
-            self.named = [state for line in lines if isinstance(line, tuple) for state in line[1:]]
+            self.named = [state for line in lines if isinstance(line, tuple) for state in states_of(*line)]
 
     def ask(self, rng, hub):
         """A question: about a state that the last change or batch names, about the hub or any, or about one outside."""
@@ -397,6 +433,11 @@ def no_change(rng):
     return rng.choice(words if rng.random() < 0.5 else NO_CHANGE)
 
 
+def numbers_for(table):
+    """What a line may be refused with."""
+    return NUMBERS if table.kinds == 1 else KIND_NUMBERS
+
+
 def batch_of(rng, table):
     """The lines of a batch, of each length; a third are refused, with each number at each place, and of these some have
     more lines behind it that nobody looks at."""
@@ -404,7 +445,8 @@ def batch_of(rng, table):
     fault = None
     if rng.random() < 0.35:
         count = max(1, count)
-        numbers = NUMBERS if len(table.moves) < MOST_MOVES - 8 or rng.random() < 0.5 else (9,)
+        full = MOST_MOVES // table.kinds
+        numbers = numbers_for(table) if len(table.moves) < full - 8 or rng.random() < 0.5 else (9,)
         fault = rng.choice(numbers), rng.choice((1, (count + 1) // 2, count, min(count, 64), min(count, 65)))
     lines = some_lines(rng, table, count, rng.random() < 0.5, fault)
     if fault and rng.random() < 0.4:
@@ -422,7 +464,7 @@ def unended(rng, table):
 
 def line_alone(rng, session, refused=0.2):
     """A change outside a batch. This share of them is refused, or an unreadable line."""
-    fault = (rng.choice(NUMBERS), 1) if rng.random() < refused else None
+    fault = (rng.choice(numbers_for(session.table)), 1) if rng.random() < refused else None
     for line in some_lines(rng, session.table, 1, rng.random() < 0.4, fault):
         session.send(*line or ("line", rng.choice(NO_CALL)))
 
@@ -482,6 +524,155 @@ def questions(rng, size=None, count=None):
     return session.text.data() + (unended(rng, session.table) if rng.random() < 0.1 else b"")
 
 
+# ------------------------------------------------------- several kinds
+
+def some_carried(rng, kinds, states):
+    """Which of these states carry each kind: one or two, some or all, seldom none. In many games one carries several kinds."""
+    def some():
+        dice = rng.random()
+        if dice < 0.05:
+            return []
+        if dice < 0.6:
+            return rng.sample(states, min(len(states), rng.choice((1, 1, 2))))
+        share = rng.choice((0.1, 0.3, 0.7, 1))
+        return [s for s in states if rng.random() < share]
+    carriers = [set(some()) for _ in range(kinds)]
+    if rng.random() < 0.4:
+        one = rng.choice(states)
+        for own in rng.sample(carriers, rng.randint(1, kinds)):
+            own.add(one)
+    return of_kinds(kinds, *map(sorted, carriers))
+
+
+def kind_game(rng, size, kinds):
+    """A game with so many kinds: a ring of states in a hidden order, with moves beside it; a line of them to one that leads back;
+    or any. Of the largest some are full, or nearly."""
+    most, dice = MOST_MOVES // kinds, rng.random()
+    if size >= 4 and dice < 0.3:
+        text, states = stem_game(rng, size)
+        start, moves = text.start, list(text.moves)
+    else:
+        states = rng.sample(range(size), size)
+        start = states[0]
+        moves = list(zip(states, states[1:] + states[:1])) if dice < 0.8 else []
+        moves += some_moves(rng, size, int(min(size, most - size) * rng.uniform(0.1, 1)))
+    if size == MOST_STATES // kinds and rng.random() < 0.6:
+        moves += some_moves(rng, size, most)
+    moves = list(dict.fromkeys(moves))[:most - rng.choice((0, 0, 1, 5))]
+    return Text(size, start, some_carried(rng, kinds, states), rng.sample(moves, len(moves)) if rng.random() < 0.5 else moves)
+
+
+def kind_turned(rng, session):
+    """A mark comes or goes, mostly that of a state of the walk; kind 1 may be left out."""
+    table = session.table
+    kind, walk = random_kind(rng, table), table.run.stem + table.run.round
+    state = rng.choice(walk if walk and rng.random() < 0.6 else range(table.size))
+    session.send("unmark" if table.marks[kind - 1][state] else "mark", state, *[kind] if kind > 1 or rng.random() < 0.5 else [])
+
+
+def any_kind(rng, session):
+    """A mark or an unmark of any kind, such as there never are among them, and of any state or one outside."""
+    state = rng.choice((rng.randrange(session.table.size), rng.randrange(session.table.size), session.table.size, 65535))
+    session.send(rng.choice(("mark", "unmark")), state, rng.choice((0, 1, 2, 3, 4, 5, 65535)))
+
+
+def on_walk(rng, session):
+    """A move that leaves a state of the walk comes or goes. Of such a state some copies may have finished and some not."""
+    table = session.table
+    state = rng.choice(table.run.stem + table.run.round or list(table.run.met_after))
+    there = [move for move in table.moves if move[0] == state]
+    if there and rng.random() < 0.5:
+        session.send("cut", *rng.choice(there))
+    else:
+        move = state, rng.randrange(table.size)
+        session.send("cut" if move in table.moves else "add", *move)
+
+
+def kind_batch(rng, session):
+    """A batch; of its lines that are no change half are about kinds."""
+    def some(line):
+        return line if isinstance(line, tuple) or rng.random() < 0.5 else rng.choice(KIND_NO_CHANGE)
+    session.send("batch", [some(line) for line in batch_of(rng, session.table)])
+
+
+def refused_kinds(rng):
+    """A load with kinds and one or two faults: of K, of the line's place, of a kind or a state that is paid for, of the counts of
+    states and moves, and such as a load without kinds can have."""
+    most = rng.randint(1, MOST_KINDS)
+    size, moves = rng.randint(1, 8), [(0, 0)]
+    start, pays, row = 0, ["pay 0", "pay 0 %d" % most], "kinds %d" % most
+    for fault in rng.choices(range(9), k=rng.randint(1, 2)):
+        if fault == 0:
+            row = "kinds %d" % rng.choice((0, 5, 6, 65535))
+        elif fault == 1:
+            row = rng.choice(("kinds", "kinds 65536", "kinds 01", "kinds %d 1" % most, "pay 0|kinds %d" % most, row + "|" + row))
+        elif fault == 2:
+            pays.append("pay 0 %d" % rng.choice((0, most + 1, 5)))
+        elif fault == 3:
+            pays.append("pay %d %d" % (rng.choice((size, 511, 512)), rng.randint(1, MOST_KINDS)))
+        elif fault == 4:
+            size = MOST_STATES // most + rng.choice((0, 1))
+        elif fault == 5:
+            size = max(size, 64)
+            moves = some_moves(rng, 64, MOST_MOVES // most + rng.choice((0, 1, 1, 2)))
+        elif fault == 6:
+            start = size
+        else:
+            moves.append((0, size) if fault == 7 else moves[0])
+    rows = ["game %d %d" % (size, start), *row.split("|"), *pays, *("move %d %d" % move for move in moves), "go", "add 0 0", "mark 0"]
+    return as_bytes(rows)
+
+
+def kinds(rng, size=None, count=None, most=None):
+    """1 to 4 kinds, K written, and changes of all sorts with batches, questions, refused and unreadable lines between them; or a
+    load that is mostly refused. size, most: that of the game and K, or drawn."""
+    if not size and rng.random() < 0.12:
+        return refused_kinds(rng)
+    most = most or rng.randint(1, MOST_KINDS)
+    largest = MOST_STATES // most
+    ranges = (1, 1), (2, 2), (2, 4), (3, 8), (3, 8), (6, 12), (13, 64), (65, largest), (largest, largest)
+    sizes = [rng.randint(*one) for one in ranges]
+    session = Beside(kind_game(rng, size or rng.choice(sizes), most))
+    for _ in range(count or rng.randint(8, 28)):
+        dice = rng.random()
+        if dice < 0.1:
+            kind_batch(rng, session)
+        elif dice < 0.16:
+            session.ask(rng, session.table.start)
+        elif dice < 0.19:
+            session.send("line", rng.choice(KIND_NO_CALL))
+        elif dice < 0.25:
+            any_kind(rng, session)
+        elif dice < 0.5:
+            kind_turned(rng, session)
+        elif dice < 0.75:
+            on_walk(rng, session)
+        else:
+            line_alone(rng, session)
+    return session.text.data() + (unended(rng, session.table) if rng.random() < 0.1 else b"")
+
+
+def twins(rng):
+    """A random text with one kind and no line for it; the same with `kinds 1` behind `game`; and this with the kind written in
+    each line that may have one. All three are answered alike."""
+    first, *rest = lines = common.lines_of(rng.choice((small, small, mid, stems, batches, questions, refused, many))(rng))
+    written = [first, b"kinds\t1\n"]
+    return [b"".join(rows) for rows in (lines, written + rest, written + [with_kind(line) for line in rest])]
+
+
+def with_kind(line):
+    """The line with kind 1 written where it may be and is left out."""
+    row, end = (line[:-1], line[-1:]) if line.endswith(b"\n") else (line, b"")
+    left_out = read_line(row, WITH_KIND) and row.count(b"\t") == 1
+    return row + b"\t1" + end if left_out else line
+
+
+def fresh_twins(seed, count):
+    """So many of them: what to call them, and the texts."""
+    for i in range(count):
+        yield "SEED=%d, twins %d" % (seed, i), twins(random.Random("%d twins %d" % (seed, i)))
+
+
 def hostile(rng):
     """A small session with unreadable lines among its lines, mostly behind `go`."""
     lines = common.lines_of(small(rng))
@@ -520,7 +711,7 @@ def refused(rng):
 
 def ended(rng):
     """A session that ends anywhere: before `go`, within a line, without the last newline."""
-    text = rng.choice((small, hostile, refused, batches, questions))(rng)
+    text = rng.choice((small, hostile, refused, batches, questions, kinds))(rng)
     return text[:rng.randrange(len(text))]
 
 
@@ -544,7 +735,8 @@ def many(rng):
     return text.data()
 
 
-KINDS = {make.__name__: make for make in (small, mid, full, chain, stems, batches, questions, hostile, refused, ended, many)}
+KINDS = {make.__name__: make for make in (small, mid, full, chain, stems, batches, questions, hostile, refused, ended, many,
+                                          kinds)}
 
 
 def session(seed, kind):
@@ -559,16 +751,22 @@ def fresh(seed, counts):
             yield "SEED=%d, %s %s" % (seed, kind, name), session(name, kind)
 
 
+def accepted(seed, counts):
+    """The same without those whose load is refused."""
+    return (one for one in fresh(seed, counts) if answer_text(up_to_go(one[1])).startswith(b"game\t"))
+
+
 def as_left(data):
     """The game that the changes of a session lead to, those of a batch taken one by one, as a text that loads it."""
     lines = [line for line in (read_line(line, FIELDS) for line in records(data)) if line]
     (_, (size, start)), go = lines[0], lines.index((b"go", []))
-    text = Text(size, start, [args[0] for word, args in lines[:go] if word == b"pay"],
+    text = Text(size, start, of_kinds(next((args[0] for word, args in lines[:go] if word == b"kinds"), None)),
                 [tuple(args) for word, args in lines[:go] if word == b"move"])
-    for word, args in lines[go + 1:]:
-        if word in CHANGES:
-            getattr(text, word.decode())(args[0] if len(args) == 1 else tuple(args))
-    return Text(size, start, list(text.pays), list(text.moves)).data()
+    for _, args in (line for line in lines[:go] if line[0] == b"pay"):
+        text.mark(*args)
+    for word, args in ((word.decode(), args) for word, args in lines[go + 1:] if word in CHANGES):
+        getattr(text, word)(*[tuple(args)] if word in MOVE_WORDS else args)
+    return Text(size, start, text.carried(), list(text.moves)).data()
 
 
 # ------------------------------------------------------- stored sessions
@@ -639,6 +837,70 @@ def stored_questions():
     yield "random-questions", session(733, "questions")
 
 
+def at_limit(kinds, states=0, moves=0):
+    """As many states and moves as there may be with so many kinds, or so many more: a ring through all states, and moves that
+    lead on from each to the next but one, and so on. Then changes where there is room for one move and for none."""
+    size = MOST_STATES // kinds
+    last = size - 1
+    every = [(s, (s + far) % size) for far in range(1, 6) for s in range(size)][:MOST_MOVES // kinds + moves]
+    text = Text(size + states, 0, of_kinds(kinds, *[[0, last]] * kinds), every)
+    away, back = ("%s %d %d" % (word, *every[-1]) for word in ("cut", "add"))
+    text.rows += ["add 0 0", "add 0 1", "cut 0 0", away, "add 0 0", back, "cut 0 1", "add 0 1", back,
+                  "begin", "cut 0 0", back, "add 0 0", "end", "begin", "cut 0 0", back, "end", "add 0 0",
+                  "unmark 0 %d" % kinds, "mark 0 %d" % kinds, "unmark 0", "mark %d %d" % (size, kinds), "ways 0",
+                  "ways %d" % size, "cut %d 0" % last, "mark 0", "unmark %d %d" % (last, kinds)]
+    return text.data()
+
+
+def kind_limits():
+    """Name and text of sessions at the limits for each K, and with one state or one move more."""
+    for most in range(1, MOST_KINDS + 1):
+        for name, more in (("", {}), ("-state", {"states": 1}), ("-move", {"moves": 1})):
+            yield "kinds-limit-%d%s" % (most, name), at_limit(most, **more)
+
+
+def deep_layers(kinds, turned=False):
+    """As many states and moves as there may be with so many kinds. State 0 carries them all, so that each lap of the ring is one
+    in the next layer: the outer search goes through every layered state, and then the inner one does, from state 0. The others'
+    last move leads on, or turned their first; the rest lead to states of the same lap that are met by then."""
+    size = MOST_STATES // kinds
+    back = [(s, s - far) for far in range(4) for s in range(far + 1, size)]
+    moves = back[:MOST_MOVES // kinds - size] + [(s, (s + 1) % size) for s in range(size)]
+    return Text(size, 0, of_kinds(kinds, *[[0]] * kinds), moves[::-1] if turned else moves)
+
+
+# Texts in which `kinds` stands out of place, or is refused for what stands before or behind it.
+KIND_TEXTS = {
+    "before-game": ["kinds 2", "game 2 0", "go"],
+    "behind-pay": ["game 2 0", "pay 0", "kinds 2", "go"],
+    "behind-move": ["game 2 0", "move 0 1", "kinds 2", "go"],
+    "twice": ["game 2 0", "kinds 2", "kinds 2", "go"],
+    "behind-go": ["game 2 0", "kinds 2", "pay 0", "pay 1 2", "move 0 1", "move 1 0", "go", "kinds 2", "kinds 1", "cut 0 1"],
+    "without-go": ["game 2 0", "kinds 9", "pay 0 4", "move 9 9"],
+    "kind-5": ["game 2 0", "kinds 5", "pay 0 5", "go"],
+    "kind-0": ["game 2 0", "kinds 2", "pay 0 0", "go"],
+    "start-outside": ["game 2 2", "kinds 5", "pay 2 4", "move 9 9", "go"],
+    "no-states": ["game 0 0", "kinds 0", "pay 0", "go"],
+    "line-2049": ["game 2 0", "kinds 9"] + ["move 0 1"] * (MOST_MOVES + 1) + ["go"],
+    "65536": ["game 2 0", "kinds 65536", "go"],
+    "doubles": ["game 3 0", "kinds 2", "pay 1", "pay 1 1", "pay 1 2", "pay 1 2", "pay 2 2", "go", "unmark 1", "unmark 1"],
+}
+
+
+def stored_kinds():
+    """The same of those with kinds."""
+    for game in KIND_GAMES:
+        yield game[0], known(game)
+    for name, rows in KIND_TEXTS.items():
+        yield "kinds-" + name, as_lines(rows)
+    yield from (one for one in kind_limits() if one[0][-1].isdigit())          # those beyond are among the games
+    in_batches = as_bytes(row for line in KIND_NO_CHANGE for row in ("begin", line, "end"))
+    yield "kinds-hostile-lines", KIND_STAGES[4] + as_bytes(KIND_HOSTILE) + KIND_ENDING
+    yield "kinds-hostile-batches", KIND_STAGES[4] + in_batches + KIND_ENDING
+    for most, size, count, seed in ((2, 6, 60, 41), (3, 5, 60, 81), (4, 4, 60, 63), (4, 128, 16, 20)):
+        yield "kinds-random-%d-%d" % (most, size), kinds(random.Random(seed), size, count, most)
+
+
 def stored():
     """Name and text of each stored session."""
     for game in GAMES:
@@ -647,6 +909,7 @@ def stored():
         yield game[0], known(game)
     yield from stored_batches()
     yield from stored_questions()
+    yield from stored_kinds()
     yield "states-512", as_lines(["game 512 0", "pay 511", "move 0 511", "go", "add 511 0", "add 512 0", "cut 511 0"])
     yield "states-513", as_lines(["game 513 0", "pay 511", "move 0 511", "go", "add 511 0"])
     yield "start-511", as_lines(["game 512 511", "pay 511", "move 511 0", "move 0 511", "go", "cut 0 511", "add 0 511",
@@ -691,16 +954,21 @@ def stored():
 
 SEPARATOR = b"\x1e"                            # parts the texts that crates/texts is run on
 BLOCK = 65536                                  # bytes that it reads at a time, and answers before the next
-# Three blocks are enough. What moves-2048 asks is asked in self-move-2048 and in batch-full too. same-move-2049 is a shorter text
-# for what moves-2049 and self-move-2049 ask. random-stems asks on a walk of 6 states what random-stems-512 asks on one of
-# 487, and random-batches on 8 states what random-batches-512 asks.
-TOO_LONG = {"random-full", "random-chain", "moves-2048", "moves-2049", "self-move-2049", "random-stems-512", "random-batches-512"}
+# Four blocks are enough. What moves-2048 asks is asked in self-move-2048 and in batch-full too. same-move-2049 is a shorter text
+# for what moves-2049, self-move-2049 and kinds-line-2049 ask. random-stems asks on a walk of 6 states what random-stems-512 asks
+# on one of 487, and random-batches on 8 states what random-batches-512 asks. kinds-moves-513 is a shorter text for what
+# kinds-moves-683 and kinds-moves-1025 ask, kinds-full-4 for what kinds-full-2 asks; and the games kinds-full and kinds-walk
+# stand for the texts at the limits of each K.
+TOO_LONG = {"random-full", "random-chain", "moves-2048", "moves-2049", "self-move-2049", "random-stems-512", "random-batches-512",
+            "kinds-line-2049", "kinds-moves-683", "kinds-moves-1025", "kinds-full-2", *(name for name, _ in kind_limits())}
 SECOND = {"random-mid-changes", "self-moves-512", "marks-all-of-512", "random-batches"}
 THIRD = {"batch-hostile-lines", "random-questions"}
 
 
 def block_of(name):
     """The place of the block that a text stands in."""
+    if name.startswith("kinds-"):
+        return 3
     if name in THIRD or name.startswith("ways-"):
         return 2
     return 1 if name in SECOND or name.startswith("batch-") else 0
@@ -708,7 +976,7 @@ def block_of(name):
 
 def blocks():
     """The texts of each block. One that is no line to read fills up each but the last."""
-    parted = [[text for name, text in stored() if name not in TOO_LONG and block_of(name) == at] for at in range(3)]
+    parted = [[text for name, text in stored() if name not in TOO_LONG and block_of(name) == at] for at in range(4)]
     left = [BLOCK - len(SEPARATOR.join(texts + [b""])) for texts in parted]
     if min(left) <= 32:
         fail("the texts do not fit into their blocks")

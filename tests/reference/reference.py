@@ -10,6 +10,11 @@ every look. A batch of changes is done as a whole, with one answer, or not at al
 A question about a state counts, over the moves present, those that leave it and
 those that enter it, and changes nothing.
 
+With several kinds of pay in use, 1 to K, the search runs on K layers of the game.
+A move out of a state that carries its layer's kind lands in the next layer, and
+from the last in the first. The table, the walk and the counts of a question are
+those of the plain game; looks and lengths count the layered states.
+
 For the examiner's desk there is the search as candidates learn it, by procedures
 that call each other, for a game that is loaded and not changed.
 
@@ -26,7 +31,9 @@ from collections import Counter, namedtuple
 MOST_STATES = 512
 MOST_MOVES = 2048
 MOST_CHANGES = 64      # in a batch
-WORDS = 8
+MOST_KINDS = 4
+WORDS = 8              # for the marks of each kind
+MOVE_WORDS = "add", "cut"      # of changes that name a move; the others name a state and a kind
 
 
 # ---------------------------------------------------------------- the search
@@ -43,6 +50,7 @@ class Run:
         self.found = False
         self.stem = []
         self.round = []
+        self.layered = None   # of a run that is told in plain states: that on the layers
 
 
 def plain_search(size, start, pays, moves):
@@ -113,18 +121,45 @@ def plain_search(size, start, pays, moves):
     return run
 
 
+def in_layers(size, start, marks, moves):
+    """The game that is searched where kinds are in use. marks: for each of them a list of size truth values, and so
+    many layers are there. State s of layer l, counted from 0, has the number l * size + s. What a move's source
+    carries decides where it lands."""
+    kinds = len(marks)
+    pays = marks[0] + [False] * (size * (kinds - 1))
+
+    def copy(layer, a, b):
+        landing = (layer + 1) % kinds if marks[layer][a] else layer
+        return layer * size + a, landing * size + b
+    return size * kinds, start, pays, [copy(layer, *move) for move in moves for layer in range(kinds)]
+
+
+def layered_search(size, start, marks, moves):
+    """The run on the layers, told in plain states: a state is met with the first of its copies, it has finished where one
+    of them has, and a move is looked at where it is in any layer. With one kind the two are the same."""
+    layered = plain_search(*in_layers(size, start, marks, moves))
+    run = Run()
+    run.layered = layered
+    run.looks = [(a % size, b % size) for a, b in layered.looks]
+    for state, count in layered.met_after.items():
+        run.met_after.setdefault(state % size, count)
+    run.found = layered.found
+    run.finished, run.stem, run.round = ([s % size for s in states] for states in (layered.finished, layered.stem, layered.round))
+    return run
+
+
 def not_come_to(run, word, move):
-    """Whether this run, the one before an add or a cut, had not come to the move."""
+    """Whether this run, the one before an add or a cut, had come to the move in no layer."""
     if word == "cut":
         return move not in run.looks
     return move[0] not in run.finished
 
 
-def keeps_all(run, word, states):
+def keeps_all(run, word, *named):
     """Whether this change of a batch leaves every look of the run before the batch."""
-    if word in ("add", "cut"):
-        return not_come_to(run, word, states)
-    return states[0] not in run.met_after
+    if word in MOVE_WORDS:
+        return not_come_to(run, word, named)
+    return named[0] not in run.met_after
 
 
 # --------------------------------------------- the search on the examiner's desk
@@ -136,31 +171,40 @@ sys.setrecursionlimit(max(sys.getrecursionlimit(), 4 * MOST_STATES + 1000))
 class TextbookSearch:
     """The search as candidates learn it, for a table without history. One procedure visits a state, the other goes
     through its moves, and each calls the other; the inner search is a second such pair. Each hands back the walk, as
-    stem and round, or None where there is none."""
+    stem and round, or None where there is none. A state is visited in a layer, from 1: it is a pair of both. marks: for
+    each kind in use a list of size truth values."""
 
-    def __init__(self, size, start, pays, moves):
-        self.pays = pays
+    def __init__(self, size, start, marks, moves):
+        self.marks = marks
         self.moves = {state: [] for state in range(size)}     # that leave a state, oldest first
-        for move in moves:
-            self.moves[move[0]].append(move)
-        self.met, self.marks = set(), set()
+        for a, b in moves:
+            self.moves[a].append(b)
+        self.met, self.marked = set(), set()
         self.open_path, self.inner_path = [], []
-        self.looks = []                                       # the moves, in the order taken
-        walk = self.visit(start)
+        self.looks = []                                       # source and target of each, in the order taken
+        walk = self.visit((start, 1))
         self.found = walk is not None
-        self.stem, self.round = walk or ([], [])
+        self.stem, self.round = ([state for state, _ in part] for part in walk or ([], []))
 
-    def targets(self, state):
+    def carries(self, visited):
+        """Whether the state carries the kind of the layer."""
+        state, layer = visited
+        return self.marks[layer - 1][state]
+
+    def targets(self, source):
         """Of its moves, oldest first, one look each."""
-        for move in self.moves[state]:
-            self.looks.append(move)
-            yield move[1]
+        state, layer = source
+        if self.carries(source):
+            layer = 1 if layer == len(self.marks) else layer + 1
+        for target in self.moves[state]:
+            self.looks.append((source, (target, layer)))
+            yield target, layer
 
     def visit(self, state):
         self.met.add(state)
         self.open_path.append(state)
         walk = self.go_through_moves(state)
-        if walk is None and self.pays[state]:
+        if walk is None and state[1] == 1 and self.carries(state):
             walk = self.inner_visit(state)
         self.open_path.pop()
         return walk
@@ -173,7 +217,7 @@ class TextbookSearch:
         return None
 
     def inner_visit(self, state):
-        self.marks.add(state)
+        self.marked.add(state)
         self.inner_path.append(state)
         walk = self.inner_go_through_moves(state)
         self.inner_path.pop()
@@ -184,7 +228,7 @@ class TextbookSearch:
             if target in self.open_path:
                 stem = self.open_path[:self.open_path.index(target)]
                 return stem, self.open_path[len(stem):] + self.inner_path[1:]
-            walk = None if target in self.marks else self.inner_visit(target)
+            walk = None if target in self.marked else self.inner_visit(target)
             if walk is not None:
                 return walk
         return None
@@ -192,8 +236,23 @@ class TextbookSearch:
 
 # ----------------------------------------------------------------- the table
 
+def in_full(word, *named):
+    """A change with its kind, which is 1 if left out."""
+    return (word, *named) if len(named) == 2 else (word, *named, 1)
+
+
+def states_of(word, *named):
+    """The states that a change names; a mark may name a kind besides."""
+    return named if word in MOVE_WORDS else named[:1]
+
+
+def no_kind(word, _, kind):
+    """Whether this change, in full, names a kind that there never is: no line with it can be read."""
+    return word not in MOVE_WORDS and not 1 <= kind <= MOST_KINDS
+
+
 class Table:
-    """N, the start state, the marks and the moves present, oldest first.
+    """N, the start state, K, the marks of each of four kinds and the moves present, oldest first.
 
     Answers: ("no", n), ("none", spent, kept)
     or ("round", spent, kept, stem, round); of a batch ("no", n, position) too;
@@ -204,58 +263,64 @@ class Table:
         self.loaded = False
         self.run = None       # the last run, for tests only
 
-    def load(self, size, start, words, numbers, room):
-        assert len(words) == WORDS and all(0 <= w < 1 << 64 for w in words)
+    def load(self, size, start, kinds, words, numbers, room):
+        """words: eight for each of four kinds, those of kind 1 first."""
+        assert len(words) == WORDS * MOST_KINDS and all(0 <= w < 1 << 64 for w in words)
         self.loaded = False
         self.run = None
-        number = self._load_refusal(size, start, words, numbers, room)
+        number = self._load_refusal(size, start, kinds, words, numbers, room)
         if number:
             return ("no", number)
         self.loaded = True
         self.size = size
         self.start = start
-        self.pays = [is_marked(words, s) for s in range(size)]
+        self.kinds = kinds
+        self.marks = [[bits >> s & 1 == 1 for s in range(size)] for bits in bits_of(words)]
         self.moves = pairs(numbers)
         return self._answer(None)
 
     def add(self, a, b, room):
-        return self._alone("add", (a, b), room)
+        return self._alone("add", a, b, room)
 
     def cut(self, a, b, room):
-        return self._alone("cut", (a, b), room)
+        return self._alone("cut", a, b, room)
 
-    def mark(self, state, room):
-        return self._alone("mark", (state,), room)
+    def mark(self, state, *kind_and_room):
+        """The kind may be left out."""
+        return self._alone("mark", state, *kind_and_room)
 
-    def unmark(self, state, room):
-        return self._alone("unmark", (state,), room)
+    def unmark(self, state, *kind_and_room):
+        return self._alone("unmark", state, *kind_and_room)
 
-    def _alone(self, word, states, room):
-        """A change outside a batch."""
+    def _alone(self, word, *numbers):
+        """A change outside a batch: what it names, and the room."""
         self._need_session()
-        number = self._refusal(word, states) or self._short(room)
+        *named, room = numbers
+        change = in_full(word, *named)
+        number = 1 if no_kind(*change) else self._refusal(*change) or self._short(room)
         if number:
             return ("no", number)
-        spared = word in ("add", "cut") and not_come_to(self._search(), word, states)
-        self._make(word, states)
-        return self._answer(states[:1], spared)
+        spared = word in MOVE_WORDS and not_come_to(self._search(), word, change[1:])
+        self._make(*change)
+        return self._answer(change[1:2], spared)
 
     def batch(self, lines, room):
-        """lines: changes, each a word and its states, and None for a line that is no change.
+        """lines: changes, each a word and what it names, and None for a line that is no change.
         A refusal tells the position of its line too, from 1; that of the lent list, tried ahead of them, is 0."""
         self._need_session()
         number = self._short(room)
         if number:
             return ("no", number, 0)
-        held, before = (list(self.moves), list(self.pays)), self._search()
-        for position, line in enumerate(lines, 1):
-            number = self._line_refusal(line, position)
+        changes = [line and in_full(*line) for line in lines]
+        held, before = (list(self.moves), [list(marks) for marks in self.marks]), self._search()
+        for position, change in enumerate(changes, 1):
+            number = self._line_refusal(change, position)
             if number:
-                self.moves, self.pays = held
+                self.moves, self.marks = held
                 return ("no", number, position)
-            self._make(line[0], line[1:])
-        spared = all(keeps_all(before, line[0], line[1:]) for line in lines)
-        return self._answer([line[1] for line in lines], spared)
+            self._make(*change)
+        spared = all(keeps_all(before, *change) for change in changes)
+        return self._answer([change[1] for change in changes], spared)
 
     def ways(self, state):
         """How many of the moves present leave the state, and how many enter it: one that does both counts in both.
@@ -265,60 +330,79 @@ class Table:
             return ("no", 6)
         return ("ways", state, sum(a == state for a, _ in self.moves), sum(b == state for _, b in self.moves))
 
-    def _line_refusal(self, line, position):
-        if line is None:
-            return 1
-        return 15 if position > MOST_CHANGES else self._refusal(line[0], line[1:])
+    @property
+    def pays(self):
+        """The marks of kind 1."""
+        return self.marks[0]
 
-    def _refusal(self, word, states):
-        """Of a change: 6 for the states that it names, then its own numbers."""
-        if any(s >= self.size for s in states):
+    @property
+    def least_room(self):
+        """How many entries the list lent for the walk must have."""
+        return self.size * self.kinds
+
+    def _line_refusal(self, change, position):
+        if change is None or no_kind(*change):
+            return 1
+        return 15 if position > MOST_CHANGES else self._refusal(*change)
+
+    def _refusal(self, word, state, other):
+        """Of a change: 4 for its kind, 6 for the states that it names, then its own numbers."""
+        if word in MOVE_WORDS:
+            return self._move_refusal(word, (state, other))
+        if other > self.kinds:
+            return 4
+        if state >= self.size:
             return 6
-        if word == "add":
-            return 8 if states in self.moves else 9 if len(self.moves) >= MOST_MOVES else 0
-        if word == "cut":
-            return 0 if states in self.moves else 10
-        pays = self.pays[states[0]]
+        carried = self.marks[other - 1][state]
         if word == "mark":
-            return 13 if pays else 0
-        return 0 if pays else 14
+            return 13 if carried else 0
+        return 0 if carried else 14
+
+    def _move_refusal(self, word, move):
+        if max(move) >= self.size:
+            return 6
+        if word == "cut":
+            return 0 if move in self.moves else 10
+        return 8 if move in self.moves else 9 if (len(self.moves) + 1) * self.kinds > MOST_MOVES else 0
 
     def _short(self, room):
         """Of every call: 11 for the lent list."""
-        return 11 if room < self.size else 0
+        return 11 if room < self.least_room else 0
 
     def _need_session(self):
         if not self.loaded:
             raise RuntimeError("a change or a question without a session")
 
-    def _make(self, word, states):
+    def _make(self, word, state, other):
         if word == "add":
-            self.moves.append(states)
+            self.moves.append((state, other))
         elif word == "cut":
-            self.moves.remove(states)
+            self.moves.remove((state, other))
         else:
-            self.pays[states[0]] = word == "mark"
+            self.marks[other - 1][state] = word == "mark"
 
-    def _load_refusal(self, size, start, words, numbers, room):
+    def _load_refusal(self, size, start, kinds, words, numbers, room):
         if size == 0 or size > MOST_STATES:
             return 2
         if start >= size:
             return 3
-        if any(is_marked(words, s) for s in range(size, 64 * WORDS)):
+        if any(bits >> (size if kind <= kinds else 0) for kind, bits in enumerate(bits_of(words), 1)):
             return 4
         if len(numbers) % 2 == 1 or len(numbers) > 2 * MOST_MOVES:
             return 5
+        moves = pairs(numbers)
+        if not 1 <= kinds <= MOST_KINDS or size * kinds > MOST_STATES or len(moves) * kinds > MOST_MOVES:
+            return 16
         if any(n >= size for n in numbers):
             return 6
-        moves = pairs(numbers)
         if len(set(moves)) < len(moves):
             return 8
-        if room < size:
+        if room < size * kinds:
             return 11
         return 0
 
     def _search(self):
-        return plain_search(self.size, self.start, self.pays, self.moves)
+        return layered_search(self.size, self.start, self.marks[:self.kinds], self.moves)
 
     def _answer(self, named, spared=False):
         """named: the states that the changed moves leave, or whose marks changed; None after a load.
@@ -341,33 +425,39 @@ class DeskTable(Table):
     """The table on the examiner's desk: for a load and nothing else."""
 
     def _search(self):
-        return TextbookSearch(self.size, self.start, self.pays, self.moves)
+        return TextbookSearch(self.size, self.start, self.marks[:self.kinds], self.moves)
 
 
-def is_marked(words, state):
-    return words[state // 64] >> (state % 64) & 1 == 1
+def bits_of(words):
+    """The marks of each kind as one number: bit s is that of state s."""
+    each = [words[at:at + WORDS] for at in range(0, len(words), WORDS)]
+    return [sum(word << (64 * at) for at, word in enumerate(own)) for own in each]
 
 
 def pairs(numbers):
     return list(zip(numbers[0::2], numbers[1::2]))
 
 
-def words_of(states):
-    """The eight words with the marks of these states."""
-    words = [0] * WORDS
-    for s in states:
-        words[s // 64] |= 1 << (s % 64)
+def words_of(*carriers):
+    """The words with the marks of the states that carry each kind, from kind 1 on."""
+    words = [0] * (WORDS * MOST_KINDS)
+    for at, states in enumerate(carriers):
+        for s in states:
+            words[WORDS * at + s // 64] |= 1 << (s % 64)
     return words
 
 
 # --------------------------------------------------------- lines on the lead
 
 LONGEST_INPUT = 4294967295
-FIELDS = {b"game": 3, b"pay": 2, b"move": 3, b"go": 1, b"add": 3, b"cut": 3, b"mark": 2, b"unmark": 2, b"begin": 1, b"end": 1,
-          b"ways": 2}
+FIELDS = {b"game": [3], b"kinds": [2], b"pay": [2, 3], b"move": [3], b"go": [1], b"add": [3], b"cut": [3], b"mark": [2, 3],
+          b"unmark": [2, 3], b"begin": [1], b"end": [1], b"ways": [2]}       # how many there may be
+BEHIND = {b"game": {b"kinds", b"pay", b"move", b"go"}, b"kinds": {b"pay", b"move", b"go"}, b"pay": {b"pay", b"move", b"go"},
+          b"move": {b"move", b"go"}}           # the words that may follow, up to `go`
 CHANGES = {b"add", b"cut", b"mark", b"unmark"}
 OUTSIDE = CHANGES | {b"begin", b"ways"}        # behind `go`, outside a batch
 INSIDE = CHANGES | {b"end"}                    # inside one
+WITH_KIND = {b"pay", b"mark", b"unmark"}       # name a state and, if it is not left out, a kind
 
 
 def records(data):
@@ -390,16 +480,20 @@ def read_number(field, most):
 
 
 def read_line(line, allowed):
-    """(word, numbers), or None where the line cannot be read."""
+    """(word, numbers), or None where the line cannot be read. A kind that is left out is among the numbers."""
     if len(line) > 32:
         return None
     fields = line.split(b"\t")
     word = fields[0]
-    if word not in allowed or len(fields) != FIELDS[word]:
+    if word not in allowed or len(fields) not in FIELDS[word]:
         return None
-    most = 511 if word == b"pay" else 65535
-    numbers = [read_number(f, most) for f in fields[1:]]
-    return None if None in numbers else (word, numbers)
+    if word in WITH_KIND and len(fields) == 2:
+        fields.append(b"1")
+    most = [511 if word == b"pay" else 65535, MOST_KINDS if word in WITH_KIND else 65535]
+    numbers = [read_number(*field) for field in zip(fields[1:], most)]
+    if None in numbers or word in WITH_KIND and numbers[1] == 0:
+        return None
+    return word, numbers
 
 
 def answer_line(answer):
@@ -422,27 +516,29 @@ def answer_lines(data):
 def load_lines(lines, table):
     """The output up to and with that of the load."""
     allowed = {b"game"}
-    pay, numbers = set(), []
+    kinds, pay, numbers = 1, set(), []
     for line in lines:
         word, args = read_line(line, allowed) or (None, None)
         if word is None:
             yield answer_line(("no", 1))
             return
+        allowed = BEHIND.get(word)
         if word == b"game":
             size, start = args
-            allowed = {b"pay", b"move", b"go"}
+        elif word == b"kinds":
+            kinds, = args
         elif word == b"pay":
-            pay.add(args[0])
+            pay.add(tuple(args))
         elif word == b"move":
-            allowed = {b"move", b"go"}
             if len(numbers) == 2 * MOST_MOVES:
                 yield answer_line(("no", 5))
                 return
             numbers += args
         else:
-            answer = table.load(size, start, words_of(pay), numbers, MOST_STATES)
+            carriers = [[state for state, own in pay if own == kind] for kind in range(1, MOST_KINDS + 1)]
+            answer = table.load(size, start, kinds, words_of(*carriers), numbers, MOST_STATES)
             if table.loaded:
-                yield answer_line(("game", size, len(numbers) // 2, len(pay)))
+                yield answer_line(("game", size, len(numbers) // 2, len({state for state, _ in pay})))
             yield answer_line(answer)
             return
 
@@ -500,6 +596,25 @@ def bench_answer(data, output_length):
 
 
 # --------------------------------------------------------------- known games
+
+# Of a game with kinds: K, or None where the line is left out, and for each kind, from 1, the states that carry it.
+Carried = namedtuple("Carried", "kinds carriers")
+
+
+def of_kinds(kinds, *carriers):
+    return Carried(kinds, carriers)
+
+
+def carried(pay):
+    """Where a game has a list of paying states, they carry kind 1, and the line is left out."""
+    return pay if isinstance(pay, Carried) else of_kinds(None, pay)
+
+
+def load_args(size, start, pay, moves):
+    """The arguments of a load but for the room."""
+    kinds, carriers = carried(pay)
+    return size, start, 1 if kinds is None else kinds, words_of(*carriers), flat(moves)
+
 
 # name, N, paying states, moves, answer of the load, changes with answers;
 # start is 0 everywhere.
@@ -1103,7 +1218,7 @@ BATCH_GAMES = [
         ("batch", [""], ("no", 1, 1)),
         ("batch", ["", ""], ("no", 1, 1)),
         ("batch", [("mark", 0), "x" * 33, ("mark", 0)], ("no", 1, 2)),
-        ("batch", [("mark", 0), ("unmark", 0), "mark 0 1"], ("no", 1, 3)),
+        ("batch", [("mark", 0), ("unmark", 0), "mark 0 1 1"], ("no", 1, 3)),
         ("batch", ["add 0", ("add", 0, 2)], ("no", 1, 1)),
         ("batch", [("add", 0, 65535), "add 0 65536"], ("no", 6, 1)),
         ("batch", ["ways 0"], ("no", 1, 1)),
@@ -1351,10 +1466,313 @@ WAYS_GAMES = [
     ]),
 ]
 
-WORKED = SINGLES + BATCH_GAMES + WAYS_GAMES
+# The same for kinds of pay, worked by hand. s.l is state s in layer l. A move out of it lands in the next layer where s
+# carries kind l, and in layer 1 from the last. The looks stand in their order, with a bar where an inner search begins.
+# A mark's call has the kind behind the state, or leaves kind 1 out.
+def full_of_kinds(kinds):
+    """A full table: one more move, times K, is above 2,048. None of the moves leaves a state below 32."""
+    return ("kinds-full-%d" % kinds, 64, of_kinds(kinds, [0], *[[1]] * (kinds - 1)), FULL_MOVES[:MOST_MOVES // kinds],
+            ("none", 0, 0), [
+        ("add", 0, 1, ("no", 9)),
+        ("add", 32, 0, ("no", 8)),
+        ("add", 0, 64, ("no", 6)),
+        ("cut", 0, 1, ("no", 10)),
+        ("cut", 32, 0, ("none", 0, 0)),
+        ("add", 0, 1, ("none", 2, 0)),                          # 0.1>1.2 | 0.1>1.2
+        ("add", 1, 0, ("no", 9)),
+        ("batch", [("add", 1, 0)], ("no", 9, 1)),
+        ("cut", 32, 1, ("none", 0, 2)),
+        # 0.1>1.2 1.2>0.3 0.3>1.3 and so on to 1.K>0.1, two for each layer but the first, and the same once more
+        ("add", 1, 0, ("round", 4 * kinds - 5, 1, [], [0, 1] * (kinds - 1))),
+        ("add", 0, 2, ("no", 9)),
+        ("batch", [("cut", 33, 0), ("add", 2, 0), ("add", 2, 1)], ("no", 9, 3)),
+        ("batch", [("cut", 33, 0), ("add", 2, 0)], ("round", 0, 4 * kinds - 4, [], [0, 1] * (kinds - 1))),
+        ("add", 33, 0, ("no", 9)),
+    ])
+
+
+def long_walk(kinds):
+    """A ring of as many states as there may be. State 0 carries every kind, so that each lap is one in the next layer, but
+    for the first look: 0.1>1.2 1.2>2.2 and so on to 0.2>1.3, and at last from the last state in layer 1 to 0.1; then the
+    inner search goes the same way. The last state is first met in layer 2."""
+    size = MOST_STATES // kinds
+    all_of_it, last = ("round", 2 * size * kinds, 0, [], list(range(size)) * kinds), size - 1
+    ring = [(s, (s + 1) % size) for s in range(size)]
+    return ("kinds-walk-%d" % size, size, of_kinds(kinds, *[[0]] * kinds), ring, all_of_it, [
+        # without the last kind the search comes round in the last layer: K - 1 laps and the look behind them, twice
+        ("unmark", 0, kinds, ("none", 2 * (kinds - 1) * size + 2, 0)),
+        ("mark", 0, kinds, all_of_it),
+        ("cut", last, 0, ("none", last, last)),
+        ("add", last, 0, ("round", 2 * size * kinds - last, last, *all_of_it[3:])),
+        # now the last state leaves the last layer in place of state 0: a lap fewer
+        ("mark", last, kinds, ("round", 2 * size * (kinds - 1) - last, last, [], list(range(size)) * (kinds - 1))),
+        *outside(size, 65535),
+        *asked((last, 1, 1), (0, 1, 1)),
+    ])
+
+
+BACK_KIND = [("mark", 1, 1), ("unmark", 1, 1)]
+RING_3 = [(0, 1), (1, 2), (2, 0)]
+TWICE_3 = [], [0, 1, 2, 0, 1, 2]
+RING_4 = [(0, 1), (1, 2), (2, 3), (3, 0)]
+KIND_GAMES = [
+    # a state for each of two kinds; marks that make and unmake the round
+    ("kinds-two", 2, of_kinds(2, [0], [1]), C_MOVES, ("round", 4, 0, [], [0, 1]), [   # 0.1>1.2 1.2>0.1 | 0.1>1.2 1.2>0.1
+        ("unmark", 1, 2, ("none", 5, 1)),                       # 0.1>1.2 1.2>0.2 0.2>1.2 | 0.1>1.2 1.2>0.2 0.2>1.2
+        ("unmark", 1, 2, ("no", 14)),
+        ("unmark", 1, 1, ("no", 14)),                           # 13 and 14 look at the kind named only
+        ("unmark", 1, ("no", 14)),
+        ("mark", 0, ("no", 13)),
+        ("mark", 0, 1, ("no", 13)),
+        ("unmark", 0, 2, ("no", 14)),
+        ("mark", 1, 2, ("round", 3, 1, [], [0, 1])),
+        ("mark", 1, 2, ("no", 13)),
+        ("mark", 1, 1, ("round", 3, 1, [], [0, 1])),            # 1.1 is not met, but 1.2 is
+        ("mark", 1, ("no", 13)),
+        ("unmark", 0, ("round", 7, 0, [], [0, 1, 0, 1])),       # 0.1>1.1 1.1>0.2 0.2>1.2 1.2>0.1 | 1.1>0.2 0.2>1.2 1.2>0.1
+        ("unmark", 1, ("none", 1, 1)),                          # 0.1>1.1 1.1>0.1
+        ("mark", 0, 2, ("none", 2, 0)),
+        ("mark", 1, 1, ("round", 4, 1, [0], [1, 0])),           # 0.1>1.1 1.1>0.2 0.2>1.1 | 1.1>0.2 0.2>1.1
+    ]),
+    # the start state is passed in layer 1 and again in layer 2: the walk repeats it
+    ("kinds-repeated", 2, of_kinds(2, [1], [0]), C_MOVES,
+     ("round", 5, 0, [0], [1, 0]), [                            # 0.1>1.1 1.1>0.2 0.2>1.1 | 1.1>0.2 0.2>1.1
+        # 0.1>1.1 1.1>0.2 0.2>1.1 1.1>1.2 1.2>0.2 1.2>1.2 | 1.1>0.2 0.2>1.1
+        ("add", 1, 1, ("round", 7, 1, [0], [1, 0])),
+        ("cut", 1, 0, ("none", 4, 1)),                          # 0.1>1.1 1.1>1.2 1.2>1.2 | 1.1>1.2 1.2>1.2
+        ("mark", 1, 2, ("round", 4, 1, [0], [1, 1])),           # 0.1>1.1 1.1>1.2 1.2>1.1 | 1.1>1.2 1.2>1.1
+        ("unmark", 0, 2, ("round", 5, 0, [0], [1, 1])),
+        ("add", 0, 0, ("round", 0, 5, [0], [1, 1])),            # 0.1 has not finished, 0.2 is not met
+        ("cut", 0, 0, ("round", 0, 5, [0], [1, 1])),
+        ("cut", 0, 1, ("none", 0, 0)),
+    ]),
+    # one state that carries all kinds
+    ("kinds-several", 1, of_kinds(3, [0], [0], [0]), [(0, 0)],
+     ("round", 6, 0, [], [0, 0, 0]), [                          # 0.1>0.2 0.2>0.3 0.3>0.1 | 0.1>0.2 0.2>0.3 0.3>0.1
+        ("unmark", 0, 2, ("none", 4, 0)),                       # 0.1>0.2 0.2>0.2 | 0.1>0.2 0.2>0.2
+        ("unmark", 0, 2, ("no", 14)),
+        ("mark", 0, 3, ("no", 13)),
+        ("mark", 0, 4, ("no", 4)),
+        ("mark", 1, 4, ("no", 4)),
+        ("mark", 1, 3, ("no", 6)),
+        ("mark", 0, 2, ("round", 6, 0, [], [0, 0, 0])),
+        ("unmark", 0, ("none", 1, 0)),                          # 0.1>0.1
+        *asked((0, 1, 1)),
+        ("mark", 0, 1, ("round", 6, 0, [], [0, 0, 0])),
+        ("unmark", 0, 3, ("none", 6, 0)),                       # 0.1>0.2 0.2>0.3 0.3>0.3 | 0.1>0.2 0.2>0.3 0.3>0.3
+        ("cut", 0, 0, ("none", 0, 0)),
+        *asked((0, 0, 0)),
+        ("mark", 0, 3, ("none", 0, 0)),
+        ("add", 0, 0, ("round", 6, 0, [], [0, 0, 0])),
+    ]),
+    # every state carries every kind. 0.1>1.2 1.2>2.1 2.1>0.2 0.2>1.1 1.1>2.2 2.2>0.1 | 1.1>2.2 2.2>0.1; so 1.1 and 2.2 have
+    # finished, and the other four have not
+    ("kinds-all", 3, of_kinds(2, [0, 1, 2], [0, 1, 2]), RING_3, ("round", 8, 0, *TWICE_3), [
+        ("add", 0, 0, ("round", 0, 8, *TWICE_3)),               # neither 0.1 nor 0.2 has finished
+        # 1.2 has not finished, but 1.1 has: 1.1>0.2 comes in behind 2.2>0.1. The first copy of 1 that is met is 1.2
+        ("add", 1, 0, ("round", 8, 1, *TWICE_3)),
+        ("cut", 1, 0, ("round", 7, 1, *TWICE_3)),               # looked at in layer 1, and not in layer 2
+        ("add", 2, 1, ("round", 7, 2, *TWICE_3)),               # 2.1 has not finished, but 2.2 has: 2.2>1.1 comes in
+        ("cut", 2, 1, ("round", 6, 2, *TWICE_3)),               # looked at in layer 2, and not in layer 1
+        ("cut", 0, 0, ("round", 0, 8, *TWICE_3)),               # in neither
+        # 0.1>1.2 1.2>2.1 2.1>0.2 0.2>1.1 1.1>2.1 | 2.1>0.2 0.2>1.1 1.1>2.1
+        ("unmark", 1, 1, ("round", 7, 1, [0, 1], [2, 0, 1])),
+        ("mark", 1, 1, ("round", 7, 1, *TWICE_3)),
+        ("batch", [("add", 0, 2), ("add", 0, 0)], ("round", 0, 8, *TWICE_3)),
+        ("batch", [("cut", 0, 2), ("add", 2, 2), ("cut", 2, 2)], ("round", 8, 0, *TWICE_3)),      # 2.2 has finished
+        ("batch", [("add", 2, 2), ("cut", 2, 2)], ("round", 6, 2, *TWICE_3)),
+        ("batch", [("cut", 0, 0)], ("round", 0, 8, *TWICE_3)),
+    ]),
+    # a kind that no state carries, and then one does
+    ("kinds-none", 2, of_kinds(2, [0, 1], []), C_MOVES,
+     ("none", 6, 0), [                                          # 0.1>1.2 1.2>0.2 0.2>1.2 | 0.1>1.2 1.2>0.2 0.2>1.2
+        ("mark", 1, 2, ("round", 3, 1, [], [0, 1])),            # 0.1>1.2 1.2>0.1 | 0.1>1.2 1.2>0.1
+        ("unmark", 1, 2, ("none", 5, 1)),
+        ("mark", 0, 2, ("round", 5, 0, [0, 1], [0, 1])),        # 0.1>1.2 1.2>0.2 0.2>1.1 1.1>0.2 | 1.1>0.2
+        ("unmark", 0, ("round", 5, 0, [0], [1, 0])),            # 0.1>1.1 1.1>0.2 0.2>1.1 | 1.1>0.2 0.2>1.1
+        ("unmark", 1, ("none", 1, 1)),                          # 0.1>1.1 1.1>0.1
+        ("unmark", 0, 2, ("none", 2, 0)),
+    ]),
+    # kind 1 on one closed run and kind 2 on another that it leads to.
+    # 0.1>1.2 1.2>0.2 0.2>1.2 1.2>2.2 2.2>3.2 3.2>2.1 2.1>3.1 3.1>2.1, and the inner search takes the same eight
+    ("kinds-split", 4, of_kinds(2, [0], [3]), [(0, 1), (1, 0), (1, 2), (2, 3), (3, 2)], ("none", 16, 0), [
+        # the eight, with 3.1>0.1 and 3.2>0.1 at the end; then the eight and 3.1>0.1, while 0.2 has left the inner path
+        ("add", 3, 0, ("round", 14, 5, [], [0, 1, 2, 3, 2, 3])),
+        ("cut", 3, 0, ("none", 11, 5)),                         # 3 is first met in layer 2
+        ("mark", 1, 2, ("round", 6, 1, [], [0, 1])),            # 0.1>1.2 1.2>0.1 1.2>2.1 2.1>3.1 3.1>2.1 | 0.1>1.2 1.2>0.1
+        ("unmark", 1, 2, ("none", 15, 1)),
+        # 0.1>1.2 1.2>0.2 0.2>1.2 1.2>2.2 2.2>3.2 3.2>2.1 2.1>3.1 3.1>2.2 | 3.1>2.2
+        ("mark", 3, ("round", 4, 5, [0, 1], [2, 3, 2, 3])),
+        ("cut", 1, 2, ("none", 5, 1)),                          # 0.1>1.2 1.2>0.2 0.2>1.2 | 0.1>1.2 1.2>0.2 0.2>1.2
+        ("unmark", 3, 2, ("none", 0, 6)),                       # no copy of 3 is met now
+        ("mark", 2, 1, ("none", 0, 6)),
+    ]),
+    # a closed run with both kinds that nothing leads to, and then something does
+    ("kinds-apart", 4, of_kinds(2, [2], [3]), [(0, 1), (2, 3), (3, 2)], ("none", 1, 0), [            # 0.1>1.1
+        ("add", 1, 2, ("round", 5, 1, [0, 1], [2, 3])),         # 0.1>1.1 1.1>2.1 2.1>3.2 3.2>2.1 | 2.1>3.2 3.2>2.1
+        ("mark", 0, 2, ("round", 6, 0, [0, 1], [2, 3])),
+        ("add", 1, 0, ("round", 0, 6, [0, 1], [2, 3])),         # 1.1 has not finished, 1.2 is not met
+        ("add", 3, 1, ("round", 4, 3, [0, 1], [2, 3])),         # 3.2>1.1 behind 3.2>2.1
+        ("cut", 3, 2, ("round", 3, 3, [0], [1, 2, 3])),         # 0.1>1.1 1.1>2.1 2.1>3.2 3.2>1.1 | 2.1>3.2 3.2>1.1
+        # 0.1>1.1 1.1>2.1 2.1>3.2 3.2>1.2 1.2>2.2 2.2>3.2 1.2>0.2 0.2>1.1
+        # | 2.1>3.2 3.2>1.2 1.2>2.2 2.2>3.2 1.2>0.2 0.2>1.1
+        ("unmark", 3, 2, ("round", 11, 3, [0], [1, 2, 3, 1, 0])),
+    ]),
+    # states of which no copy is met: every look is kept
+    ("kinds-unmet", 4, of_kinds(2, [0], [1]), [(0, 1), (1, 0), (2, 3)], ("round", 4, 0, [], [0, 1]), [
+        ("mark", 2, 2, ("round", 0, 4, [], [0, 1])),
+        ("mark", 3, ("round", 0, 4, [], [0, 1])),
+        ("add", 3, 2, ("round", 0, 4, [], [0, 1])),
+        ("cut", 2, 3, ("round", 0, 4, [], [0, 1])),
+        ("unmark", 2, 2, ("round", 0, 4, [], [0, 1])),
+        ("batch", [("mark", 2, 1), ("mark", 2, 2), ("unmark", 3, 1), ("add", 2, 0)], ("round", 0, 4, [], [0, 1])),
+        ("batch", [("mark", 3, 2), ("unmark", 1, 2)], ("none", 5, 1)),    # 0.1>1.2 1.2>0.2 0.2>1.2 | 0.1>1.2 1.2>0.2 0.2>1.2
+        # 0.1>1.2 1.2>0.2 0.2>1.2 1.2>2.2 2.2>0.1 | 0.1>1.2 1.2>0.2 0.2>1.2 1.2>2.2 2.2>0.1
+        ("add", 1, 2, ("round", 9, 1, [], [0, 1, 2])),
+        ("unmark", 2, 1, ("round", 6, 4, [], [0, 1, 2])),       # 2.1 is not met, 2.2 is
+        # the first five, 2.2>3.1 3.1>2.1 2.1>0.1 2.1>3.1 | the last five
+        ("add", 2, 3, ("round", 10, 4, [], [0, 1, 2])),
+    ]),
+    # three kinds; states that are first met in layer 2 or 3
+    ("kinds-three", 4, of_kinds(3, [0], [1], [3]), RING_4,
+     ("round", 8, 0, [], [0, 1, 2, 3]), [                       # 0.1>1.2 1.2>2.3 2.3>3.3 3.3>0.1 | the same four
+        ("mark", 2, 1, ("round", 6, 2, [], [0, 1, 2, 3])),
+        ("mark", 3, 2, ("round", 5, 3, [], [0, 1, 2, 3])),
+        ("mark", 2, 3, ("round", 6, 2, [], [0, 1, 2, 3])),      # 0.1>1.2 1.2>2.3 2.3>3.1 3.1>0.1 | the same
+        # 0.1>1.2 1.2>2.2 2.2>3.2 3.2>0.3 0.3>1.3 1.3>2.3 2.3>3.1 3.1>0.1 | the same
+        ("unmark", 1, 2, ("round", 15, 1, [], [0, 1, 2, 3, 0, 1, 2, 3])),
+        ("cut", 2, 3, ("none", 2, 2)),                          # 0.1>1.2 1.2>2.2 | 0.1>1.2 1.2>2.2
+        ("add", 2, 3, ("round", 14, 2, [], [0, 1, 2, 3, 0, 1, 2, 3])),
+        # the first eight, 3.1>3.1 3.2>3.3 3.3>0.1 3.3>3.1 | the last eight
+        ("add", 3, 3, ("round", 17, 3, [], [0, 1, 2, 3, 0, 1, 2, 3])),
+        ("mark", 0, 4, ("no", 4)),
+        ("mark", 4, 4, ("no", 4)),
+        ("mark", 4, 3, ("no", 6)),
+    ]),
+    # four kinds on two states
+    ("kinds-four", 2, of_kinds(4, [0], [1], [0], [1]), C_MOVES,
+     ("round", 8, 0, [], [0, 1, 0, 1]), [                       # 0.1>1.2 1.2>0.3 0.3>1.4 1.4>0.1 | the same four
+        ("cut", 1, 0, ("none", 1, 1)),                          # 0.1>1.2 | 0.1>1.2
+        ("add", 1, 0, ("round", 7, 1, [], [0, 1, 0, 1])),
+        # 0.1>1.2 1.2>0.3 0.3>1.3 1.3>0.4 0.4>1.4 1.4>0.1 | the same six
+        ("batch", [("unmark", 0, 3), ("mark", 1, 3)], ("round", 12, 0, [], [0, 1, 0, 1, 0, 1])),
+        ("batch", BACK_KIND, ("round", 11, 1, [], [0, 1, 0, 1, 0, 1])),
+        ("unmark", 1, 4, ("none", 11, 1)),                      # the last of the six is 1.4>0.4
+        ("mark", 1, 4, ("round", 11, 1, [], [0, 1, 0, 1, 0, 1])),
+        ("mark", 1, 4, ("no", 13)),
+        ("mark", 2, 4, ("no", 6)),                              # no kind is above K
+        ("mark", 2, 5, ("no", 1)),
+        ("unmark", 0, ("none", 2, 0)),                          # 0.1>1.1 1.1>0.1
+        # 0.1>1.1 1.1>0.2 0.2>1.2 1.2>0.3 0.3>1.3 1.3>0.4 0.4>1.4 1.4>0.1 | the same but for the first
+        ("mark", 1, ("round", 14, 1, [], [0, 1, 0, 1, 0, 1, 0, 1])),
+    ]),
+    # a stem; one copy of the start state is open while the other is not met, and then has finished
+    ("kinds-stem", 3, of_kinds(2, [1], [2]), F_MOVES,
+     ("round", 5, 0, [0], [1, 2]), [                            # 0.1>1.1 1.1>2.2 2.2>1.1 | 1.1>2.2 2.2>1.1
+        ("add", 0, 2, ("round", 0, 5, [0], [1, 2])),
+        # 0.1>1.1 1.1>2.2 2.2>1.1 1.1>0.2 0.2>1.2 1.2>2.2 1.2>0.2 0.2>2.2 | 1.1>2.2 2.2>1.1
+        ("add", 1, 0, ("round", 9, 1, [0], [1, 2])),
+        ("cut", 0, 2, ("round", 9, 0, [0], [1, 2])),            # 0.1>2.1 was not looked at, 0.2>2.2 was
+        ("add", 0, 2, ("round", 10, 0, [0], [1, 2])),           # 0.1 has not finished, 0.2 has
+        # 0.1>1.1 1.1>2.2 2.2>1.1 1.1>0.2 0.2>1.1 0.2>2.1 2.1>1.1 | 1.1>2.2 2.2>1.1
+        ("mark", 0, 2, ("round", 9, 0, [0], [1, 2])),
+        # 0.1>1.1 1.1>2.2 1.1>0.2 0.2>1.1 0.2>2.1 | 1.1>2.2 1.1>0.2 0.2>1.1
+        ("cut", 2, 1, ("round", 6, 2, [0], [1, 0])),
+        ("unmark", 1, ("none", 3, 1)),                          # 0.1>1.1 1.1>2.1 1.1>0.1 0.1>2.1
+    ]),
+    # the numbers of marks, in their order: 1 for a kind that there never is, 4 for one above K, then 6, then 13 and 14
+    ("kinds-numbers", 2, of_kinds(2, [0], [1]), C_MOVES, ("round", 4, 0, [], [0, 1]), [
+        *[(word, state, kind, ("no", 1)) for word in ("mark", "unmark") for state in (0, 2) for kind in (0, 5, 65535)],
+        *[(word, state, kind, ("no", 4)) for word in ("mark", "unmark") for state in (0, 2, 65535) for kind in (3, 4)],
+        *[(word, state, kind, ("no", 6)) for word in ("mark", "unmark") for state in (2, 65535) for kind in (1, 2)],
+        ("mark", 2, ("no", 6)),
+        ("batch", [("mark", 2, 3)], ("no", 4, 1)),
+        ("batch", [("mark", 2, 2)], ("no", 6, 1)),
+        ("batch", [("mark", 2, 5)], ("no", 1, 1)),
+        ("batch", BACK_KIND + [("unmark", 0, 0)], ("no", 1, 3)),
+        ("batch", BACK_KIND + [("unmark", 0, 4)], ("no", 4, 3)),
+        ("batch", BACK_KIND + [("unmark", 0, 2)], ("no", 14, 3)),
+        ("batch", BACK_KIND + [("mark", 0)], ("no", 13, 3)),
+        ("batch", BACK_KIND + [("mark", 0, 2), ("mark", 1, 2)], ("no", 13, 4)),
+        ("batch", BACK_KIND * 32, ("round", 3, 1, [], [0, 1])),
+        ("batch", BACK_KIND * 32 + [("mark", 9, 3)], ("no", 15, 65)),
+        ("batch", BACK_KIND * 32 + [("mark", 9, 5)], ("no", 1, 65)),
+        ("batch", BACK_KIND * 32 + [("unmark", 1, 0), "x"], ("no", 1, 65)),
+        ("batch", [], ("round", 0, 4, [], [0, 1])),
+    ]),
+    # lines out of place, and such as cannot be read
+    ("kinds-lines", 2, of_kinds(2, [0], [1]), C_MOVES, ("round", 4, 0, [], [0, 1]), [
+        *[("line", row, ("no", 1)) for row in ("kinds 2", "kinds 1", "kinds", "kinds 2 ", "kinds 5", "pay 0 2", "mark 0 ",
+                                               "mark 0 2 ", "mark 0 2 2", "mark 0 02", "mark 0 +2", "mark 0  2", "mark  2",
+                                               "unmark 1 2\r", "unmark 1 65536", "unmark 1 10", "mark", "add 0 1 1", "cut 0 1 1",
+                                               "ways 0 1", "Kinds 2")],
+        ("batch", ["kinds 2"], ("no", 1, 1)),
+        ("batch", [("mark", 0, 2), "kinds 2", ("mark", 0, 2)], ("no", 1, 2)),
+        ("batch", [("mark", 0, 2), ("unmark", 0, 2), "unmark 0 2 1"], ("no", 1, 3)),
+        ("batch", ["pay 0 2"], ("no", 1, 1)),
+        ("batch", ["mark 0 "], ("no", 1, 1)),
+        ("mark", 0, 2, ("round", 4, 0, [], [0, 1])),
+    ]),
+    # the `game` line counts the states that carry any kind: here three
+    ("kinds-any", 4, of_kinds(3, [0, 1], [1, 3], [3]), [], ("none", 0, 0), [
+        ("unmark", 1, 2, ("none", 0, 0)),
+        ("unmark", 0, 3, ("no", 14)),
+        ("mark", 0, 3, ("none", 0, 0)),
+    ]),
+    # Game A with `kinds 1` written, and a game without the line: marks of kind 1, and of others
+    ("kinds-one", 4, of_kinds(1, [2]), [(0, 1), (1, 2)], ("none", 2, 0), [
+        ("add", 2, 1, ("round", 2, 2, [0], [1, 2])),
+        ("add", 2, 3, ("round", 3, 2, [0], [1, 2])),
+        ("mark", 2, 2, ("no", 4)),
+        ("mark", 4, 2, ("no", 4)),
+        ("mark", 4, 1, ("no", 6)),
+        ("mark", 2, 1, ("no", 13)),
+        ("cut", 1, 2, ("none", 0, 1)),
+        ("cut", 1, 2, ("no", 10)),
+        ("add", 2, 0, ("none", 0, 1)),
+        ("unmark", 2, 1, ("none", 0, 1)),
+    ]),
+    ("kinds-left-out", 2, [1], C_MOVES, ("round", 3, 0, [], [0, 1]), [
+        ("mark", 0, 2, ("no", 4)),
+        ("unmark", 9, 4, ("no", 4)),
+        ("mark", 9, 1, ("no", 6)),
+        ("mark", 1, 1, ("no", 13)),
+        ("mark", 0, 0, ("no", 1)),
+        ("mark", 0, 5, ("no", 1)),
+        ("unmark", 1, 1, ("none", 1, 1)),
+        ("unmark", 1, ("no", 14)),
+        ("mark", 1, ("round", 2, 1, [], [0, 1])),
+        ("line", "kinds 1", ("no", 1)),
+        ("batch", [("unmark", 1, 1), ("mark", 1), ("mark", 0, 1)], ("round", 3, 0, [], [0, 1])),
+        ("batch", [("unmark", 0), ("mark", 0, 2)], ("no", 4, 2)),
+    ]),
+    # loads that are refused: 4 comes before 16, and 16 before 6 and 8
+    ("kinds-0", 2, of_kinds(0), C_MOVES, ("no", 16), []),
+    ("kinds-0-paid", 2, of_kinds(0, [0]), C_MOVES, ("no", 4), []),              # every kind is above K
+    ("kinds-5", 2, of_kinds(5, [0], [1], [0], [1]), C_MOVES, ("no", 16), []),   # and none is
+    ("kinds-5-outside", 2, of_kinds(5, [], [], [], [2]), C_MOVES, ("no", 4), []),
+    ("kinds-65535", 2, of_kinds(65535), [], ("no", 16), []),
+    ("kinds-above", 2, of_kinds(2, [0], [1], [0]), C_MOVES, ("no", 4), []),
+    ("kinds-outside", 2, of_kinds(2, [0], [2]), C_MOVES, ("no", 4), []),
+    ("kinds-missing", 2, of_kinds(None, [], [0]), C_MOVES, ("no", 4), []),
+    ("kinds-4-first", 257, of_kinds(2, [0], [257]), [(0, 257)], ("no", 4), []),
+    ("kinds-16-before-6", 2, of_kinds(5, [0]), [(0, 1), (0, 1), (0, 2)], ("no", 16), []),
+    ("kinds-16-before-8", 257, of_kinds(2, [0], [1]), [(0, 1), (0, 1)], ("no", 16), []),
+    ("kinds-6-behind-16", 256, of_kinds(2, [0], [1]), [(0, 1), (0, 1), (0, 256)], ("no", 6), []),
+    ("kinds-8-behind-16", 256, of_kinds(2, [0], [1]), [(0, 1), (0, 1)], ("no", 8), []),
+    *[("kinds-states-%d" % (size + 1), size + 1, of_kinds(kinds, [0], [size]), [(0, size), (size, 0)], ("no", 16), [])
+      for kinds, size in ((2, 256), (3, 170), (4, 128))],
+    *[("kinds-moves-%d" % (count + 1), 64, of_kinds(kinds), FULL_MOVES[:count + 1], ("no", 16), [])
+      for kinds, count in ((2, 1024), (3, 682), (4, 512))],
+    *[full_of_kinds(kinds) for kinds in (2, 3, 4)],
+    *[long_walk(kinds) for kinds in (2, 3, 4)],
+]
+
+WORKED = SINGLES + BATCH_GAMES + WAYS_GAMES + KIND_GAMES
 
 # N, paying states, moves; and, worked by hand, the looks, with a bar where an inner search begins and where it ends
-# without success; stem and round, if there are any. Start is 0.
+# without success; stem and round, if there are any. Start is 0. With kinds, those that carry each are parted by a comma, and
+# behind a look stands the layer that it is taken in.
 LOOKS = [
     (4, "2", "01 12", "01 12", None),                                   # Game A
     (1, "", "", "", None),                                              # B, and so on
@@ -1376,6 +1794,19 @@ LOOKS = [
     # 1 has left the open path, marked and not
     (4, "13", "01 12 03 31", "01 12 | 12 | 03 31 | 31 |", None),
     (4, "3", "01 12 03 31", "01 12 03 31 | 31 12 |", None),
+    # the games of two kinds above as they are loaded, and some more
+    (2, "0,1", "01 10", "01.1 10.2 | 01.1 10.2", ([], [0, 1])),
+    (2, "1,0", "01 10", "01.1 10.1 01.2 | 10.1 01.2", ([0], [1, 0])),
+    (3, "012,012", "01 12 20", "01.1 12.2 20.1 01.2 12.1 20.2 | 12.1 20.2", ([], [0, 1, 2, 0, 1, 2])),
+    (2, "01,", "01 10", "01.1 10.2 01.2 | 01.1 10.2 01.2 |", None),
+    (2, ",01", "01 10", "01.1 10.1", None),
+    (4, "0,3", "01 10 12 23 32", "01.1 10.2 01.2 12.2 23.2 32.2 23.1 32.1 | 01.1 10.2 01.2 12.2 23.2 32.2 23.1 32.1 |", None),
+    (4, "0,3", "01 10 12 23 32 30", "01.1 10.2 01.2 12.2 23.2 32.2 23.1 32.1 30.1 30.2 "
+     "| 01.1 10.2 01.2 12.2 23.2 32.2 23.1 32.1 30.1", ([], [0, 1, 2, 3, 2, 3])),
+    # two inner searches: what the first has marked spares the second a look
+    (4, "02,1", "01 12 23 03", "01.1 12.2 23.1 | 23.1 | 03.1 | 01.1 12.2 03.1 |", None),
+    (1, "0,0,0", "00", "00.1 00.2 00.3 | 00.1 00.2 00.3", ([], [0, 0, 0])),
+    (2, "0,1,0,1", "01 10", "01.1 10.2 01.3 10.4 | 01.1 10.2 01.3 10.4", ([], [0, 1, 0, 1])),
 ]
 
 
@@ -1421,63 +1852,125 @@ def free_round_reachable(size, start, pays, moves):
                for p in range(size))
 
 
-# What the recursive search tells: the looks; the outer ones, each with the count of looks before it; the states met,
-# likewise; those whose loop over the outer moves was left; the open path at the end; the walk, if there is one.
+def parts_left(roots, ways):
+    """For each of these roots that is not gone through by then: what a walk from it leaves, in the order of leaving."""
+    seen = set()
+    for root in roots:
+        if root in seen:
+            continue
+        seen.add(root)
+        part, path = [], [(root, iter(ways[root]))]
+        while path:
+            state, left = path[-1]
+            target = next((t for t in left if t not in seen), None)
+            if target is None:
+                part.append(state)
+                path.pop()
+            else:
+                seen.add(target)
+                path.append((target, iter(ways[target])))
+        yield part
+
+
+def round_in_parts(size, start, marks, moves):
+    """Whether there is a free round, without layers: one of the strongly connected parts of what the start leads to has a
+    move inside and, for each kind in use, a state that carries it."""
+    onward, back = ([[] for _ in range(size)] for _ in range(2))
+    for a, b in moves:
+        onward[a].append(b)
+    reached, = parts_left([start], onward)
+    for a in reached:
+        for b in onward[a]:
+            back[b].append(a)
+    for part in map(set, parts_left(reached[::-1], back)):
+        inside = any(b in part for a in part for b in onward[a])
+        if inside and all(any(own[s] for s in part) for own in marks):
+            return True
+    return False
+
+
+# What the recursive search tells, each state as a pair with its layer: the looks; the outer ones, each with the count of looks
+# before it; the states met, likewise; those whose loop over the outer moves was left; the open path at the end; the walk, if
+# there is one.
 Told = namedtuple("Told", "looks outer met done path walk")
 
 
-def told_search(size, start, pays, moves):
+def told_search(size, start, marks, moves):
     """The steps of the paper once more, by recursion, sharing nothing."""
     class Stop(Exception):
         pass
-    met, path, marks, looks, inner, walk = {}, [], set(), [], [], []
+    met, path, marked, looks, inner, walk = {}, [], set(), [], [], []
     outer, done = {}, []
+
+    def steps(s):
+        state, layer = s
+        for a, b in moves:
+            if a == state:
+                yield s, (b, layer % len(marks) + 1 if marks[layer - 1][a] else layer)
 
     def meet(s):
         met[s] = len(looks)
         path.append(s)
-        for a, b in moves:
-            if a == s:
-                outer[a, b] = len(looks)
-                looks.append((a, b))
-                if b not in met:
-                    meet(b)
+        for step in steps(s):
+            outer[step] = len(looks)
+            looks.append(step)
+            if step[1] not in met:
+                meet(step[1])
         done.append(s)
-        if pays[s]:
+        if s[1] == 1 and marks[0][s[0]]:
             search_inside(s)
         path.pop()
 
     def search_inside(s):
-        marks.add(s)
+        marked.add(s)
         inner.append(s)
-        for a, b in moves:
-            if a == s:
-                looks.append((a, b))
-                if b in path:
-                    i = path.index(b)
-                    walk.append((path[:i], path[i:] + inner[1:]))
-                    raise Stop
-                if b not in marks:
-                    search_inside(b)
+        for step in steps(s):
+            looks.append(step)
+            if step[1] in path:
+                i = path.index(step[1])
+                walk.append((path[:i], path[i:] + inner[1:]))
+                raise Stop
+            if step[1] not in marked:
+                search_inside(step[1])
         inner.pop()
 
     try:
-        meet(start)
+        meet((start, 1))
     except Stop:
         pass
     return Told(looks, outer, met, done, path, walk)
 
 
+def in_use(table):
+    """What a search takes: the marks of the kinds in use, and the moves."""
+    return table.size, table.start, table.marks[:table.kinds], table.moves
+
+
 def told_of(table):
-    return told_search(table.size, table.start, table.pays, table.moves)
+    return told_search(*in_use(table))
+
+
+def first_met(told, state):
+    """The count of looks before any copy of the state is met, or of all."""
+    return min((count for (s, _), count in told.met.items() if s == state), default=len(told.looks))
+
+
+def is_met(told, state):
+    return any(s == state for s, _ in told.met)
+
+
+def spared_in(told, word, a, b):
+    """For each layer whether the search had not come to the move there, by other signs than those of not_come_to: the outer
+    looks alone, and the open path at the end, of which the last state alone has taken its last move."""
+    layers = range(1, MOST_KINDS + 1)
+    if word == "cut":
+        looked = {layer for (s, layer), (t, _) in told.outer if (s, t) == (a, b)}
+        return [layer not in looked for layer in layers]
+    return [(a, layer) not in told.met or (a, layer) in told.path[:-1] for layer in layers]
 
 
 def spared_by(told, word, a, b):
-    """Whether the search had not come to the move, by other signs than those of not_come_to: the outer looks alone, and
-    the open path at the end, of which the last state alone has taken its last move."""
-    if word == "cut":
-        return (a, b) not in told.outer
-    return a not in told.met or a in told.path[:-1]
+    return all(spared_in(told, word, a, b))
 
 
 def pays_again(table):
@@ -1489,49 +1982,68 @@ def pays_again(table):
     return any(table.pays[s] and (s, s) in table.moves for s in reached)
 
 
-def same_search(size, start, pays, moves):
+def paired(size, number):
+    """A state of the plain search's layers as a pair with its layer, from 1."""
+    return number % size, number // size + 1
+
+
+def same_search(size, start, marks, moves):
     """The run of the plain search, with which the textbook search agrees in verdict, walk and looks."""
-    run, search = plain_search(size, start, pays, moves), TextbookSearch(size, start, pays, moves)
-    assert search.looks == run.looks, (size, start, pays, moves)
-    assert (search.found, search.stem, search.round) == (run.found, run.stem, run.round), (size, start, pays, moves)
+    run, search = layered_search(size, start, marks, moves), TextbookSearch(size, start, marks, moves)
+    assert search.looks == [(paired(size, a), paired(size, b)) for a, b in run.layered.looks], (size, start, marks, moves)
+    assert (search.found, search.stem, search.round) == (run.found, run.stem, run.round), (size, start, marks, moves)
+    assert run.found == round_in_parts(size, start, marks, moves), (size, start, marks, moves)
+    check_walk(run, size, start, marks, moves)
     return run
 
 
+def check_walk(run, size, start, marks, moves):
+    """The walk is a run of present moves from the start into the round and once along it, and the round passes every kind.
+    No layered state occurs twice in it, and at each move there are at most two looks in each layer."""
+    assert all(count <= 2 for count in Counter(run.layered.looks).values())
+    assert len(run.looks) <= 2 * len(moves) * len(marks)
+    states, layered = run.stem + run.round, run.layered.stem + run.layered.round
+    assert len(states) == len(set(layered)) <= size * len(marks) and run.found == bool(run.round)
+    if run.found:
+        assert states[0] == start
+        assert set(zip(states, states[1:] + run.round[:1])) <= set(moves)
+        assert all(any(own[s] for s in run.round) for own in marks)
+
+
 def check_textbook(table):
-    same_search(table.size, table.start, table.pays, table.moves)
+    same_search(*in_use(table))
 
 
 def check_run(table):
     check_textbook(table)
-    run = table.run
-    told = told_of(table)
-    assert told.looks == run.looks and list(told.met.items()) == list(run.met_after.items())
-    assert told.done == run.finished
-    assert told.walk == ([(run.stem, run.round)] if run.found else [])
+    run, told = table.run, told_of(table)
+    def pair(number):
+        return paired(table.size, number)
+    layered = run.layered
+    assert told.looks == [(pair(a), pair(b)) for a, b in layered.looks]
+    assert list(told.met.items()) == [(pair(s), count) for s, count in layered.met_after.items()]
+    assert told.done == list(map(pair, layered.finished))
+    assert told.walk == ([(list(map(pair, layered.stem)), list(map(pair, layered.round)))] if run.found else [])
+    assert [(run.stem, run.round)] == [tuple([s for s, _ in part] for part in walk) for walk in told.walk or [([], [])]]
+    assert run.met_after == {s: first_met(told, s) for s, _ in told.met}
     assert all(told.outer[move] <= at for at, move in enumerate(told.looks))    # an inner look follows an outer one
     assert [s for s in told.met if s not in told.done] == told.path[:-1]        # unfinished at a stop
     assert run.found == bool(told.path)
-    assert run.found == free_round_reachable(table.size, table.start, table.pays, table.moves)
-    if run.found:
-        states = run.stem + run.round
-        assert states[0] == table.start and len(set(states)) == len(states)
-        steps = list(zip(states, states[1:])) + [(states[-1], run.round[0])]
-        assert all(step in table.moves for step in steps)
-        assert any(table.pays[s] for s in run.round)
+    if table.kinds == 1:
+        assert run.found == free_round_reachable(table.size, table.start, table.pays, table.moves)
 
 
 def check_change(table, before, word, named, answer):
     """An accepted change. before: the recursive search on the table that it found; named: its states."""
     check_run(table)
     now = told_of(table)
-    count = len(now.looks)
-    kept = now.met.get(named[0], count)
-    if word in ("add", "cut"):
+    kept = first_met(now, named[0])
+    if word in MOVE_WORDS:
         spared = spared_by(before, word, *named)
         assert spared == (now.looks == before.looks)     # the new run is the old one there, and only there
         if spared:
             assert now == before                         # in verdict and walk too
-            kept = count
+            kept = len(now.looks)
     check_counts(table, before, kept, answer)
 
 
@@ -1547,22 +2059,26 @@ def check_counts(table, before, kept, answer):
 def again(table):
     """Another table that holds the same, by a load with the marks of this moment; and the answer of that load."""
     other = Table()
-    pay = [s for s in range(table.size) if table.pays[s]]
-    return other, other.load(table.size, table.start, words_of(pay), flat(table.moves), table.size)
+    return other, other.load(*load_args(table.size, table.start, carried_by(table), table.moves), table.least_room)
+
+
+def carried_by(table):
+    """The marks of this moment, as the games worked by hand have theirs."""
+    return of_kinds(table.kinds, *([s for s in range(table.size) if own[s]] for own in table.marks))
 
 
 def check_batch(table, before, lines, answer):
     """An accepted batch. before: the recursive search on the table that it found."""
     check_run(table)
     now = told_of(table)
-    if all(spared_by(before, *line) if len(line) == 3 else line[1] not in before.met for line in lines):
+    if all(spared_by(before, *line) if line[0] in MOVE_WORDS else not is_met(before, line[1]) for line in lines):
         assert now == before
         kept = len(now.looks)
-    else:                                                # up to the first look that leads to a named state
+    else:                                                # up to the first look that leads to a copy of a named state
         named = {line[1] for line in lines}
-        leads = (at for at, (_, target) in enumerate(now.looks, 1) if target in named)
+        leads = (at for at, (_, (target, _)) in enumerate(now.looks, 1) if target in named)
         kept = 0 if table.start in named else next(leads, len(now.looks))
-        assert kept == min(now.met.get(s, len(now.looks)) for s in named)
+        assert kept == min(first_met(now, s) for s in named)
     check_counts(table, before, kept, answer)
 
 
@@ -1571,9 +2087,11 @@ def one_by_one(table, lines):
     are none."""
     answer = None
     for position, line in enumerate(lines, 1):
-        if line is None or position > 64:
-            return ("no", 1 if line is None else 15, position)
-        answer = getattr(table, line[0])(*line[1:], table.size)
+        if line is None or line[0] not in MOVE_WORDS and line[2:] and line[2] not in (1, 2, 3, 4):
+            return ("no", 1, position)
+        if position > 64:
+            return ("no", 15, position)
+        answer = getattr(table, line[0])(*line[1:], table.least_room)
         if answer[0] == "no":
             return (*answer, position)
     return answer
@@ -1586,31 +2104,32 @@ def batched(table, lines, room):
     untouched, _ = again(table)
     alone = one_by_one(singles, lines) or first
     answer = table.batch(lines, room)
-    if room < table.size or alone[0] == "no":
-        assert answer == (("no", 11, 0) if room < table.size else alone)
-        assert (table.run, table.moves, table.pays) == (run, untouched.moves, untouched.pays)
+    if room < table.least_room or alone[0] == "no":
+        assert answer == (("no", 11, 0) if room < table.least_room else alone)
+        assert (table.run, table.moves, table.marks) == (run, untouched.moves, untouched.marks)
         return answer
-    assert (table.moves, table.pays) == (singles.moves, singles.pays)
+    assert (table.moves, table.marks) == (singles.moves, singles.marks)
     assert (answer[0], sum(answer[1:3]), *answer[3:]) == (alone[0], sum(alone[1:3]), *alone[3:])
     assert len(lines) != 1 or answer == alone
     check_batch(table, before, lines, answer)
     return answer
 
 
-def switch(table, word, state, room):
+def switch(table, word, state, room, kind=1):
     """A mark or an unmark, its number and the table that it leaves held against the list of refusals."""
-    paying = {s for s in range(table.size) if table.pays[s]}
+    there = {(s, own) for own in (1, 2, 3, 4) for s in range(table.size) if table.marks[own - 1][s]}
     moves, run, before = list(table.moves), table.run, told_of(table)
-    faults = [(6, state >= table.size), (13, word == "mark" and state in paying),
-              (14, word == "unmark" and state not in paying), (11, room < table.size)]
+    faults = [(1, kind not in (1, 2, 3, 4)), (4, kind > table.kinds), (6, state >= table.size),
+              (13, word == "mark" and (state, kind) in there), (14, word == "unmark" and (state, kind) not in there),
+              (11, room < table.size * table.kinds)]
     number = next((n for n, holds in faults if holds), 0)
-    answer = getattr(table, word)(state, room)
+    answer = getattr(table, word)(state, kind, room)
     if number:
         assert answer == ("no", number) and table.run is run
     else:
-        paying ^= {state}
+        there ^= {(state, kind)}
         check_change(table, before, word, (state,), answer)
-    assert table.pays == [s in paying for s in range(table.size)] and table.moves == moves
+    assert table.marks == [[(s, own) in there for s in range(table.size)] for own in (1, 2, 3, 4)] and table.moves == moves
     return answer
 
 
@@ -1622,21 +2141,31 @@ def moved(table, word, a, b, room):
         check_run(table)
         return answer, "refused"
     check_change(table, before, word, (a, b), answer)
-    if a not in before.met:
-        return answer, "never met"
-    return answer, "not come to" if spared_by(before, word, a, b) else "come to"
+    return answer, sort_of(before, word, a, b)
+
+
+def sort_of(before, word, a, b):
+    """What the search had to do with a move. Where it had come to it in one layer, it may not have in another, in which the
+    state that it leaves was met all the same."""
+    if not is_met(before, a):
+        return "never met"
+    spared = spared_in(before, word, a, b)
+    if all(spared):
+        return "not come to"
+    not_in = [layer for layer, holds in enumerate(spared, 1) if holds and (a, layer) in before.met]
+    return "come to" if not not_in else "not in layer 1" if 1 in not_in else "not in a later layer"
 
 
 def test_games():
     for name, size, pay, moves, first, calls in WORKED:
-        table = Table()
-        assert table.load(size, 0, words_of(pay), flat(moves), size) == first, name
-        checked = check_run if size <= 8 else check_textbook       # the whole of a full table takes too long
-        checked(table)
         rows = game_rows(size, 0, pay, moves)
-        loaded = lines = b"game\t%d\t%d\t%d\n" % (size, len(moves), len(pay)) + answer_line(first)
+        table = Table()
+        loaded = lines = loaded_lines(table, name, size, pay, moves, first)
+        checked = check_run if size <= 8 else check_textbook       # the whole of a full table takes too long
+        if table.loaded:
+            checked(table)
         for *call, answer in calls:
-            got = made(table, call, size)
+            got = made(table, call, table.least_room)
             assert got == answer, (name, call, got)
             checked(table)
             rows += rows_of(call)
@@ -1645,11 +2174,33 @@ def test_games():
         assert answer_text(text + b"\n") == lines, name
         assert answer_text(text) == lines, name
         assert desk_hears(text) == loaded, name
+        if not isinstance(pay, Carried):                           # `kinds 1`, written, changes nothing
+            assert answer_text(as_text("|".join(rows[:1] + ["kinds 1"] + rows[1:]))) == lines, name
+
+
+def loaded_lines(table, name, size, pay, moves, first):
+    """The game is loaded with this first answer, which its lines tell too: these."""
+    args = load_args(size, 0, pay, moves)
+    got = table.load(*args, size * args[2])
+    assert got == first, (name, got)
+    if not table.loaded:
+        return answer_line(first)
+    count = len({s for states in carried(pay).carriers for s in states})
+    return answer_line(("game", size, len(moves), count)) + answer_line(first)
 
 
 def game_rows(size, start, pay, moves):
     """The lines that load a game, with spaces for tabs."""
-    return ["game %d %d" % (size, start)] + ["pay %d" % s for s in pay] + ["move %d %d" % m for m in moves] + ["go"]
+    kinds, carriers = carried(pay)
+    rows = ["game %d %d" % (size, start)] + ([] if kinds is None else ["kinds %d" % kinds])
+    rows += [pay_row(kinds, kind, state) for kind, states in enumerate(carriers, 1) for state in states]
+    return rows + ["move %d %d" % m for m in moves] + ["go"]
+
+
+def pay_row(kinds, kind, state):
+    """Kind 1 is left out, but where K is written it stands behind every other state."""
+    left_out = kind == 1 and (kinds is None or state % 2 == 0)
+    return "pay %d" % state if left_out else "pay %d %d" % (state, kind)
 
 
 def as_text(rows):
@@ -1717,7 +2268,7 @@ def test_lines():
                 "game 02 0", "game 2 00", "game 65536 0", "game 100000 0", "Game 2 0",
                 "game 2 +0", "game 2 0\r", "game 2 0\0", " game 2 0", "game"):
         says(bad + "|go", "no 1|")
-    for bad in ("game 2 0", "move 0 1|pay 1", "cut 0 1", "go ", "go\r", "kinds 1"):
+    for bad in ("game 2 0", "move 0 1|pay 1", "cut 0 1", "go ", "go\r", "pay 1|kinds 1"):
         says("game 2 0|" + bad + "|go", "no 1|")
     says("game 65535 65535|go", "no 2|")
     head, heard = "game 2 0|go|", "game 2 0 0|none 0 0|"
@@ -1743,7 +2294,7 @@ def test_lines():
 
 # What may stand where a line names one state, and the number that it gets in a game of three.
 REFUSED_STATES = (("511", 6), ("512", 6), ("9999", 6), ("65535", 6), ("65536", 1), ("99999", 1), ("100000", 1), ("000000", 1),
-                  ("00", 1), ("01", 1), ("", 1), ("-1", 1), ("+1", 1), ("1\r", 1), ("1\0", 1), ("1 ", 1), (" 1", 1), ("1 1", 1),
+                  ("00", 1), ("01", 1), ("", 1), ("-1", 1), ("+1", 1), ("1\r", 1), ("1\0", 1), ("1 ", 1), (" 1", 1), ("1 5", 1),
                   ("0 1 2", 1), ("x", 1))
 
 
@@ -1765,23 +2316,23 @@ def test_mark_lines():
 
 
 def test_refusals():
-    t, none = Table(), [0] * 8
+    t, none = Table(), words_of()
     mark = words_of([2])
     cases = [   # each has every later fault of the load too
-        (2, (0, 0, mark, [9, 9, 9], 0)), (2, (513, 600, mark, [9, 9, 9], 0)),
-        (3, (2, 2, mark, [9, 9, 9], 0)), (4, (2, 1, mark, [9, 9, 9], 0)),
-        (5, (2, 1, none, [9, 9, 9], 0)), (5, (2, 1, none, [9] * 4098, 0)),
-        (6, (2, 1, none, [0, 1, 0, 1, 1, 1, 0, 2], 0)),
-        (6, (2, 1, none, [1, 1, 1, 1, 2, 2], 0)),
-        (8, (2, 1, none, [0, 1, 0, 1, 1, 1], 0)), (8, (2, 1, none, [1, 1, 0, 1, 1, 1], 0)),
-        (11, (2, 1, none, [0, 1], 1)), (11, (2, 1, none, [1, 1], 1)),
+        (2, (0, 0, 1, mark, [9, 9, 9], 0)), (2, (513, 600, 1, mark, [9, 9, 9], 0)),
+        (3, (2, 2, 1, mark, [9, 9, 9], 0)), (4, (2, 1, 1, mark, [9, 9, 9], 0)),
+        (5, (2, 1, 1, none, [9, 9, 9], 0)), (5, (2, 1, 1, none, [9] * 4098, 0)),
+        (6, (2, 1, 1, none, [0, 1, 0, 1, 1, 1, 0, 2], 0)),
+        (6, (2, 1, 1, none, [1, 1, 1, 1, 2, 2], 0)),
+        (8, (2, 1, 1, none, [0, 1, 0, 1, 1, 1], 0)), (8, (2, 1, 1, none, [1, 1, 0, 1, 1, 1], 0)),
+        (11, (2, 1, 1, none, [0, 1], 1)), (11, (2, 1, 1, none, [1, 1], 1)),
     ]
     for number, args in cases:
         assert t.load(*args) == ("no", number), (number, args)
         assert not t.loaded
     full = [(a, b) for a in range(4, 512) for b in range(4, 9)][:2048]
     assert full[0] == (4, 4)
-    assert t.load(512, 511, none, flat(full), 512)[0] == "none"
+    assert t.load(512, 511, 1, none, flat(full), 512)[0] == "none"
     assert t.add(512, 512, 0) == t.add(0, 512, 0) == ("no", 6)
     assert t.cut(512, 512, 0) == t.cut(512, 0, 0) == ("no", 6)
     assert t.add(4, 4, 0) == t.add(4, 5, 0) == ("no", 8)
@@ -1814,7 +2365,7 @@ def test_every_call():
     for size, start, pay, numbers in itertools.product(range(3), range(3), pays, lists):
         for room in range(3):
             t = Table()
-            heard.add(t.load(size, start, words_of(pay), numbers, room)[:2])
+            heard.add(t.load(size, start, 1, words_of(pay), numbers, room)[:2])
         if not t.loaded:
             continue
         check_run(t)
@@ -1826,24 +2377,36 @@ def test_every_call():
     assert {number for word, number in heard if word == "no"} == {2, 3, 4, 5, 6, 8, 10, 11, 13, 14}
 
 
-def random_load(rng, table, most):
-    """A random game of up to so many states."""
+def random_load(rng, table, most, kinds=None):
+    """A random game of up to so many states; with one kind, or with so many and each of them carried by none, some or all."""
     size = rng.randint(1, most)
     every = [(a, b) for a in range(size) for b in range(size)]
     rng.shuffle(every)
-    moves = every[:rng.randint(0, min(len(every), 2 * size))]
-    pay = [s for s in range(size) if rng.random() < 0.35]
-    return table.load(size, rng.randrange(size), words_of(pay), flat(moves), size)
+    moves = every[:rng.randint(0, min(len(every), (4 if kinds else 2) * size))]
+    pay = random_carried(rng, size, kinds) if kinds else [s for s in range(size) if rng.random() < 0.35]
+    return table.load(*load_args(size, rng.randrange(size), pay, moves), size * (kinds or 1))
+
+
+def random_carried(rng, size, kinds):
+    """Each kind is carried by few states, by many or by all, seldom by none; in some games one state carries all kinds."""
+    shares = [0 if rng.random() < 0.06 else rng.choice((0.2, 0.35, 0.6, 1)) for _ in range(kinds)]
+    one = {rng.randrange(size)} if rng.random() < 0.3 else set()
+    return of_kinds(kinds, *(sorted(one | {s for s in range(size) if rng.random() < share}) for share in shares))
+
+
+def random_kind(rng, table):
+    return 1 if table.kinds == 1 else rng.randint(1, table.kinds)
 
 
 def random_switch(rng, table):
     """A mark or an unmark that is accepted, or one time in eight any."""
-    state = rng.randrange(table.size)
+    state, kind = rng.randrange(table.size), random_kind(rng, table)
     if rng.random() < 0.125:
-        word, state, room = rng.choice(("mark", "unmark")), rng.randint(0, table.size), rng.randint(0, table.size)
+        word, state, room = rng.choice(("mark", "unmark")), rng.randint(0, table.size), rng.randint(0, table.least_room)
+        kind = kind if table.kinds == 1 else rng.choice((0, 1, 2, 3, 4, 5, 65535))
     else:
-        word, room = "unmark" if table.pays[state] else "mark", table.size
-    return word, switch(table, word, state, room)
+        word, room = "unmark" if table.marks[kind - 1][state] else "mark", table.least_room
+    return word, switch(table, word, state, room, kind)
 
 
 def random_move(rng, table):
@@ -1851,7 +2414,7 @@ def random_move(rng, table):
     every = [(a, b) for a in range(table.size) for b in range(table.size)]
     move = rng.choice(table.moves if table.moves and rng.random() < 0.3 else every)
     word = "cut" if move in table.moves else "add"
-    answer, sort = moved(table, word, *move, table.size)
+    answer, sort = moved(table, word, *move, table.least_room)
     return word, sort, answer
 
 
@@ -1893,7 +2456,7 @@ def test_lines_of_states():
         moves = list(dict.fromkeys(line + others))
         rng.shuffle(moves)
         t = Table()
-        t.load(size, 0, words_of([size - 1, rng.randrange(size)]), flat(moves), size)
+        t.load(*load_args(size, 0, [size - 1, rng.randrange(size)], moves), size)
         for _ in range(10):
             *sort, answer = rng.choice((random_move, random_move, random_move, random_switch))(rng, t)
             seen[(*sort, answer[0])] += 1
@@ -1951,7 +2514,7 @@ def test_batch_lines():
 def test_batch_numbers():
     """Each number at each place, and with it more behind; on a full table, of which no search meets more than the start."""
     t = Table()
-    t.load(64, 0, words_of([0, 1]), flat(FULL_MOVES), 64)
+    t.load(*load_args(64, 0, [0, 1], FULL_MOVES), 64)
     back = [("mark", 3), ("unmark", 3)] * 32
     cases = ((1, None), (6, ("add", 0, 64)), (6, ("cut", 64, 64)), (6, ("mark", 65535)), (6, ("unmark", 64)),
              (8, ("add", 32, 0)), (9, ("add", 0, 1)), (10, ("cut", 0, 1)), (13, ("mark", 0)), (14, ("unmark", 2)))
@@ -1973,7 +2536,7 @@ def test_batch_numbers():
 
 def random_lines(rng, table, count):
     """So many changes that are accepted one after another. In some batches the run before had come to none of them."""
-    moves, pays, run = set(table.moves), list(table.pays), table.run
+    moves, there, run = set(table.moves), [list(own) for own in table.marks], table.run
     marks = list(range(table.size))
     any_move = [(a, b) for a in marks for b in marks]
     if rng.random() < 0.4:
@@ -1984,12 +2547,13 @@ def random_lines(rng, table, count):
     lines = []
     while len(lines) < count:
         if marks and rng.random() < 0.3:
-            state = rng.choice(marks)
-            lines.append(("unmark" if pays[state] else "mark", state))
-            pays[state] = not pays[state]
+            state, kind = rng.choice(marks), random_kind(rng, table)
+            own = there[kind - 1]
+            lines.append(("unmark" if own[state] else "mark", state) + (() if kind == 1 else (kind,)))
+            own[state] = not own[state]
         else:
-            there = [m for m in any_move if m in moves]
-            move = rng.choice(there if there and rng.random() < 0.5 else any_move)
+            here = [m for m in any_move if m in moves]
+            move = rng.choice(here if here and rng.random() < 0.5 else any_move)
             lines.append(("cut" if move in moves else "add", *move))
             moves ^= {move}
     return lines
@@ -1999,6 +2563,8 @@ def spoilt(rng, table, lines):
     """The same with one line more that is refused, or may be."""
     state = rng.randint(0, table.size)
     line = rng.choice((None, ("mark", state), ("unmark", state), ("add", state, 0), ("cut", state, state), ("cut", 0, state)))
+    if table.kinds > 1 and rng.random() < 0.5:
+        line = rng.choice(("mark", "unmark")), state, rng.choice((0, 1, 2, 3, 4, 5, 65535))
     at = rng.randint(0, len(lines))
     return lines[:at] + [line] + lines[at:]
 
@@ -2014,18 +2580,24 @@ def test_batches():
             lines = random_lines(rng, t, count)
             if rng.random() < 0.3:
                 lines = spoilt(rng, t, lines)
-            room = rng.randint(0, t.size) if rng.random() < 0.03 else rng.randint(t.size, t.size + 2)
-            met = {line[1] for line in lines if line} & set(t.run.met_after)
-            answer = batched(t, lines, room)
-            if answer[0] == "no":
-                seen["no", answer[1]] += 1
-            else:
-                seen[answer[0], "met" if met else "unmet", "spent" if answer[1] else "spent 0"] += 1
+            random_batch(rng, t, lines, seen)
             if rng.random() < 0.3:
                 rng.choice((random_switch, random_move))(rng, t)
     assert all(seen["no", number] > 20 for number in (1, 6, 8, 10, 11, 13, 14, 15)), seen
     for verdict, what in itertools.product(("round", "none"), (("met", "spent"), ("met", "spent 0"), ("unmet", "spent 0"))):
         assert seen[(verdict, *what)] > 100, seen
+
+
+def random_batch(rng, table, lines, seen):
+    """A batch with a list that is seldom too short, and what came of it."""
+    least = table.least_room
+    room = rng.randint(0, least) if rng.random() < 0.03 else rng.randint(least, least + 2)
+    met = {line[1] for line in lines if line} & set(table.run.met_after)
+    answer = batched(table, lines, room)
+    if answer[0] == "no":
+        seen["no", answer[1]] += 1
+    else:
+        seen[answer[0], "met" if met else "unmet", "spent" if answer[1] else "spent 0"] += 1
 
 
 def test_small_batches():
@@ -2084,17 +2656,17 @@ class Tally:
 
     def heard(self, lines, answer):
         for line in lines if answer[0] != "no" else ():
-            if len(line) == 3:
+            if line[0] in MOVE_WORDS:
                 self.move(*line)
 
     def check(self, table):
         """The table answers every question so, and is left as it was."""
-        held = table.run, list(table.moves), list(table.pays)
+        held = table.run, list(table.moves), [list(own) for own in table.marks]
         for s in range(table.size):
             assert table.ways(s) == ("ways", s, self.leaving[s], self.entering[s]), (table.moves, s)
         assert {table.ways(s) for s in (table.size, table.size + 1, 512, 65535)} == {("no", 6)}
         assert sum(self.leaving.values()) == sum(self.entering.values()) == len(table.moves)
-        assert held == (table.run, table.moves, table.pays)
+        assert held == (table.run, table.moves, table.marks)
 
 
 def some_call(rng, table):
@@ -2148,25 +2720,37 @@ def questions_matter_not(rng, size, rows, calls):
 def test_questions():
     """Questions between any lines of the games worked by hand and of random sessions leave the other answers as they are."""
     rng = random.Random(14)
-    for _, size, pay, moves, _, calls in WORKED:
-        questions_matter_not(rng, size, game_rows(size, 0, pay, moves), [call[:-1] for call in calls])
+    for _, size, pay, moves, first, calls in WORKED:
+        if first[0] != "no":
+            questions_matter_not(rng, size, game_rows(size, 0, pay, moves), [call[:-1] for call in calls])
     for _ in range(300):
-        t, calls = Table(), []
+        t = Table()
         random_load(rng, t, 8)
         rows = game_rows(t.size, t.start, [s for s in range(t.size) if t.pays[s]], t.moves)
-        for _ in range(10):
-            call, _ = some_call(rng, t)
-            made(t, call, MOST_STATES)
-            calls.append((call[0], ["x" if line is None else line for line in call[1]]) if call[0] == "batch" else call)
-        questions_matter_not(rng, t.size, rows, calls)
+        questions_matter_not(rng, t.size, rows, [call for call, _ in some_calls(rng, t, 10)])
+
+
+def some_calls(rng, table, count):
+    """So many calls, each with its answer, made on this table; in a batch a text stands for a line that is no change."""
+    for _ in range(count):
+        call, _ = some_call(rng, table)
+        answer = made(table, call, MOST_STATES)
+        yield (call[0], ["x" if line is None else line for line in call[1]]) if call[0] == "batch" else call, answer
 
 
 def test_looks():
     def two(text):
-        return [(int(a), int(b)) for a, b in text.replace("|", "").split()]
+        return [(int(a), int(b)) for a, b in text.split()]
+
+    def taken(look):
+        """A look worked by hand, in layer 1 if none is told."""
+        move, _, layer = look.partition(".")
+        return *two(move)[0], int(layer or 1)
     for size, pays, moves, looks, walk in LOOKS:
-        search = TextbookSearch(size, 0, [str(s) in pays for s in range(size)], two(moves))
-        assert search.looks == two(looks), (moves, search.looks)
+        marks = [[str(s) in own for s in range(size)] for own in pays.split(",")]
+        search = TextbookSearch(size, 0, marks, two(moves))
+        got = [(a, b, layer) for (a, layer), (b, _) in search.looks]
+        assert got == [taken(look) for look in looks.replace("|", "").split()], (moves, search.looks)
         assert search.found == (walk is not None) and (search.stem, search.round) == (walk or ([], [])), (moves, search.round)
 
 
@@ -2183,11 +2767,11 @@ def test_deepest():
     for tip, closed in itertools.product((0, 1, 255, 510, 511), (True, False)):
         moves, pays = deepest(tip, closed), [s == tip for s in range(MOST_STATES)]
         assert len(moves) == len(set(moves)) == MOST_MOVES - (not closed)
-        run = same_search(MOST_STATES, 0, pays, moves)
+        run = same_search(MOST_STATES, 0, [pays], moves)
         outer = sorted(moves, key=lambda move: move[0])       # a state's in their order
         assert run.looks == outer + [move for move in outer if move[0] >= tip]
         assert (run.stem, run.round) == ([], list(range(MOST_STATES)) if closed else [])
-        same_search(MOST_STATES, 0, pays, moves[::-1])
+        same_search(MOST_STATES, 0, [pays], moves[::-1])
         text = as_text("|".join(game_rows(MOST_STATES, 0, [tip], moves)))
         line = ("round", len(run.looks), 0, [], run.round) if closed else ("none", len(run.looks), 0)
         assert desk_text(text) == b"game\t512\t%d\t1\n" % len(moves) + answer_line(line)
@@ -2221,7 +2805,7 @@ def test_textbook():
         for _ in range(count):
             size = MOST_STATES if most == MOST_STATES else rng.randint(1, most)
             start, pay, moves = random_game(rng, size, int(size * rng.choice((1, 1.5, 2, 4))))
-            run = same_search(size, start, [s in pay for s in range(size)], moves)
+            run = same_search(size, start, [[s in pay for s in range(size)]], moves)
             seen[most, run.found] += 1
             seen[most, "inner searches"] += len(set(pay) & set(run.finished)) > 1
             seen[most, "walk of 100"] += len(run.stem + run.round) >= 100
@@ -2254,6 +2838,274 @@ def test_desk_lines():
     assert desk_hears(as_text("game 3 0|go|move 0 1|go")) == as_text("game 3 0 0|none 0 0|")
 
 
+KINDS_HEAD, KINDS_HEARD = "game 3 0|kinds 2|pay 0|pay 1 2|move 0 1|move 1 0|go|", "game 3 2 2|round 4 0 0 2 0 1|"
+
+
+def test_kind_lines():
+    says(KINDS_HEAD + "unmark 1 2|mark 1 2|mark 2 2|unmark 2 2|mark 0 2|unmark 0 1",
+         KINDS_HEARD + "none 5 1|round 3 1 0 2 0 1|" + "round 0 4 0 2 0 1|" * 2 + "round 4 0 0 2 0 1|none 2 0|")
+    head = KINDS_HEAD.split("|")
+    for at in range(len(head)):                 # `kinds` stands behind `game` and nowhere else
+        says("|".join(head[:at] + ["kinds 2"] + head[at:]), KINDS_HEARD + "no 1|" if at == 7 else "no 1|")
+    says("game 3 0|pay 0|kinds 2|go", "no 1|")
+    says("game 3 0|move 0 0|kinds 2|go", "no 1|")
+    says("kinds 2|game 3 0|go", "no 1|")
+    says("game 3 0|kinds 2|kinds 2|go", "no 1|")
+    says("game 3 0|kinds 9", "")                # 16 comes with `go`
+    says("game 3 0|kinds 9|pay 0 4|move 9 9", "")
+    for kinds in ("0", "5", "6", "9", "10", "512", "9999", "65535"):
+        says("game 3 0|kinds %s|go" % kinds, "no 16|")
+        says("game 3 3|kinds %s|go" % kinds, "no 3|")
+        says("game 0 0|kinds %s|go" % kinds, "no 2|")
+        says("game 3 0|kinds %s|pay 3 4|go" % kinds, "no 4|")
+        says("game 3 0|kinds %s|pay 0 4|move 9 9|go" % kinds, "no 4|" if kinds == "0" else "no 16|")
+    for bad in ("kinds", "kinds ", "kinds 65536", "kinds 100000", "kinds 01", "kinds 00", "kinds 1 1", "kinds 2 ", "kinds  2",
+                "kinds +2", "kinds -1", "kinds 2\r", "kinds 2\0", " kinds 2", "Kinds 2", "KINDS 2", "kind 2", "kindss 2",
+                "kinds x", "kinds 1.0", "kinds" + " " * 30 + "2", "kinds 2" + " " * 26):
+        says("game 3 0|" + bad + "|go", "no 1|")
+    for kinds in "1234":
+        says("game 3 0|kinds %s|go" % kinds, "game 3 0 0|none 0 0|")
+
+
+def test_kind_fields():
+    """The kind behind the state."""
+    bad = ("0", "5", "9", "10", "65535", "65536", "100000", "01", "02", "00", "", "-1", "+1", "1\r", "1\0", "1 ", " 1", "1 1",
+           "x", "2 0")
+    for kind, word in itertools.product(bad, ("pay", "mark", "unmark")):
+        row = "%s 0 %s" % (word, kind)
+        if word == "pay":
+            says("game 3 0|kinds 4|" + row + "|go", "no 1|")
+            says("game 3 0|" + row + "|go", "no 1|")
+        else:
+            says(KINDS_HEAD + row + "|unmark 1 2", KINDS_HEARD + "no 1|none 5 1|")
+            says(KINDS_HEAD + "begin|" + row + "|end|unmark 1 2", KINDS_HEARD + "no 1 1|none 5 1|")
+    # above K, and 511 at most for the state of a `pay` line whatever its kind
+    for row, number in (("pay 0 3", 4), ("pay 0 4", 4), ("pay 3 3", 4), ("pay 3 2", 4), ("pay 511 1", 4), ("pay 512 1", 1),
+                        ("pay 512 3", 1)):
+        says("game 3 0|kinds 2|" + row + "|go", "no %d|" % number)
+    for row, number in (("pay 0 1", 0), ("pay 0 2", 4), ("pay 0 4", 4), ("pay 0 5", 1)):
+        says("game 3 0|" + row + "|go", "no %d|" % number if number else "game 3 0 1|none 0 0|")
+    for row, number in (("mark 0 3", 4), ("mark 3 3", 4), ("mark 65535 4", 4), ("mark 3 2", 6), ("mark 65535 1", 6),
+                        ("mark 65536 3", 1), ("mark 0", 13), ("mark 0 1", 13), ("mark 1 2", 13), ("unmark 0 2", 14),
+                        ("unmark 1", 14), ("unmark 1 1", 14), ("unmark 3 4", 4), ("unmark 3", 6), ("mark 512 2", 6),
+                        ("mark 0 5", 1), ("mark 9 0", 1)):
+        says(KINDS_HEAD + row + "|unmark 1 2", KINDS_HEARD + "no %d|none 5 1|" % number)
+        says(KINDS_HEAD + "begin|" + row + "|end|unmark 1 2", KINDS_HEARD + "no %d 1|none 5 1|" % number)
+    # doubles, and the count of the states that carry any kind
+    says("game 3 0|kinds 2|pay 1|pay 1 1|pay 1 2|pay 1 2|pay 2 2|go", "game 3 0 2|none 0 0|")
+    says("game 3 0|pay 1|pay 1 1|pay 1|go", "game 3 0 1|none 0 0|")
+    # where 15 stands
+    back = "mark 2 2|unmark 2 2|" * 32
+    for row, number in (("mark 9 3", 15), ("mark 0 1", 15), ("mark 9 5", 1), ("mark 0 0", 1), ("mark 0 65535", 1),
+                        ("mark 0 65536", 1)):
+        says(KINDS_HEAD + "begin|" + back + row + "|end", KINDS_HEARD + "no %d 65|" % number)
+    for row in ("kinds 1", "kinds 2", "kinds 9", "kinds"):      # behind `go`, and in a batch
+        says(KINDS_HEAD + row + "|begin|" + row + "|end|begin|mark 2|" + row + "|mark 2|end|unmark 1 2",
+             KINDS_HEARD + "no 1|no 1 1|no 1 2|none 5 1|")
+
+
+def test_many_lines():
+    """The 2,049th `move` line gets 5 as it is read, whatever K is; one too many for K alone gets 16 at `go`."""
+    for kinds in range(6):
+        head = "game 64 0|kinds %d|" % kinds
+        for count in (512, 513, 682, 683, 1024, 1025, 2048):
+            load = head + "".join("move %d %d|" % move for move in FULL_MOVES[:count])
+            fits = 1 <= kinds <= 4 and count * kinds <= 2048
+            says(load + "go", "game 64 %d 0|none 0 0|" % count if fits else "no 16|")
+            says(load, "")
+            says(load + "pay 0|go", "no 1|")
+        says(load + "move 0 1|go", "no 5|")
+        says(load + "move 99 99|go", "no 5|")
+        says(load + "move 0|go", "no 1|")
+
+
+def test_kind_loads():
+    """The number of a load, held against the list of refusals: states, start, K, marks, moves and room of all sorts."""
+    heard = Counter()
+    sizes = 0, 1, 2, 3, 128, 129, 170, 171, 256, 257, 512, 513
+    lists = [], [0], [0, 0], [0, 0, 0, 0], [0, 600], [0, 600, 0, 600], flat(FULL_MOVES), flat(FULL_MOVES + FULL_MOVES[:1])
+    for size, kinds, numbers in itertools.product(sizes, (0, 1, 2, 3, 4, 5, 65535), lists):
+        marked = [], [(0, 1)], [(0, 2)], [(0, 4)], [(min(size, 511), 2)]              # state and kind
+        for start, marks, short in itertools.product((0, size), marked, (0, 1, size * kinds)):
+            room = max(0, size * kinds - short)
+            number = load_number(size, start, kinds, marks, numbers, room)
+            carriers = [[s for s, own in marks if own == kind] for kind in (1, 2, 3, 4)]
+            t = Table()
+            answer = t.load(size, start, kinds, words_of(*carriers), numbers, room)
+            assert t.loaded == (number == 0) and (answer == ("no", number)) == (number > 0), (size, start, kinds, marks, answer)
+            heard[number] += 1
+    assert set(heard) == {0, 2, 3, 4, 5, 6, 8, 11, 16}, heard
+
+
+def load_number(size, start, kinds, marks, numbers, room):
+    """What a load is refused with, read from the list; 0 if it is not. marks: pairs of a state and a kind."""
+    moves = Counter(pairs(numbers))
+    faults = [(2, not 1 <= size <= 512), (3, start >= size), (4, any(s >= size or kind > kinds for s, kind in marks)),
+              (5, len(numbers) % 2 or len(numbers) > 4096),
+              (16, kinds not in (1, 2, 3, 4) or size * kinds > 512 or len(numbers) // 2 * kinds > 2048),
+              (6, any(n >= size for n in numbers)), (8, any(count > 1 for count in moves.values())), (11, room < size * kinds)]
+    return next((number for number, holds in faults if holds), 0)
+
+
+def test_kind_calls():
+    """Every mark and unmark, alone and in a batch, on small tables of each K, with every kind and with lists too short."""
+    heard = set()
+    kinds_named = 0, 1, 2, 3, 4, 5, 65535
+    for kinds in (1, 2, 3, 4):
+        t = Table()
+        t.load(*load_args(2, 0, of_kinds(kinds, [0], *[[1]] * (kinds - 1)), C_MOVES), 2 * kinds)
+        rooms = 0, 2 * kinds - 1, 2 * kinds
+        for word, state, kind, room in itertools.product(("mark", "unmark"), (0, 1, 2, 65535), kinds_named, rooms):
+            lone, _ = again(t)
+            answer = switch(lone, word, state, room, kind)
+            heard.add((kinds, answer[1] if answer[0] == "no" else 0))
+            batched(again(t)[0], [(word, state, kind)], room)
+            batched(again(t)[0], [("add", 0, 0), (word, state, kind), None], room)
+            if kind == 1:
+                assert getattr(again(t)[0], word)(state, room) == answer               # left out
+        for room in range(2 * kinds + 2):
+            short = room < 2 * kinds
+            for word, a, b in (("add", 0, 0), ("cut", 0, 1)):
+                assert (getattr(again(t)[0], word)(a, b, room) == ("no", 11)) == short
+            assert (t.batch([], room) == ("no", 11, 0)) == short
+            assert (Table().load(*load_args(2, 0, of_kinds(kinds), []), room) == ("no", 11)) == short
+    every = {(kinds, number) for kinds in (1, 2, 3, 4) for number in (0, 1, 4, 6, 11, 13, 14)}
+    assert heard == every - {(4, 4)}            # with four kinds none is above K
+
+
+def test_kind_batch_numbers():
+    """Each number at each place on a full table of each K."""
+    for kinds in (2, 3, 4):
+        _, size, pay, moves, _, _ = full_of_kinds(kinds)
+        t = Table()
+        t.load(*load_args(size, 0, pay, moves), size * kinds)
+        assert (len(moves) + 1) * kinds > 2048 >= len(moves) * kinds
+        back = [("mark", 3, kinds), ("unmark", 3, kinds)] * 32
+        cases = ((1, ("mark", 0, 0)), (1, ("unmark", 99, 5)), (4 if kinds < 4 else 1, ("mark", 99, kinds + 1)),
+                 (6, ("mark", 64, kinds)), (8, ("add", 32, 0)), (9, ("add", 0, 1)), (10, ("cut", 0, 1)), (13, ("mark", 1, kinds)),
+                 (14, ("unmark", 0, kinds)))
+        for (number, line), ahead in itertools.product(cases, (0, 1, 63, 64)):
+            wanted = number if ahead < 64 or number == 1 else 15
+            assert t.batch(back[:ahead] + [line, None], size * kinds) == ("no", wanted, ahead + 1)
+            assert t.batch(back[:ahead] + [line], size * kinds - 1) == ("no", 11, 0)
+        assert t.batch([("cut", 32, 0), ("add", 0, 1), ("add", 0, 2)], size * kinds) == ("no", 9, 3)
+        assert t.batch([("cut", 32, 0), ("add", 0, 1)], size * kinds)[0] == "none" and len(t.moves) == len(moves)
+        assert t.add(0, 2, size * kinds) == ("no", 9) and t.cut(0, 1, size * kinds)[0] == "none"
+        assert t.add(0, 2, size * kinds)[0] == "none" and t.add(0, 1, size * kinds) == ("no", 9)
+
+
+def test_random_kinds():
+    """Random games with 1 to 4 kinds, and changes. There are many of each K and of each sort."""
+    rng = random.Random(15)
+    seen = Counter()
+    for at in range(2800):
+        t, kinds = Table(), at % 4 + 1
+        seen[kinds, random_load(rng, t, 6, kinds)[0]] += 1
+        check_run(t)
+        for _ in range(9):
+            *sort, answer = rng.choice((random_switch, random_move, random_move))(rng, t)
+            first = next((layer for s, layer in told_of(t).met if s == t.size - 1), 0)
+            seen[kinds, answer[0]] += 1
+            seen[kinds, tuple(sort[1:])] += 1
+            seen[kinds, "last state first met in layer", first] += 1
+            if answer[0] == "round":
+                walk = answer[3] + answer[4]
+                seen[kinds, "state repeated"] += len(set(walk)) < len(walk)
+                seen[kinds, "every layered state"] += len(walk) == t.least_room
+            else:
+                seen[kinds, "a kind that none carries"] += not all(map(any, t.marks[:kinds]))
+    for kinds in (1, 2, 3, 4):
+        assert min(seen[kinds, verdict] for verdict in ("none", "round", "no")) > 90, seen
+        assert seen[kinds, "a kind that none carries"] > 50 and seen[kinds, "every layered state"] > 5, seen
+    for kinds in (2, 3, 4):
+        assert min(seen[kinds, "last state first met in layer", layer] for layer in range(kinds + 1)) > 30, seen
+        assert seen[kinds, "state repeated"] > 100, seen
+        for sort in ("never met", "not come to", "come to", "not in layer 1", "not in a later layer"):
+            assert seen[kinds, (sort,)] > 40, seen
+
+
+def test_kinds_by_layer():
+    """Long walks through the layers: a ring that has all kinds, and further moves. Ticket 4's condition often holds in one layer
+    and not in another."""
+    rng = random.Random(16)
+    seen = Counter()
+    for _ in range(1300):
+        kinds, size = rng.randint(2, 4), rng.randint(2, 5)
+        moves = list(dict.fromkeys([(s, (s + 1) % size) for s in range(size)]
+                                   + [(rng.randrange(size), rng.randrange(size)) for _ in range(size)]))
+        rng.shuffle(moves)
+        carriers = [sorted({rng.randrange(size) for _ in range(rng.choice((1, 1, 2, size)))}) for _ in range(kinds)]
+        t = Table()
+        t.load(*load_args(size, 0, of_kinds(kinds, *carriers), moves), size * kinds)
+        for _ in range(8):
+            *sort, answer = rng.choice((random_move, random_move, random_move, random_switch))(rng, t)
+            seen[(*sort, answer[0])] += 1
+    for word, sort in itertools.product(("add", "cut"), ("not come to", "come to", "not in layer 1", "not in a later layer")):
+        assert seen[word, sort, "round"] > 100, seen
+
+
+def test_kind_batches():
+    rng = random.Random(17)
+    seen = Counter()
+    for at in range(1000):
+        t = Table()
+        random_load(rng, t, 5, at % 4 + 1)
+        for _ in range(5):
+            lines = random_lines(rng, t, rng.choice((0, 1, 1, 2, 2, 3, 4, 6, rng.choice((20, 63, 64, 65)))))
+            if rng.random() < 0.35:
+                lines = spoilt(rng, t, lines)
+            random_batch(rng, t, lines, seen)
+            if rng.random() < 0.3:
+                rng.choice((random_switch, random_move))(rng, t)
+    assert all(seen["no", number] > 8 for number in (1, 4, 6, 8, 10, 11, 13, 14, 15)), seen
+    for verdict, what in itertools.product(("round", "none"), (("met", "spent"), ("met", "spent 0"), ("unmet", "spent 0"))):
+        assert seen[(verdict, *what)] > 50, seen
+
+
+def test_kind_texts():
+    """Random sessions with kinds as lines are answered as the calls are; the ways are counted over the plain moves; and
+    questions at every place change nothing. With one kind the line may be left out."""
+    rng = random.Random(18)
+    for at in range(240):
+        t, kinds = Table(), at % 4 + 1
+        first = random_load(rng, t, 6, kinds)
+        pay = carried_by(t)
+        rows = game_rows(t.size, t.start, pay, t.moves)
+        paying = sum(map(any, zip(*t.marks)))
+        said = answer_line(("game", t.size, len(t.moves), paying)) + answer_line(first)
+        tally = Tally(t.moves)
+        calls = []
+        for call, answer in some_calls(rng, t, 10):
+            calls.append(call)
+            tally.heard(call[1] if call[0] == "batch" else [call], answer)
+            tally.check(t)
+            said += answer_line(answer)
+        text = as_text("|".join(rows + [row for call in calls for row in rows_of(call)]))
+        assert answer_text(text) == said, text
+        assert kinds > 1 or answer_text(text.replace(b"kinds\t1\n", b"")) == said, text
+        desk_hears(text)
+        questions_matter_not(rng, t.size, rows, calls)
+
+
+def test_kinds_textbook():
+    """Random games of each K, up to as many states and moves as there may be."""
+    rng = random.Random(19)
+    seen = Counter()
+    for most, count in ((8, 1600), (40, 400), (512, 200)):
+        for at in range(count):
+            kinds = at % 4 + 1
+            size = 512 // kinds if most == 512 and rng.random() < 0.5 else rng.randint(1, max(1, most // kinds))
+            start, _, moves = random_game(rng, size, min(2048 // kinds, int(size * rng.choice((1, 1.5, 2, 4)))))
+            pay = random_carried(rng, size, kinds)
+            run = same_search(size, start, [[s in own for s in range(size)] for own in pay.carriers], moves)
+            seen[most, kinds, run.found] += 1
+            seen[kinds, "walk of 50"] += len(run.stem + run.round) >= 50
+            desk_hears(as_text("|".join(game_rows(size, start, pay, moves))))
+    for most, kinds in itertools.product((8, 40, 512), (1, 2, 3, 4)):
+        assert min(seen[most, kinds, True], seen[most, kinds, False]) >= 3, seen
+    assert min(seen[kinds, "walk of 50"] for kinds in (1, 2, 3, 4)) >= 3, seen
+
+
 def selftest():
     test_games()
     test_game_a_as_printed()
@@ -2275,6 +3127,17 @@ def selftest():
     test_deepest()
     test_textbook()
     test_desk_lines()
+    test_kind_lines()
+    test_kind_fields()
+    test_many_lines()
+    test_kind_loads()
+    test_kind_calls()
+    test_kind_batch_numbers()
+    test_random_kinds()
+    test_kinds_by_layer()
+    test_kind_batches()
+    test_kind_texts()
+    test_kinds_textbook()
     print("ok")
 
 

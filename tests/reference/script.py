@@ -7,8 +7,8 @@
     python3 script.py --replay < script               expected output of any script
     python3 script.py --stats SEED                    what the scripts contain
 
-KIND is games, edges, small, full or batches; known (games and edges as one script, one end) or drawn (small and full); or blocks (known,
-drawn and batches, one block each).
+KIND is games, edges, small, full, batches or kinds; known (games and edges as one script, one end) or drawn (small and full); or
+blocks (known, drawn, batches and kinds, one block each).
 """
 
 import itertools
@@ -18,8 +18,9 @@ import sys
 from collections import Counter, namedtuple
 
 import reference
-from batches import LENGTHS, NUMBERS, some_lines
-from reference import Table, flat, not_come_to, pairs, words_of
+from batches import KIND_NUMBERS, LENGTHS, NUMBERS, some_lines
+from reference import (MOST_KINDS, MOST_MOVES, MOST_STATES, MOVE_WORDS, Table, carried, flat, in_full, load_args, not_come_to,
+                       of_kinds, pairs, random_carried, random_kind, states_of)
 
 LENT = 600
 BLOCK = 65536                                   # bytes of a block, padded with zeros, but for the last
@@ -30,7 +31,7 @@ CODES = {word: op for op, word in OPS.items()}
 ALREADY = {"add": 8, "cut": 10, "mark": 13, "unmark": 14}      # the number where it is so already
 # About each border of two words, and some other states.
 PROBES = [1, 15, 16, 31, 32, 62, 63, 64, 65, 127, 128, 191, 192, 255, 256, 319, 320, 383, 384, 447, 448, 510, 511]
-LIMITS = {"games": 30000, "edges": 33400, "small": 20000, "full": 20000, "batches": 64000}   # bytes
+LIMITS = {"games": 30000, "edges": 33400, "small": 20000, "full": 20000, "batches": 64000, "kinds": 64000}   # bytes
 
 
 # ------------------------------------------------------- expected output
@@ -61,32 +62,25 @@ def replay_block(block):
 
 def read_load(table, _, take):
     """Each of these three makes the call that is read next: its answer and the room lent."""
-    size, start = take(2)
-    parts = take(32)
-    words = [sum(parts[4 * w + i] << (16 * i) for i in range(4)) for w in range(8)]
+    size, start, kinds, count = take(4)
+    assert count <= MOST_KINDS
+    parts = take(32 * count) + [0] * (32 * (MOST_KINDS - count))
+    words = [sum(parts[4 * w + i] << (16 * i) for i in range(4)) for w in range(8 * MOST_KINDS)]
     moves = take(*take(1))
     room, = take(1)
-    return table.load(size, start, words, moves, room), room
+    return table.load(size, start, kinds, words, moves, room), room
 
 
 def read_change(table, op, take):
-    *states, room = take(3)
-    word, *named = as_change(op, *states)
-    return getattr(table, word)(*named, room), room
+    *named, room = take(3)
+    return getattr(table, OPS[op])(*named, room), room
 
 
 def read_batch(table, _, take):
     room, count = take(2)
     assert count <= MOST_LINES
     lines = [take(3) for _ in range(count)]
-    return table.batch([as_change(*line) if line[0] in OPS else None for line in lines], room), room
-
-
-def as_change(op, first, second):
-    if OPS[op] in ("add", "cut"):
-        return OPS[op], first, second
-    assert second == 0                          # a mark names one state
-    return OPS[op], first
+    return table.batch([(OPS[op], *named) if op in OPS else None for op, *named in lines], room), room
 
 
 def replied(answer):
@@ -112,8 +106,8 @@ def told(answer, room):
 
 # ------------------------------------------------------- making of scripts
 
-# own: a self-move is named; place: what place_of says, or of a batch the count of its lines
-Call = namedtuple("Call", "word own answer place")
+# own: a self-move is named; place: what place_of says, or of a batch the count of its lines; kinds: K, 0 without a session
+Call = namedtuple("Call", "word own answer place kinds")
 
 
 def place_of(run, word, move):
@@ -134,34 +128,38 @@ class Script:
         self.calls = []
         self.named = []                         # the states of the last change or batch, for the next question
         self.no_change = itertools.cycle(NO_CHANGE)
+        self.without = itertools.cycle((0, 0, 0, 0, 1))        # kinds that nobody carries, behind the others of a load
 
     def _said(self, word, moves, answer, want, place=None):
         if want is not None:
             got = answer[0] if answer[0] != "no" else answer[1] if len(answer) == 2 else answer[1:]
             assert got == want, (got, want)
-        self.calls.append(Call(word, any(a == b for a, b in moves), answer, place))
+        kinds = self.table.kinds if self.table.loaded else 0
+        self.calls.append(Call(word, any(a == b for a, b in moves), answer, place, kinds))
         return answer
 
     def load(self, size, start, pay, numbers, room=None, want=None):
-        """pay: states; want: the verdict or the number that must come out."""
-        room = size if room is None else room
-        words = words_of(pay)
+        """pay: as the reference's games have it; want: the verdict or the number that must come out."""
+        *_, kinds, words, _ = load_args(size, start, pay, [])
+        room = min(size * kinds, LENT) if room is None else room
         self.named = []
-        self.numbers += [1, size, start]
-        self.numbers += [w >> (16 * i) & 0xFFFF for w in words for i in range(4)]
+        count = max((kind for kind, states in enumerate(carried(pay).carriers, 1) if states), default=0)
+        count = min(MOST_KINDS, count + next(self.without))
+        self.numbers += [1, size, start, kinds, count]
+        self.numbers += [w >> (16 * i) & 0xFFFF for w in words[:8 * count] for i in range(4)]
         self.numbers += [len(numbers), *numbers, room]
-        answer = self.table.load(size, start, words, numbers, room)
+        answer = self.table.load(size, start, kinds, words, numbers, room)
         return self._said("load", pairs(numbers), answer, want)
 
     def change(self, word, *named, room=None, want=None):
-        """named: the two states of a move, or the state of a mark, behind which stands a 0."""
+        """named: the two states of a move, or the state of a mark and its kind, which may be left out."""
         assert self.table.loaded
-        room = self.table.size if room is None else room
-        self.named = list(named)
-        self.numbers += [CODES[word], *named, *[0] * (2 - len(named)), room]
+        room = self.table.least_room if room is None else room
+        self.named = list(states_of(word, *named))
+        self.numbers += [CODES[word], *in_full(word, *named)[1:], room]
         before = self.table.run
         answer = getattr(self.table, word)(*named, room)
-        if len(named) == 1:
+        if word not in MOVE_WORDS:
             return self._said(word, [], answer, want)
         place = None if answer[0] == "no" else place_of(before, word, named)
         return self._said(word, [named], answer, want, place)
@@ -169,12 +167,12 @@ class Script:
     def batch(self, lines, room=None, want=None):
         """lines: as Table.batch takes them; want: the verdict, or the number and the position."""
         assert self.table.loaded and len(lines) <= MOST_LINES
-        room = self.table.size if room is None else room
-        self.named = [state for line in lines if line for state in line[1:]]
+        room = self.table.least_room if room is None else room
+        self.named = [state for line in lines if line for state in states_of(*line)]
         self.numbers += [6, room, len(lines)]
         for line in lines:
-            self.numbers += next(self.no_change) if line is None else (CODES[line[0]], *line[1:], *[0] * (3 - len(line)))
-        moves = [line[1:] for line in lines if line and len(line) == 3]
+            self.numbers += next(self.no_change) if line is None else (CODES[line[0]], *in_full(*line)[1:])
+        moves = [line[1:] for line in lines if line and line[0] in MOVE_WORDS]
         return self._said("batch", moves, self.table.batch(lines, room), want, len(lines))
 
     def ways(self, *states, want=None):
@@ -192,11 +190,11 @@ class Script:
     def cut(self, a, b, room=None, want=None):
         return self.change("cut", a, b, room=room, want=want)
 
-    def mark(self, state, room=None, want=None):
-        return self.change("mark", state, room=room, want=want)
+    def mark(self, state, kind=1, room=None, want=None):
+        return self.change("mark", state, kind, room=room, want=want)
 
-    def unmark(self, state, room=None, want=None):
-        return self.change("unmark", state, room=room, want=want)
+    def unmark(self, state, kind=1, room=None, want=None):
+        return self.change("unmark", state, kind, room=room, want=want)
 
     def spared(self, word, a, b):
         """An add or a cut that the run before had not come to: every look is kept, the walk stays."""
@@ -209,8 +207,8 @@ class Script:
         """What is accepted first and then."""
         return ("cut", "add") if move in self.table.moves else ("add", "cut")
 
-    def mark_words(self, state):
-        return ("unmark", "mark") if self.table.pays[state] else ("mark", "unmark")
+    def mark_words(self, state, kind=1):
+        return ("unmark", "mark") if self.table.marks[kind - 1][state] else ("mark", "unmark")
 
     def there_and_back(self, words, named, short):
         """Each of two opposite changes: refused with the short list, accepted, refused as it is so already."""
@@ -657,11 +655,12 @@ def small_room(rng, size):
 
 def some_switch(s, rng, state, room):
     """A mark or an unmark of this state; one in eight is refused with 13, 14 or 6."""
-    first, second = s.mark_words(state)
+    kind = random_kind(rng, s.table)
+    first, second = s.mark_words(state, kind)
     dice = rng.random()
     if dice < 0.04:
         state = s.table.size + rng.choice((0, 0, 1, 57, 60000))
-    return s.change(second if dice < 0.12 else first, state, room=room)
+    return s.change(second if dice < 0.12 else first, state, kind, room=room)
 
 
 def some_question(s, rng, share):
@@ -977,8 +976,153 @@ def random_batches(s, rng, limit):
             some_question(s, rng, 0.5)
 
 
-MAKERS = {"games": make_games, "edges": make_edges, "small": make_small, "full": make_full, "batches": make_batches}
-PARTS = {"known": ("games", "edges"), "drawn": ("small", "full"), "batches": ("batches",)}     # of each block
+# --------------------------------------------------------------- kinds
+
+NAMED_KINDS = 0, 1, 2, 3, 4, 5, 65535
+
+
+def make_kinds(s, rng, limit):
+    # the full tables worked by hand are asked the same as those below, which have more states; of one kind the edges have one
+    worked(s, [game for game in reference.KIND_GAMES if not game[0].startswith("kinds-full")])
+    refused_loads(s)
+    for kinds in range(1, MOST_KINDS + 1):
+        most_states(s, kinds)
+        named_kinds(s, kinds)
+        if kinds > 1:
+            most_moves(s, rng, kinds)
+    while limit - s.size_in_bytes() > 1000:     # room for a load and a batch
+        random_kinds(s, rng, limit)
+
+
+def refused_loads(s):
+    """The order of the numbers: each load has every later fault too."""
+    twice = [0, 1, 0, 1]
+    s.load(0, 5, of_kinds(5, [3]), [9], room=0, want=2)
+    s.load(2, 2, of_kinds(5, [3]), [9], room=0, want=3)
+    s.load(2, 0, of_kinds(5, [], [], [2]), [9], room=0, want=4)
+    for kinds in range(MOST_KINDS):
+        s.load(2, 0, of_kinds(kinds, *[[]] * kinds, [1]), [9], room=0, want=4)          # a kind above K
+    s.load(2, 0, of_kinds(5, [], [], [], [1]), [9], room=0, want=5)
+    for kinds in (0, 5, 255, 65535):
+        s.load(2, 0, of_kinds(kinds), twice + [9, 9], room=0, want=16)
+    for kinds in range(1, MOST_KINDS + 1):
+        own = of_kinds(kinds, [0], *[[1]] * (kinds - 1))
+        s.load(2, 0, own, twice + [9, 9], room=0, want=6)
+        s.load(2, 0, own, twice, room=0, want=8)
+        s.load(2, 0, own, [0, 1, 1, 0], room=2 * kinds - 1, want=11)
+        s.load(2, 0, own, [0, 1, 1, 0], room=2 * kinds, want="round")
+
+
+def most_states(s, kinds):
+    """As many states as there may be with so many kinds, and one more; a list lent with just as many entries as a walk may
+    need, and with one fewer."""
+    size = MOST_STATES // kinds
+    least, last = size * kinds, size - 1
+    own = of_kinds(kinds, [last], *[[0]] * (kinds - 1))
+    there_and_back = [last, 0, 0, last]
+    s.load(size + 1, 0, of_kinds(kinds), [], room=LENT, want=2 if kinds == 1 else 16)
+    s.load(size + 1, size, own, there_and_back + there_and_back + [0, 600], room=0, want=2 if kinds == 1 else 16)
+    s.load(size, size, own, [], room=LENT, want=3)
+    for room, want in ((least - 1, 11), (LENT, "round"), (least, "round")):
+        s.load(size, last, own, there_and_back, room=room, want=want)
+    for room, want in ((0, 11), (least - 1, 11), (least, "round"), (LENT, "round")):
+        s.batch([], room=room, want=(11, 0) if want == 11 else want)
+        s.batch([("mark", last, kinds), ("unmark", last, kinds)] if kinds > 1 else [("mark", 0), ("unmark", 0)], room=room,
+                want=(11, 0) if want == 11 else want)
+    s.there_and_back(s.mark_words(0, kinds), (0, kinds), least - 1)
+    s.there_and_back(s.move_words((0, last)), (0, last), least - 1)
+    s.mark(size, kinds, room=0, want=6)
+    s.ways(last, want=(1, 1))
+    s.ways(size, least, want=6)
+
+
+def most_moves(s, rng, kinds):
+    """The same with as many moves as there may be. Loads with one more are among the games worked by hand."""
+    size, count = MOST_STATES // kinds, MOST_MOVES // kinds
+    least = size * kinds
+    ring = [(t, (t + 1) % size) for t in range(size)]
+    drawn = distinct_moves(rng, size, count - size + 4, ring)
+    moves, new = ring + drawn[4:], drawn[:4]
+    pay = of_kinds(kinds, *[[0, rng.randrange(size)] for _ in range(kinds)])
+    s.load(size, 0, pay, flat(moves), want="round")
+    s.ways(0, size - 1)
+    s.add(*moves[0], room=0, want=8)
+    s.add(*new[0], room=0, want=9)
+    s.add(*new[0], want=9)
+    s.cut(*new[0], room=0, want=10)
+    s.cut(*moves[-1], room=least - 1, want=11)
+    for old in (moves[-1], moves[size // 2], moves[0]):         # the place of a cut move is free for one
+        s.cut(*old)
+        s.add(*new[1], room=least - 1, want=11)
+        s.add(*new[1])
+        s.add(*new[1], want=8)
+        s.add(*old, want=9)
+        s.batch([("cut", *new[1]), ("add", *old), ("add", *new[2])], want=(9, 3))
+        s.batch([("cut", *new[1]), ("add", *old)])
+    for quiet, lines in itertools.product((True, False), (64, 5)):
+        s.batch(some_lines(rng, s.table, lines, quiet))
+    s.batch(some_lines(rng, s.table, 40, False, (9, 40)))
+    some_switch(s, rng, 0, least)
+
+
+def named_kinds(s, kinds):
+    """Marks of each kind that there is, of others above K, and of such as there never are; alone and in a batch."""
+    s.load(3, 0, of_kinds(kinds, [0], *[[1]] * (kinds - 1)), [0, 1, 1, 2, 2, 0], want="round")
+    for kind, state, word in itertools.product(NAMED_KINDS, (0, 1, 3, 65535), ("mark", "unmark")):
+        wrong = 1 if not 1 <= kind <= 4 else 4 if kind > kinds else 6 if state > 2 else None
+        if wrong:
+            s.change(word, state, kind, room=0, want=wrong)
+            s.batch([("add", 0, 0), (word, state, kind)], want=(wrong, 2))
+        elif word == s.mark_words(state, kind)[0]:
+            s.there_and_back(s.mark_words(state, kind), (state, kind), 3 * kinds - 1)
+            s.batch([(other, state, kind) for other in s.mark_words(state, kind)])
+        else:
+            s.change(word, state, kind, room=0, want=ALREADY[word])
+            s.batch([(word, state, kind)], want=(ALREADY[word], 1))
+    back = [("mark", 2, kinds), ("unmark", 2, kinds)] * 32
+    s.batch(back + [("mark", 9, 4)], want=(15, 65))
+    s.batch(back + [("mark", 9, 5)], want=(1, 65))
+
+
+def random_kinds(s, rng, limit):
+    """A session of up to 8 states, seldom more, and 1 to 4 kinds; often with a ring. Changes alone, batches and questions."""
+    kinds = rng.randint(1, MOST_KINDS)
+    size = rng.choice((1, 2, 2, 3, 3, 4, 4, 5, 6, 7, 8, rng.randint(9, 40 // kinds + 9)))
+    every = [(a, b) for a in range(size) for b in range(size)]
+    ring = [(t, (t + 1) % size) for t in range(size)] if rng.random() < 0.6 else []
+    wanted = min(len(every), int(size * rng.uniform(0.6, 2.2)))
+    moves = list(dict.fromkeys(ring + rng.sample(every, wanted)))
+    rng.shuffle(moves)
+    s.load(size, rng.randrange(size), random_carried(rng, size, kinds), flat(moves))
+    for _ in range(rng.randint(10, 24)):
+        if s.size_in_bytes() + 450 > limit:     # the longest batch, two changes and questions
+            return
+        some_question(s, rng, 0.3)
+        room = small_room(rng, s.table.least_room)
+        dice = rng.random()
+        if dice < 0.2:
+            some_batch(s, rng, room)
+        elif dice < 0.26:                       # any kind, of any state
+            s.change(rng.choice(("mark", "unmark")), rng.randint(0, size), rng.choice(NAMED_KINDS), room=room)
+        elif dice < 0.55:
+            some_switch(s, rng, rng.choice(list(s.table.run.met_after)) if rng.random() < 0.6 else rng.randrange(size), room)
+        elif dice > 0.8 and some_spared(s, rng, room, lambda _: rng.randrange(size)):
+            pass
+        else:
+            move = rng.choice(s.table.moves if s.table.moves and rng.random() < 0.5 else every)
+            s.change(s.move_words(move)[rng.random() < 0.08], *move, room=room)
+
+
+def some_batch(s, rng, room):
+    """A batch, mostly a short one; a third are refused."""
+    count = rng.choice((0, 1, 1, 2, 2, 3, 4, 6, rng.choice((17, 63, 64, 65))))
+    fault = (rng.choice(KIND_NUMBERS), rng.choice((1, max(1, count // 2), max(1, count)))) if rng.random() < 0.35 else None
+    s.batch(some_lines(rng, s.table, max(count, 1 if fault else 0), rng.random() < 0.45, fault), room)
+
+
+MAKERS = {"games": make_games, "edges": make_edges, "small": make_small, "full": make_full, "batches": make_batches,
+          "kinds": make_kinds}
+PARTS = {"known": ("games", "edges"), "drawn": ("small", "full"), "batches": ("batches",), "kinds": ("kinds",)}   # of each block
 assert all(sum(LIMITS[name] for name in names) <= 64000 for names in PARTS.values())
 
 
@@ -1062,6 +1206,8 @@ def stats(seed):
             places = Counter(call.place for call in s.calls if call.word == word)
             print("    %s accepted: not come to, of a state on the stem %d, on the round %d, never met %d; come to %d" % (
                 word, *[places[place] for place in ("stem", "round", "never met", "come to")]))
+        for kinds in range(1, MOST_KINDS + 1):
+            counts("calls with K = %d" % kinds, [call.answer for call in s.calls if call.kinds == kinds and call.word != "ways"])
 
 
 def main(args):
