@@ -12,7 +12,7 @@ import sys
 sys.path.insert(0, str(pathlib.Path(__file__).resolve().parent.parent / "tests"))
 sys.dont_write_bytecode = True
 from common import as_lines, lines_of  # noqa: E402
-from reference import plain_search  # noqa: E402
+from reference import of_kinds, plain_search  # noqa: E402
 from sessions import Text  # noqa: E402
 
 KINDS = {
@@ -34,9 +34,13 @@ class Game:
         self.place = {s: i for i, s in enumerate(self.order)}
         pays = rng.sample(self.order[1:], max(2, size // 8)) + [self.ring[0]]
         moves = self.first_moves(list(zip(self.ring, self.ring[1:] + self.ring[:1])), 4 * size - 32)     # room for moves that come
-        self.text = Text(size, self.order[0], pays, moves)
+        self.text = Text(size, self.order[0], self.carried(pays), moves)
         self.run = plain_search(size, self.order[0], [s in pays for s in range(size)], moves)
         self.closed = []                        # the moves that may have closed a round; few stand at a time
+
+    def carried(self, pays):
+        """What carries pay: of one kind, these states."""
+        return pays
 
     def first_moves(self, ring, count):
         return self.shuffled(self.leading_on(self.order, ring, count))
@@ -116,6 +120,18 @@ class Stem(Game):
             return text.add(move)
 
 
+class Kinded(Game):
+    """As many layers as there are kinds; each further kind is carried by an eighth of the states, drawn by itself."""
+
+    def __init__(self, rng, size, kinds):
+        self.kinds = kinds
+        super().__init__(rng, size)
+
+    def carried(self, pays):
+        more = (self.rng.sample(self.order[1:], max(2, self.size // 8)) for _ in range(1, self.kinds))
+        return of_kinds(self.kinds, pays, *more)
+
+
 def in_batches(lines):
     """The same changes in batches."""
     rows = lines_of(lines)
@@ -128,7 +144,15 @@ def text(seed, size, kind, count):
     if kind == "batch":
         head, lines = text(seed, size, "random", count - count % BATCH)
         return head, in_batches(lines)
-    game = (Stem if kind == "stem" else Game)(random.Random("%s %d %s" % (seed, size, kind)), size)
+    return played((Stem if kind == "stem" else Game)(random.Random("%s %d %s" % (seed, size, kind)), size), kind, count)
+
+
+def of_layers(seed, size, kinds, count):
+    """Head and changes of the kind `mark`, of a game with several kinds of pay: the first kind of the start state is switched."""
+    return played(Kinded(random.Random("%s %d %d" % (seed, size, kinds)), size, kinds), "mark", count)
+
+
+def played(game, kind, count):
     head = len(game.text.rows)
     while len(game.text.rows) < head + count:
         game.change(kind)
