@@ -159,14 +159,14 @@ pub outside-before-absent : (t : Table) (e : Edge) (room : ℕ) → outside (t .
 unfolding changeTrial conditions misnamed
 outside-before-absent t e room h = held-later _ _ refl ∙ held-first _ _ h
 
+-- an odd list comes before a bad count of kinds: 5, not 16
+pub count-before-kinds : (l : Load) (room : ℕ) → badSize (l .size) ≡ false → badStart (l .size) (l .start) ≡ false → badMarks (l .size) (l .kinds) (l .marks) ≡ false → badCount (l .numbers) ≡ true
+    → loadTrial l room ≡ refused 5
+unfolding loadTrial
+count-before-kinds l room a b c h = held-later _ _ a ∙ held-later _ _ b ∙ held-later _ _ c ∙ held-first _ _ h
+
 -- a loaded move that names a state outside comes before every repeated one, wherever they stand in the list
 pub outside-before-repeated : (l : Load) (room : ℕ) → badSize (l .size) ≡ false → badStart (l .size) (l .start) ≡ false → badMarks (l .size) (l .kinds) (l .marks) ≡ false → badCount (l .numbers) ≡ false
     → badKinds (l .kinds) (l .size) (length (pairs (l .numbers))) ≡ false → any (outside (l .size)) (pairs (l .numbers)) ≡ true → loadTrial l room ≡ refused 6
 unfolding loadTrial
 outside-before-repeated l room a b c d k h = held-later _ _ a ∙ held-later _ _ b ∙ held-later _ _ c ∙ held-later _ _ d ∙ held-later _ _ k ∙ held-first _ _ h
-
--- and an odd list before a bad count of kinds: 5, not 16
-pub count-before-kinds : (l : Load) (room : ℕ) → badSize (l .size) ≡ false → badStart (l .size) (l .start) ≡ false → badMarks (l .size) (l .kinds) (l .marks) ≡ false → badCount (l .numbers) ≡ true
-    → loadTrial l room ≡ refused 5
-unfolding loadTrial
-count-before-kinds l room a b c h = held-later _ _ a ∙ held-later _ _ b ∙ held-later _ _ c ∙ held-first _ _ h

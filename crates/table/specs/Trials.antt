@@ -60,7 +60,7 @@ earlyTrial size start kinds marks numbers = firstHeld (
     ∷ (6, any (outside size) (pairs numbers))
     ∷ [])
 
--- a mark of a kind in use, from 0 on, for a number not below the count of states, or of a kind that is not in use
+-- 4, of one mark, as `badMarks` asks it of each: is it set for a number not below the count of states, or of a kind, from 0 on, that is not in use?
 abbrev pub badMark : ℕ → ℕ → List (List ℕ) → ℕ → ℕ → Bool
 badMark n k marks kind s = (leb n s || leb k kind) && carriedBy marks kind s
 
