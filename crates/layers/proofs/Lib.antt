@@ -3,4 +3,5 @@ pub mod Listing
 pub mod Laying
 pub mod Marking
 pub mod Packing
+pub mod Clearing
 pub mod Rows

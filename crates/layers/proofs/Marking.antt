@@ -23,7 +23,7 @@ unfolding withMark
 marked-length ws x = length-set ws (x / 64) _
 
 -- and so does a mark that is cleared
-unmarked-length : (ws : List ℕ) (x : ℕ) → length (withoutMark ws x) ≡ length ws
+pub unmarked-length : (ws : List ℕ) (x : ℕ) → length (withoutMark ws x) ≡ length ws
 unfolding withoutMark
 unmarked-length ws x = length-set ws (x / 64) _
 

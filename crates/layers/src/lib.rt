@@ -4,13 +4,13 @@ use look::STATES;
 use look::times;
 use rows::wide;
 ghost use mathlib.Core.Path.{_≡_};
-ghost use Prim.Native.Nat.{ℕ, suc, _+_, _*_, _%_, _≤_, _<_};
+ghost use Prim.Native.Nat.{ℕ, suc, _+_, _*_, _%_, _≤_, _<_, min};
 ghost use lib.ListN.{length, replicate};
 ghost use Rattle.plain.specs.Table.{accepts, byKind};
 ghost use Rattle.plain.specs.Layers.{copy, stateOf, landing};
 ghost use Rattle.look.specs.Scan.{layoutOf};
 ghost use Rattle.layers.specs.Layout.{layered};
-ghost use Rattle.layers.specs.Packed.{Packed};
+ghost use Rattle.layers.specs.Packed.{Packed, ClearedFrom};
 
 // The copy of a state in a layer, which counts from 0.
 pub fn copy_of(size: u16, layer: u16, state: u16) -> usize
@@ -57,6 +57,28 @@ pub fn pack(marks: &[u64; 32], size: u16, kinds: u16) -> [u64; 8]
         }
     }
     words
+}
+
+// Clears the bits from one on.
+fn clear_from(words: &mut [u64; 8], first: usize)
+    ensures { λ r. ⌜ ClearedFrom first (now (words .entry)) (now (words .exit)) ⌝ }
+{
+    let mut v = first;
+    while v < STATES {
+        marks::clear_mark(words, v);
+        v += 1;
+    }
+}
+
+// The packed marks where another count of kinds is in use: those of the kinds that stay in use, and no others.
+pub fn keep_kinds(words: &mut [u64; 8], size: u16, kinds: u16, new: u16)
+    ensures { λ r. ⌜ ClearedFrom (min kinds new * size) (now (words .entry)) (now (words .exit)) ⌝ }
+{
+    let mut staying = kinds;
+    if new < kinds {
+        staying = new;
+    }
+    clear_from(words, times(staying, size));
 }
 
 // Where the moves of v land: what is added to their targets.

@@ -7,12 +7,12 @@ use Rattle.plain.specs.Search.{onPath, finishes, step, steps, finished, 
 use Rattle.plain.specs.Layers.{copy, layerOf, stateOf, copies, copiesOf, next}
 use Rattle.plain.specs.Table.{bit, accepts, withBit, withMark, withoutBit, withoutMark, countBelow, carriedBy, acceptingCount, row, printed, printedVerdict, budget, final, firstMeeting}
 use Rattle.plain.specs.Refusals.{firstHeld, pairs, sameEdge, present, badSize, badStart, badMarks, badCount, outside, repeated, beyond, badKinds, full, shortRoom, loadTrial}
-use Rattle.plain.specs.Machine.{named, tableOf, inKind, without, apply, conditions, misnamed, changeTrial, lineConditions, changesIn, applyAll, namedAll, linesTrial, batchTrial, applied, namedBy, updateTrial, positionIn, unexplored, passedOver, keepsAll, keptPart, kept, loadAnswer, trialOf, updateAnswer, answerTo, tableAfter, answers, answerLine, answerLines, Line, gameLine, noneLine, transcript}
+use Rattle.plain.specs.Machine.{named, tableOf, inKind, without, apply, conditions, misnamed, changeTrial, lineConditions, changesIn, applyAll, namedAll, linesTrial, batchTrial, applied, namedBy, updateTrial, positionIn, unexplored, passedOver, keepsAll, keptPart, kept, upToKind, toKinds, kindsTrial, loadAnswer, trialOf, callAnswer, answerTo, tableAfter, answers, answerLine, answerLines, Line, gameLine, noneLine, transcript}
 use Rattle.plain.specs.Games.{Known, wordOf, marksOf, knownIn, knownBy, known, lent, gameH, returning, switching, games}
 
 -- the lines printed for a game
 abbrev linesOf : Known → List Line
-linesOf k = transcript (k .load) 512 (map lent (k .updates))
+linesOf k = transcript (k .load) 512 (map lent (k .commands))
 
 -- of each game they are the known ones
 abbrev AsKnown : List Known → Type 0
@@ -25,12 +25,12 @@ two-payers = known 4 (0 ∷ 1 ∷ []) (0 ∷ 1 ∷ 1 ∷ 2 ∷ []) [] (gameLine 
 
 -- that one, and the known ones
 as-known : AsKnown (two-payers ∷ games)
-unfolding any all filter anyBelow elem before from onPath finishes step steps finished until statesOf stemOf cycleOf verdict bit accepts withBit withMark withoutBit withoutMark countBelow copy layerOf stateOf copies copiesOf next carriedBy acceptingCount row printed printedVerdict budget final firstMeeting firstHeld pairs sameEdge present badSize badStart badMarks badCount outside repeated beyond badKinds full shortRoom loadTrial named tableOf inKind without apply conditions misnamed changeTrial lineConditions changesIn applyAll namedAll linesTrial batchTrial applied namedBy updateTrial positionIn unexplored passedOver keepsAll keptPart kept loadAnswer trialOf updateAnswer answerTo tableAfter answers answerLine answerLines transcript wordOf marksOf knownIn knownBy known lent gameH returning switching games two-payers
-as-known = (refl, (refl, (refl, (refl, (refl, (refl, (refl, (refl, (refl, (refl, (refl, (refl, (refl, (refl, (refl, (refl, (refl, (refl, (refl, (refl, (refl, (refl, (refl, (refl, (refl, tt)))))))))))))))))))))))))
+unfolding any all filter anyBelow elem before from onPath finishes step steps finished until statesOf stemOf cycleOf verdict bit accepts withBit withMark withoutBit withoutMark countBelow copy layerOf stateOf copies copiesOf next carriedBy acceptingCount row printed printedVerdict budget final firstMeeting firstHeld pairs sameEdge present badSize badStart badMarks badCount outside repeated beyond badKinds full shortRoom loadTrial named tableOf inKind without apply conditions misnamed changeTrial lineConditions changesIn applyAll namedAll linesTrial batchTrial applied namedBy updateTrial positionIn unexplored passedOver keepsAll keptPart kept upToKind toKinds kindsTrial loadAnswer trialOf callAnswer answerTo tableAfter answers answerLine answerLines transcript wordOf marksOf knownIn knownBy known lent gameH returning switching games two-payers
+as-known = (refl, (refl, (refl, (refl, (refl, (refl, (refl, (refl, (refl, (refl, (refl, (refl, (refl, (refl, (refl, (refl, (refl, (refl, (refl, (refl, (refl, (refl, (refl, (refl, (refl, (refl, tt))))))))))))))))))))))))))
 
 all-of : (ks : List Known) → AsKnown ks → map linesOf ks ≡ map (λ (k : Known). k .lines) ks
 all-of [] h = refl
 all-of (k ∷ ks) h = ap₂ (λ (ls : List Line) (lss : List (List Line)). ls ∷ lss) (h .0) (all-of ks (h .1))
 
-pub all-games : map (λ (k : Known). transcript (k .load) 512 (map lent (k .updates))) games ≡ map (λ (k : Known). k .lines) games
+pub all-games : map (λ (k : Known). transcript (k .load) 512 (map lent (k .commands))) games ≡ map (λ (k : Known). k .lines) games
 all-games = all-of games (as-known .1)

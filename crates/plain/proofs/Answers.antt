@@ -8,12 +8,12 @@ use Rattle.plain.specs.Lists.{elem}
 use Rattle.plain.specs.Search.{Verdict, none, lasso, unfinished, verdict, count}
 use Rattle.plain.specs.Table.{Table, printedVerdict, final}
 use Rattle.plain.specs.Refusals.{Trial, accepted, refused, firstHeld, beyond, Load, loadTrial}
-use Rattle.plain.specs.Machine.{answer, Update, applied, tableOf, loadAnswer, updateAnswer, Call, trialOf, answerTo, tableAfter, Line, gameLine, answerLine}
+use Rattle.plain.specs.Machine.{answer, Command, commanded, tableOf, loadAnswer, callAnswer, Call, trialOf, answerTo, tableAfter, Line, gameLine, answerLine}
 use Rattle.plain.specs.Questions.{Question, ways, questionTrial, questionReply, replyTo, replyLine}
-use Rattle.plain.specs.Claims.{Arises, loaded, reportOf, ReportRight, KeptRight, LineTrue, LineCounted}
+use Rattle.plain.specs.Claims.{Arises, loaded, reportOf, ReportRight, CountsRight, LineTrue, LineCounted}
 use Rattle.plain.proofs.Trials.{never-handed}
-use Rattle.plain.proofs.Batches.{update-arises, update-never-7}
-use Rattle.plain.proofs.Demands.{report-right, demand-3-kept}
+use Rattle.plain.proofs.Demands.{report-right}
+use Rattle.plain.proofs.Calls.{command-arises, command-counts, command-never-7}
 
 -- the first line of some
 unfoldable pub first-line : List Line → Line
@@ -31,11 +31,11 @@ verdict-told t none spent kept l r e = subst (λ (x : Line). LineTrue x t) (ap f
 verdict-told t (lasso stem cycle) spent kept l r e = subst (λ (x : Line). LineTrue x t) (ap first-line e) r
 verdict-told t unfinished spent kept l r e = absurd (no-line e)
 
-counts-told : (u : Update) (t : Table) (w : Verdict) (spent kept : ℕ) (l : Line) → KeptRight u t spent kept → answerLine (answer w spent kept) ≡ l ∷ [] → LineCounted l u t
+counts-told : (c : Command) (t : Table) (w : Verdict) (spent kept : ℕ) (l : Line) → CountsRight c t spent kept → answerLine (answer w spent kept) ≡ l ∷ [] → LineCounted l c t
 unfolding answerLine first-line
-counts-told u t none spent kept l r e = subst (λ (x : Line). LineCounted x u t) (ap first-line e) r
-counts-told u t (lasso stem cycle) spent kept l r e = subst (λ (x : Line). LineCounted x u t) (ap first-line e) r
-counts-told u t unfinished spent kept l r e = absurd (no-line e)
+counts-told c t none spent kept l r e = subst (λ (x : Line). LineCounted x c t) (ap first-line e) r
+counts-told c t (lasso stem cycle) spent kept l r e = subst (λ (x : Line). LineCounted x c t) (ap first-line e) r
+counts-told c t unfinished spent kept l r e = absurd (no-line e)
 
 -- of a load that is accepted
 pub load-told : (load : Load) (room : ℕ) (l : Line) → loadTrial load room ≡ accepted → answerLine (loadAnswer accepted (tableOf load)) ≡ l ∷ [] → LineTrue l (tableOf load)
@@ -47,26 +47,26 @@ load-told load room l a e =
 -- of every call on a table that a session can hold
 pub record Told (c : Call) (t : Table) (l : Line) : Type 0 where
   pub truth : LineTrue l (tableAfter c t)
-  pub counts : LineCounted l (c .update) t
+  pub counts : LineCounted l (c .command) t
 
 pub call-told : (c : Call) (t : Table) (l : Line) → Arises t → answerLine (answerTo c t) ≡ l ∷ [] → Told c t l
-unfolding answerTo updateAnswer answerLine tableAfter first-line trialOf
+unfolding answerTo callAnswer answerLine tableAfter first-line trialOf
 call-told c t l a e = by-trial (trialOf c t) refl e
   where
     never-7 : (n : ℕ) → trialOf c t ≡ refused n → n ≢ 7
-    never-7 n k z = update-never-7 (c .update) t (c .room) (k ∙ ap refused z)
+    never-7 n k z = command-never-7 (c .command) t (c .room) (k ∙ ap refused z)
 
-    by-trial : (x : Trial) → trialOf c t ≡ x → answerLine (updateAnswer x c t) ≡ l ∷ [] → Told c t l
+    by-trial : (x : Trial) → trialOf c t ≡ x → answerLine (callAnswer x c t) ≡ l ∷ [] → Told c t l
     by-trial accepted k f =
-        let t′ = applied (c .update) t in
-        let b = update-arises (c .update) t (c .room) a k in
+        let t′ = commanded (c .command) t in
+        let b = command-arises (c .command) t (c .room) a k in
         record {
           truth = rw k (verdict-told t′ (printedVerdict t′ (verdict (final t′))) _ _ l (report-right t′ b) f);
-          counts = counts-told (c .update) t (printedVerdict t′ (verdict (final t′))) _ _ l (demand-3-kept c t a k) f;
+          counts = counts-told (c .command) t (printedVerdict t′ (verdict (final t′))) _ _ l (command-counts (c .command) t (c .room) a k) f;
         }
     by-trial (refused n) k f = record {
       truth = subst (λ (x : Line). LineTrue x (tableAfter c t)) (ap first-line f) (never-7 n k);
-      counts = subst (λ (x : Line). LineCounted x (c .update) t) (ap first-line f) tt;
+      counts = subst (λ (x : Line). LineCounted x (c .command) t) (ap first-line f) tt;
     }
 
 -- of every question

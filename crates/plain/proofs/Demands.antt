@@ -17,7 +17,7 @@ use Rattle.plain.specs.Layers.{stateOf}
 use Rattle.plain.specs.Table.{Table, one, row, gameOf, searched, copiesIn, printed, printedVerdict, budget, final, firstMeeting}
 use Rattle.plain.specs.Refusals.{badStart, outside, accepted}
 use Rattle.plain.specs.Unexplored.{Shared, bare}
-use Rattle.plain.specs.Machine.{Update, changesOf, applied, namedBy, keepsAll, keptPart, kept, Call, trialOf}
+use Rattle.plain.specs.Machine.{Update, changesOf, applied, namedBy, updateTrial, keepsAll, keptPart, kept}
 use Rattle.plain.specs.Notes.{Notes, notes, Faithful}
 use Rattle.plain.specs.Claims.{Arises, times, VerdictRight, clear, round, reportOf, ReportRight, KeptRight}
 use Rattle.plain.proofs.Tests.{contra, either, not-in, in-head, one-le, none-cons, any-in}
@@ -353,10 +353,7 @@ module _ (u : Update) (t : Table) (v : Valid t) (v′ : Valid (applied u t)) (w 
         adds-up = omega (arith, ap length (p .1), length-append (p .0) (probesOf (keptPart u t)));
       }
 
--- what demand 3 says of "kept", for every accepted call on a table that a session can hold
-pub demand-3-kept : (c : Call) (t : Table) → Arises t → trialOf c t ≡ accepted
-    → KeptRight (c .update) t (count (final (applied (c .update) t)) - kept (c .update) t) (kept (c .update) t)
-unfolding trialOf
-demand-3-kept c t a e =
-    kept-right (c .update) t (valid t a) (update-valid (c .update) t (c .room) (valid t a) e)
-    (all-within (c .room) (changesOf (c .update)) t (update-made (c .update) t (c .room) e .each-accepted))
+-- what demand 3 says of "kept", for all accepted changes on a table that a session can hold
+pub demand-3-kept : (u : Update) (t : Table) (room : ℕ) → Arises t → updateTrial u t room ≡ accepted → KeptRight u t (count (final (applied u t)) - kept u t) (kept u t)
+demand-3-kept u t room a e =
+    kept-right u t (valid t a) (update-valid u t room (valid t a) e) (all-within room (changesOf u) t (update-made u t room e .each-accepted))

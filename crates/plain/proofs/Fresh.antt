@@ -1,6 +1,6 @@
--- A fresh load of a table as it stands is accepted, sets that table, and answers as the call that led to it. Assumes nothing.
-use mathlib.Core.Path.{_≡_, refl, sym, ap, _∙_}
-use mathlib.Core.Bool.{false}
+-- A fresh load of a table as it stands is accepted, and sets that table. Assumes nothing.
+use mathlib.Core.Path.{_≡_, refl, sym, ap, subst, _∙_}
+use mathlib.Core.Bool.{Bool, true, false}
 use mathlib.Core.List.{List, [], _∷_}
 use Prim.Native.Nat.{ℕ, _*_, _≤_}
 use native.Mathlib.Omega.{arith}
@@ -9,13 +9,11 @@ use borrow.Author.Tests.{le-ltb}
 use Rattle.plain.specs.Lists.{any}
 use Rattle.plain.specs.Search.{Edge}
 use Rattle.plain.specs.Table.{Table}
-use Rattle.plain.specs.Refusals.{accepted, pairs, flat, badCount, outside, repeated, shortRoom, loadTrial}
-use Rattle.plain.specs.Machine.{tableOf, loadAnswer, Call, trialOf, tableAfter}
-use Rattle.plain.specs.Claims.{Arises, loadFrom, AsFresh}
-use Rattle.plain.proofs.Trials.{held-later, accepted-when}
-use Rattle.plain.proofs.Tables.{Valid, valid, valid-fits, edges-most, fit-kinds, count-fine}
-use Rattle.plain.proofs.Batches.{update-size, update-kinds, update-room}
-use Rattle.plain.proofs.Calls.{table-accepted, after-arises, after-reports}
+use Rattle.plain.specs.Refusals.{accepted, firstHeld, pairs, flat, badSize, badStart, badMarks, badCount, badKinds, outside, repeated, shortRoom, roomCondition, loadTrial}
+use Rattle.plain.specs.Machine.{tableOf, loadAnswer}
+use Rattle.plain.specs.Claims.{Arises, loaded, loadFrom}
+use Rattle.plain.proofs.Trials.{held-first, held-later, accepted-when}
+use Rattle.plain.proofs.Tables.{Valid, valid-fits, edges-most, fit-kinds, count-fine}
 
 -- ---- the numbers of moves
 
@@ -38,23 +36,41 @@ pub fresh-table : (t : Table) → tableOf (loadFrom t) ≡ t
 unfolding tableOf loadFrom
 fresh-table t = λ i. record { size = t .size; start = t .start; kinds = t .kinds; marks = t .marks; edges = pairs-flat (t .edges) i }
 
+-- a table but for its count of kinds: none of the conditions for a refusal holds that do not ask for it
+pub record Loadable (t : Table) : Type 0 where
+  pub size-ok : badSize (t .size) ≡ false
+  pub start-ok : badStart (t .size) (t .start) ≡ false
+  pub marks-ok : badMarks (t .size) (t .kinds) (t .marks) ≡ false
+  pub few : length (t .edges) ≤ 2048
+  pub inside : any (outside (t .size)) (t .edges) ≡ false
+  pub once : repeated (t .edges) ≡ false
+
+pub valid-loadable : (t : Table) → Valid t → Loadable t
+valid-loadable t v = record { size-ok = v .size-ok; start-ok = v .start-ok; marks-ok = v .marks-ok; few = edges-most t v; inside = v .inside; once = v .once }
+
+-- only its count of kinds and the room can be refused
+pub fresh-trial : (t : Table) → Loadable t → (room : ℕ)
+    → loadTrial (loadFrom t) room ≡ firstHeld ((16, badKinds (t .kinds) (t .size) (length (t .edges))) ∷ roomCondition (t .size) (t .kinds) room)
+unfolding loadTrial loadFrom
+fresh-trial t v room =
+    held-later _ _ (v .size-ok) ∙ held-later _ _ (v .start-ok) ∙ held-later _ _ (v .marks-ok) ∙ held-later _ _ (flat-fine (t .edges) (v .few))
+    ∙ ap (λ (es : List Edge). firstHeld ((16, badKinds (t .kinds) (t .size) (length es)) ∷ (6, any (outside (t .size)) es) ∷ (8, repeated es) ∷ roomCondition (t .size) (t .kinds) room)) (pairs-flat (t .edges))
+    ∙ by-kinds (badKinds (t .kinds) (t .size) (length (t .edges)))
+  where
+    by-kinds : (b : Bool) → firstHeld ((16, b) ∷ (6, any (outside (t .size)) (t .edges)) ∷ (8, repeated (t .edges)) ∷ roomCondition (t .size) (t .kinds) room)
+        ≡ firstHeld ((16, b) ∷ roomCondition (t .size) (t .kinds) room)
+    by-kinds true = held-first _ _ refl ∙ sym (held-first _ _ refl)
+    by-kinds false = held-later _ _ refl ∙ held-later _ _ (v .inside) ∙ held-later _ _ (v .once) ∙ sym (held-later _ _ refl)
+
 pub fresh-accepted : (t : Table) → Valid t → (room : ℕ) → t .size * t .kinds ≤ room → loadTrial (loadFrom t) room ≡ accepted
-unfolding any loadTrial loadFrom shortRoom
+unfolding any shortRoom
 fresh-accepted t v room h =
-    held-later _ _ (v .size-ok) ∙ held-later _ _ (v .start-ok) ∙ held-later _ _ (v .marks-ok) ∙ held-later _ _ (flat-fine (t .edges) (edges-most t v))
-    ∙ held-later _ _ (rw (pairs-flat (t .edges)) (fit-kinds (t .kinds) (t .size) (length (t .edges)) (valid-fits t v)))
-    ∙ held-later _ _ (ap (any (outside (t .size))) (pairs-flat (t .edges)) ∙ v .inside) ∙ held-later _ _ (ap repeated (pairs-flat (t .edges)) ∙ v .once)
-    ∙ held-later _ _ (le-ltb _ _ h) ∙ accepted-when [] refl
+    fresh-trial t (valid-loadable t v) room ∙ held-later _ _ (fit-kinds (t .kinds) (t .size) (length (t .edges)) (valid-fits t v)) ∙ held-later _ _ (le-ltb _ _ h) ∙ accepted-when [] refl
+
+-- so every table that keeps the limits is one that a session can hold
+pub fresh-arises : (t : Table) → Valid t → Arises t
+fresh-arises t v = subst Arises (fresh-table t) (loaded (loadFrom t) (t .size * t .kinds) (fresh-accepted t v (t .size * t .kinds) (omega arith)))
 
 -- it answers with the verdict of the search on that table, and all its looks
-fresh-answer : (t : Table) → Valid t → (room : ℕ) → t .size * t .kinds ≤ room → loadAnswer (loadTrial (loadFrom t) room) (tableOf (loadFrom t)) ≡ loadAnswer accepted t
+pub fresh-answer : (t : Table) → Valid t → (room : ℕ) → t .size * t .kinds ≤ room → loadAnswer (loadTrial (loadFrom t) room) (tableOf (loadFrom t)) ≡ loadAnswer accepted t
 fresh-answer t v room h = (λ i. loadAnswer (fresh-accepted t v room h i) (fresh-table t i))
-
--- ---- a call is answered as a fresh load of the table that it leaves
-
-pub as-fresh : (c : Call) (t : Table) → Arises t → AsFresh c t
-unfolding trialOf
-as-fresh c t a k =
-    let t′ = tableAfter c t in
-    let room : t′ .size * t′ .kinds ≤ c .room = rw (table-accepted c t k, update-size (c .update) t, update-kinds (c .update) t) (update-room (c .update) t (c .room) k) in
-    fresh-answer t′ (valid t′ (after-arises c t a k)) (c .room) room ∙ sym (after-reports c t a k)

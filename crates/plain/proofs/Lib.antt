@@ -27,6 +27,8 @@ pub mod Explored
 pub mod Rows
 pub mod Trials
 pub mod Tables
+pub mod Fresh
+pub mod NewKinds
 pub mod Unexplored
 pub mod Batches
 pub mod Demands
@@ -38,4 +40,3 @@ pub mod Views
 pub mod Orders
 pub mod Answers
 pub mod Loops
-pub mod Fresh

@@ -21,7 +21,7 @@ use Rattle.plain.proofs.Tables.{Valid, Within, change-within, valid, va
 use Rattle.plain.proofs.Resume.{holds-notes}
 use Rattle.plain.proofs.Batches.{accepted-not, line-accepted, line-refused, line-few, batch-tried, batch-short, batch-few, batch-made}
 use Rattle.plain.proofs.Demands.{ended-within, kept-all, kept-meeting, update-same}
-use Rattle.plain.proofs.Calls.{table-accepted, answer-accepted, answer-refused, table-refused, single-trial, single-table, behind-calls, after-reports, last-told, each-call, asked-each}
+use Rattle.plain.proofs.Calls.{table-accepted, answer-accepted, answer-refused, table-refused, single-trial, single-table, behind-calls, after-reports, last-told, each-call, switching-each, asked-each}
 
 -- ---- one by one
 
@@ -38,7 +38,7 @@ pub one-by-one : (xs : List BatchLine) (t : Table) (room : ℕ) → Arises t →
 one-by-one xs t room a e =
     let h = batch-made xs t room (batch-accepted room xs t e) .1 in
     let each = each-call room (changesIn xs) t h in
-    let same = behind-calls (map (callFor room) (changesIn xs)) t each ∙ ap (λ (cs : List Change). applyAll cs t) (asked-each room (changesIn xs)) ∙ sym (batch-table room xs t e) in
+    let same = behind-calls (map (callFor room) (changesIn xs)) t (switching-each room (changesIn xs)) each ∙ ap (λ (cs : List Change). applyAll cs t) (asked-each room (changesIn xs)) ∙ sym (batch-table room xs t e) in
     record {
       each-accepted = h;
       same-table = same;

@@ -13,7 +13,7 @@ use Rattle.plain.specs.Layers.{copy, layerOf, stateOf, next}
 use Rattle.plain.specs.Refusals.{accepted, firstHeld, pairs, sameEdge, present, badSize, badStart, badMarks, badCount, badKinds, outside, repeated, full, shortRoom, loadTrial}
 use Rattle.plain.specs.Machine.{Change, add, cut, tableOf, withEdges, without, apply, conditions, misnamed, changeTrial, applyAll, namedAll, changesOf, applied, updateTrial, kept, Answer, refusal, answer, loadAnswer, Call, callFor, trialOf, tableAfter, answers, written, answerLine}
 use Rattle.plain.specs.Claims.{Arises, loaded, totalled, tableBehind, lastOf}
-use Rattle.plain.specs.Orders.{SameView, Apart, TwoOrders, Permutation, nothing, first, changesAsked, EachAccepted, AnyOrders, addAndCut, BringsBack, CutFollows, cutAndAdd, NeedNot, totalLine}
+use Rattle.plain.specs.Orders.{SameView, Apart, TwoOrders, Permutation, nothing, first, changesAsked, Switching, EachAccepted, AnyOrders, addAndCut, BringsBack, CutFollows, cutAndAdd, NeedNot, totalLine}
 use Rattle.plain.specs.Games.{wordOf, marksOf, knownBy, known, knownIn, gameH}
 use Rattle.plain.proofs.Tests.{in-head, in-right, or-false, or-neither}
 use Rattle.plain.proofs.Trials.{held-later, unheld}
@@ -107,14 +107,14 @@ written-totalled (answer (lasso stem cycle) spent kept) lent = refl
 written-totalled (answer unfinished spent kept) lent = refl
 
 -- accepted calls whose changes are the same in another order leave the same view
-pub same-views : (t : Table) (cs ds : List Call) → Apart (changesAsked cs) → Permutation (changesAsked cs) (changesAsked ds) → EachAccepted cs t → EachAccepted ds t
+pub same-views : (t : Table) (cs ds : List Call) → Switching cs → Switching ds → Apart (changesAsked cs) → Permutation (changesAsked cs) (changesAsked ds) → EachAccepted cs t → EachAccepted ds t
     → SameView (tableBehind cs t) (tableBehind ds t)
-same-views t cs ds apart order h k = rw (behind-calls cs t h, behind-calls ds t k) (any-order (changesAsked cs) (changesAsked ds) t order apart)
+same-views t cs ds x y apart order h k = rw (behind-calls cs t x h, behind-calls ds t y k) (any-order (changesAsked cs) (changesAsked ds) t order apart)
 
 -- ANY ORDERS
 pub any-orders : AnyOrders
-any-orders t cs ds a apart order h k =
-    let w = same-views t cs ds apart order h k in
+any-orders t cs ds a x y apart order h k =
+    let w = same-views t cs ds x y apart order h k in
     record {
       same-report = λ before r. last-told cs t a h before r ∙ told-alike (tableBehind cs t) (tableBehind ds t) w ∙ sym (last-told ds t a k before r);
       same-after = only-rows (tableBehind cs t) (tableBehind ds t) w .same-after;
@@ -124,7 +124,7 @@ any-orders t cs ds a apart order h k =
 pub two-orders : TwoOrders
 unfolding changesAsked changesOf lastOf answers
 two-orders t c d room a apart h k =
-    any-orders t (callFor room c ∷ callFor room d ∷ []) (callFor room d ∷ callFor room c ∷ []) a apart (first c (d ∷ []) (d ∷ []) [] (first d [] [] [] nothing)) h k .same-report
+    any-orders t (callFor room c ∷ callFor room d ∷ []) (callFor room d ∷ callFor room c ∷ []) a (tt, (tt, tt)) (tt, (tt, tt)) apart (first c (d ∷ []) (d ∷ []) [] (first d [] [] [] nothing)) h k .same-report
     (loadAnswer accepted t) (fresh-reports t)
 
 -- ---- there and back
@@ -139,7 +139,7 @@ pub brings-back : BringsBack
 unfolding changesAsked changesOf applyAll apply
 brings-back t e room room₂ a h =
     let same : tableBehind (addAndCut room room₂ e) t ≡ t =
-    behind-calls (addAndCut room room₂ e) t h ∙ ap (withEdges t) (without-newest (t .edges) e (add-new t e room (h .0))) in
+    behind-calls (addAndCut room room₂ e) t (tt, (tt, tt)) h ∙ ap (withEdges t) (without-newest (t .edges) e (add-new t e room (h .0))) in
     record {
       same-table = same;
       same-report = λ before r. last-told (addAndCut room room₂ e) t a h before r ∙ ap (loadAnswer accepted) same ∙ sym r;
@@ -170,7 +170,7 @@ need-not = record {
   arises = here;
   each-accepted = need-not-accepted;
   other-line = λ room room₂ h e.
-      need-not-line (ap answerLine (sym (last-told (cutAndAdd room room₂ (0, 1)) _ here h (loadAnswer accepted _) (fresh-reports _) ∙ ap (loadAnswer accepted) (behind-calls (cutAndAdd room room₂ (0, 1)) _ h))) ∙ e);
+      need-not-line (ap answerLine (sym (last-told (cutAndAdd room room₂ (0, 1)) _ here h (loadAnswer accepted _) (fresh-reports _) ∙ ap (loadAnswer accepted) (behind-calls (cutAndAdd room room₂ (0, 1)) _ (tt, (tt, tt)) h))) ∙ e);
 }
   where
     here : Arises (tableOf (gameH .load))

@@ -14,8 +14,8 @@ use Rattle.plain.specs.Lists.{any, all}
 use Rattle.plain.specs.Search.{Edge, Config, begin, probesOf, meets, finished, run, until, verdict, count}
 use Rattle.plain.specs.Table.{Table, accepts, withMark, withoutMark, carriedBy, row, gameOf, searched, copiesIn, printedVerdict, budget, final, firstMeeting}
 use Rattle.plain.specs.Layers.{copiesOf, stateAt, layers}
-use Rattle.plain.specs.Refusals.{Trial, accepted, refused, firstHeld, present, outside, beyond, full, roomCondition}
-use Rattle.plain.specs.Machine.{Change, add, cut, mark, unmark, named, inKind, apply, conditions, misnamed, changeTrial, BatchLine, makes, other, lineConditions, BatchTrial, changesIn, applyAll, linesTrial, batchTrial, Update, single, batch, applied, namedBy, updateTrial, atLine, positionIn, unexplored, passedOver, keepsAll, kept, refusal, answer, Call, trialOf, answerTo, tableAfter, answers}
+use Rattle.plain.specs.Refusals.{Trial, accepted, refused, firstHeld, present, outside, beyond, badKinds, full, roomCondition}
+use Rattle.plain.specs.Machine.{Change, add, cut, mark, unmark, named, inKind, apply, conditions, misnamed, changeTrial, BatchLine, makes, other, lineConditions, BatchTrial, changesIn, applyAll, linesTrial, batchTrial, Update, single, batch, applied, namedBy, updateTrial, atLine, positionIn, unexplored, passedOver, keepsAll, kept, upToKind, toKinds, kindsTrial, Command, update, setKinds, commandTrial, positionFor, commanded, keptBy, refusal, answer, Call, trialOf, answerTo, tableAfter, answers}
 use Rattle.plain.specs.Claims.{tableBehind}
 use Rattle.plain.specs.Questions.{Question, ways, degrees, questionTrial, questionReply, replyTo}
 use Rattle.plain.specs.Orders.{SameView, OnlyRows}
@@ -23,6 +23,7 @@ use Rattle.plain.proofs.Tests.{contra, either, not-true, same, self, fi
 use Rattle.plain.proofs.Words.{accepts-marked, accepts-marked-other, accepts-unmarked, accepts-unmarked-other}
 use Rattle.plain.proofs.Rows.{but, row-has, has-row, row-short, row-add, row-add-other, row-cut, row-cut-other, cut-count}
 use Rattle.plain.proofs.Tables.{changed-size, changed-start, changed-kinds}
+use Rattle.plain.proofs.NewKinds.{carried-kept, carried-dropped, kept-words}
 use Rattle.plain.proofs.Batches.{line-accepted, line-refused, batch-tried, batch-short}
 use Rattle.plain.proofs.Demands.{printed-alike, kept-all, kept-meeting}
 use Rattle.plain.proofs.Degrees.{same-in, same-out}
@@ -376,10 +377,6 @@ unfolding updateTrial
 same-update (single d) room w = same-change d w room
 same-update (batch xs) room w = ap (λ (b : BatchTrial). b .trial) (same-batch xs w room)
 
-same-trial : (c : Call) {t u : Table} → SameView t u → trialOf c t ≡ trialOf c u
-unfolding trialOf
-same-trial c w = same-update (c .update) (c .room) w
-
 same-position : (x : Update) (room : ℕ) {t u : Table} → SameView t u → positionIn x t room ≡ positionIn x u room
 unfolding positionIn
 same-position (single d) room w = refl
@@ -397,6 +394,40 @@ same-kept x {t} {u} w = ap count (⊎-elim
     (λ k. kept-meeting x t k ∙ same-meeting (applied x t) (applied x u) (same-applied x w) (namedBy x) ∙ sym (kept-meeting x u (sym (same-keeps t u w x) ∙ k)))
     (either (keepsAll x t)))
 
+-- another count of kinds
+same-kinds : (k : ℕ) {t u : Table} → SameView t u → SameView (toKinds k t) (toKinds k u)
+unfolding toKinds
+same-kinds k {t} {u} w = record {
+  same-size = w .same-size;
+  same-start = w .same-start;
+  same-kinds = refl;
+  same-count = w .same-count;
+  same-row = w .same-row;
+  same-words = λ kind. kept-words k (t .marks) kind ∙ w .same-words kind ∙ sym (kept-words k (u .marks) kind);
+  same-marks = λ kind s. by-kind kind s (decLt kind k);
+}
+  where
+    by-kind : (kind s : ℕ) → Dec (kind < k) → carriedBy (upToKind k (t .marks)) kind s ≡ carriedBy (upToKind k (u .marks)) kind s
+    by-kind kind s (yes h) = carried-kept k (t .marks) kind s h ∙ w .same-marks kind s ∙ sym (carried-kept k (u .marks) kind s h)
+    by-kind kind s (no h) = carried-dropped k (t .marks) kind s (omega arith) ∙ sym (carried-dropped k (u .marks) kind s (omega arith))
+
+-- what a call asks for: it is tried alike, stands at the same place where it is refused, leaves the same view, and keeps as many looks
+record SameCommand (c : Command) (room : ℕ) (t u : Table) : Type 0 where
+  same-trial : commandTrial c t room ≡ commandTrial c u room
+  same-place : positionFor c t room ≡ positionFor c u room
+  same-left : SameView (commanded c t) (commanded c u)
+  same-looks : keptBy c t ≡ keptBy c u
+
+same-command : (c : Command) (room : ℕ) {t u : Table} → SameView t u → SameCommand c room t u
+unfolding kindsTrial
+same-command (update x) room w = record { same-trial = same-update x room w; same-place = same-position x room w; same-left = same-applied x w; same-looks = same-kept x w }
+same-command (setKinds k) room w = record {
+  same-trial = λ i. firstHeld ((16, badKinds k (w .same-size i) (w .same-count i)) ∷ roomCondition (w .same-size i) k room);
+  same-place = refl;
+  same-left = same-kinds k w;
+  same-looks = refl;
+}
+
 -- the verdict, as it is printed
 pub same-shown : (t u : Table) → SameView t u → printedVerdict t (verdict (final t)) ≡ printedVerdict u (verdict (final u))
 same-shown t u w = ap (λ (c : Config). printedVerdict t (verdict c)) (same-final t u w) ∙ printed-alike t u (w .same-size) (w .same-kinds) (verdict (final u))
@@ -407,22 +438,22 @@ pub record OneCall (c : Call) (t u : Table) : Type 0 where
   pub same-view : SameView (tableAfter c t) (tableAfter c u)
 
 pub same-call : (c : Call) {t u : Table} → SameView t u → OneCall c t u
-same-call c {t} {u} w = by-trial (trialOf c t) refl
+unfolding trialOf
+same-call c {t} {u} w = by-trial (trialOf c t) refl (same-command (c .command) (c .room) w)
   where
-    by-trial : (y : Trial) → trialOf c t ≡ y → OneCall c t u
-    by-trial accepted e =
-        let f : trialOf c u ≡ accepted = sym (same-trial c w) ∙ e in
-        let end = same-final (applied (c .update) t) (applied (c .update) u) (same-applied (c .update) w) in
-        let k = same-kept (c .update) w in
-        let shown = same-shown (applied (c .update) t) (applied (c .update) u) (same-applied (c .update) w) in
+    by-trial : (y : Trial) → trialOf c t ≡ y → SameCommand (c .command) (c .room) t u → OneCall c t u
+    by-trial accepted e x =
+        let f : trialOf c u ≡ accepted = sym (x .same-trial) ∙ e in
+        let end = same-final (commanded (c .command) t) (commanded (c .command) u) (x .same-left) in
+        let shown = same-shown (commanded (c .command) t) (commanded (c .command) u) (x .same-left) in
         record {
-          same-answer = answer-accepted c t e ∙ (λ i. answer (shown i) (count (end i) - k i) (k i)) ∙ sym (answer-accepted c u f);
-          same-view = rw (table-accepted c t e, table-accepted c u f) (same-applied (c .update) w);
+          same-answer = answer-accepted c t e ∙ (λ i. answer (shown i) (count (end i) - x .same-looks i) (x .same-looks i)) ∙ sym (answer-accepted c u f);
+          same-view = rw (table-accepted c t e, table-accepted c u f) (x .same-left);
         }
-    by-trial (refused n) e =
-        let f : trialOf c u ≡ refused n = sym (same-trial c w) ∙ e in
+    by-trial (refused n) e x =
+        let f : trialOf c u ≡ refused n = sym (x .same-trial) ∙ e in
         record {
-          same-answer = answer-refused c t n e ∙ (λ i. refusal (record { number = n; position = same-position (c .update) (c .room) w i })) ∙ sym (answer-refused c u n f);
+          same-answer = answer-refused c t n e ∙ (λ i. refusal (record { number = n; position = x .same-place i })) ∙ sym (answer-refused c u n f);
           same-view = rw (table-refused c t n e, table-refused c u n f) w;
         }
 

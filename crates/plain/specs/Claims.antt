@@ -11,10 +11,10 @@ use Rattle.plain.specs.Search.{Edge, Verdict, none, lasso, unfinished, v
 use Rattle.plain.specs.Cycles.{FreeRound, FullRound, FullLoop, FullLasso}
 use Rattle.plain.specs.Table.{Table, graphOf, gameOf, searched, copiesIn, printed, printedVerdict, plainEdge, final, firstMeeting}
 use Rattle.plain.specs.Refusals.{accepted, refused, flat, full, Load, loadTrial, sameEdge}
-use Rattle.plain.specs.Machine.{Change, apply, changeTrial, BatchLine, makes, changesIn, Update, applied, namedBy, atLine, keepsAll, keptPart, Answer, refusal, answer, tableOf, loadAnswer, Call, callFor, batchCall, trialOf, answerTo, tableAfter, answers, Line, gameLine, roundLine, noneLine, noLine, waysLine}
+use Rattle.plain.specs.Machine.{Change, apply, changeTrial, BatchLine, makes, changesIn, Update, applied, namedBy, atLine, keepsAll, keptPart, toKinds, Command, update, setKinds, Answer, refusal, answer, tableOf, loadAnswer, Call, callFor, batchCall, kindsCall, trialOf, answerTo, tableAfter, answers, Line, gameLine, roundLine, noneLine, noLine, waysLine}
 use Rattle.plain.specs.Questions.{outDegree, inDegree}
 
--- the tables that a session can hold: those that a load accepts, and those to which accepted changes lead
+-- the tables that a session can hold: those that a load accepts, and those to which accepted changes lead. A load accepts those of another count of kinds too (proofs/NewKinds.antt).
 pub data Arises : Table → Type 0 where
   loaded : (l : Load) (room : ℕ) → loadTrial l room ≡ accepted → Arises (tableOf l)
   changed : (t : Table) (c : Change) (room : ℕ) → Arises t → changeTrial c t room ≡ accepted → Arises (apply c t)
@@ -77,6 +77,11 @@ pub record KeptRight (u : Update) (t : Table) (spent kept : ℕ) : Type 0 where
   -- "Kept + spent = that search's full count"
   pub adds-up : kept + spent ≡ count (final (applied u t))
 
+-- Of a call, whatever it asks for: of another count of kinds (ticket 10) "kept 0", as after a load, and every look is spent.
+abbrev pub CountsRight : Command → Table → ℕ → ℕ → Type 0
+CountsRight (update u) t spent kept = KeptRight u t spent kept
+CountsRight (setKinds k) t spent kept = (kept ≡ 0) × (spent ≡ count (final (toKinds k t)))
+
 -- an answer with its looks taken together: the verdict, the walk, and the total of kept and spent
 unfoldable pub totalled : Answer → Answer
 totalled (refusal r) = refusal r
@@ -90,6 +95,13 @@ loadFrom t = record { size = t .size; start = t .start; kinds = t .kinds; marks 
 -- table as the call leaves it answers with the same verdict and walk; its looks, all spent, are those kept and those spent.
 abbrev pub AsFresh : Call → Table → Type 0
 AsFresh c t = trialOf c t ≡ accepted → loadAnswer (loadTrial (loadFrom (tableAfter c t)) (c .room)) (tableOf (loadFrom (tableAfter c t))) ≡ totalled (answerTo c t)
+
+-- Document 02, ticket 10, of a line `kinds` and the table t that it finds: "That answer and what follows are the same as after a load of that table", which is the table with the new count of
+-- kinds. The two are refused alike, answered alike, and leave the same table, so that what follows is answered alike.
+pub record AsLoaded (k : ℕ) (t : Table) (room : ℕ) : Type 0 where
+  pub same-trial : trialOf (kindsCall room k) t ≡ loadTrial (loadFrom (toKinds k t)) room
+  pub same-answer : answerTo (kindsCall room k) t ≡ loadAnswer (loadTrial (loadFrom (toKinds k t)) room) (tableOf (loadFrom (toKinds k t)))
+  pub same-table : trialOf (kindsCall room k) t ≡ accepted → tableAfter (kindsCall room k) t ≡ tableOf (loadFrom (toKinds k t))
 
 -- the answer tells the verdict and the walk of a table, and its looks, kept and spent together, are those of its search: what a load of that table tells
 abbrev pub Reports : Answer → Table → Type 0
@@ -142,12 +154,12 @@ abbrev pub LoopTold : Line → Table → Type 0
 LoopTold l t = FullLoop (gameOf t) → NotNone l
 
 -- The looks that the line of an accepted call tells are right; t is the table as the call finds it.
-abbrev pub LineCounted : Line → Update → Table → Type 0
-LineCounted (gameLine size moves paying) u t = Unit {0}
-LineCounted (roundLine spent kept stem cycle walk) u t = KeptRight u t spent kept
-LineCounted (noneLine spent kept) u t = KeptRight u t spent kept
-LineCounted (noLine r) u t = Unit {0}
-LineCounted (waysLine s leaving entering) u t = Unit {0}
+abbrev pub LineCounted : Line → Command → Table → Type 0
+LineCounted (gameLine size moves paying) c t = Unit {0}
+LineCounted (roundLine spent kept stem cycle walk) c t = CountsRight c t spent kept
+LineCounted (noneLine spent kept) c t = CountsRight c t spent kept
+LineCounted (noLine r) c t = Unit {0}
+LineCounted (waysLine s leaving entering) c t = Unit {0}
 
 -- "a number is handed back when its condition holds and no earlier one that is tried there does, and only then": cs are the conditions, in the
 -- order tried, each with its number

@@ -4,12 +4,12 @@ use Prim.Native.Nat.{ℕ, zero, suc, _+_, _^_}
 use mathlib.Core.List.{List, [], _∷_, _++_, map}
 use lib.ListN.{replicate}
 use Rattle.plain.specs.Refusals.{Load}
-use Rattle.plain.specs.Machine.{Change, add, cut, mark, unmark, BatchLine, makes, other, Update, single, batch, atLine, Call, numbered, Line, gameLine, roundLine, noneLine, noLine}
+use Rattle.plain.specs.Machine.{Change, add, cut, mark, unmark, BatchLine, makes, other, Update, single, batch, Command, update, setKinds, atLine, Call, numbered, Line, gameLine, roundLine, noneLine, noLine}
 
 -- a game, what is asked of it in turn, and the lines printed
 pub record Known : Type 0 where
   pub load : Load
-  pub updates : List Update
+  pub commands : List Command
   pub lines : List Line
 
 -- the word that marks the states of the list, each below 64
@@ -22,20 +22,20 @@ unfoldable pub marksOf : List ℕ → List ℕ → List ℕ → List ℕ → Lis
 marksOf first second third fourth = map (λ states. wordOf states ∷ replicate 7 0) (first ∷ second ∷ third ∷ fourth ∷ [])
 
 -- N states, start 0, K, the marks, the moves as numbers
-unfoldable pub knownIn : ℕ → ℕ → List (List ℕ) → List ℕ → List Update → List Line → Known
-knownIn n k marks numbers us ls = record { load = record { size = n; start = 0; kinds = k; marks = marks; numbers = numbers }; updates = us; lines = ls }
+unfoldable pub knownIn : ℕ → ℕ → List (List ℕ) → List ℕ → List Command → List Line → Known
+knownIn n k marks numbers cs ls = record { load = record { size = n; start = 0; kinds = k; marks = marks; numbers = numbers }; commands = cs; lines = ls }
 
 -- one kind of pay: N states, start 0, the paying states, the moves as numbers
 unfoldable pub knownBy : ℕ → List ℕ → List ℕ → List Update → List Line → Known
-knownBy n paying numbers us ls = knownIn n 1 (marksOf paying [] [] []) numbers us ls
+knownBy n paying numbers us ls = knownIn n 1 (marksOf paying [] [] []) numbers (map update us) ls
 
 -- the same with changes, each a call of its own
 unfoldable pub known : ℕ → List ℕ → List ℕ → List Change → List Line → Known
 known n paying numbers cs ls = knownBy n paying numbers (map single cs) ls
 
 -- the list lent for the walk is the box's own
-unfoldable pub lent : Update → Call
-lent u = record { update = u; room = 512 }
+unfoldable pub lent : Command → Call
+lent c = record { command = c; room = 512 }
 
 -- H, its last line as ticket 4 has it
 unfoldable pub gameH : Known
@@ -204,7 +204,7 @@ games =
     ∷ roundLine 4 1 0 3 (0 ∷ 1 ∷ 4 ∷ [])
     ∷ [])
     -- Ticket 9: two kinds; the round goes, comes shorter, and comes another way; a state is marked with the other kind
-    ∷ knownIn 3 2 (marksOf (0 ∷ 2 ∷ []) (1 ∷ []) [] []) (0 ∷ 1 ∷ 1 ∷ 2 ∷ 2 ∷ 0 ∷ []) (map single (cut (2, 0) ∷ add (2, 1) ∷ add (1, 0) ∷ mark 2 2 ∷ []))
+    ∷ knownIn 3 2 (marksOf (0 ∷ 2 ∷ []) (1 ∷ []) [] []) (0 ∷ 1 ∷ 1 ∷ 2 ∷ 2 ∷ 0 ∷ []) (map (λ c. update (single c)) (cut (2, 0) ∷ add (2, 1) ∷ add (1, 0) ∷ mark 2 2 ∷ []))
     (gameLine 3 3 3
     ∷ roundLine 6 0 1 3 (0 ∷ 1 ∷ 2 ∷ 0 ∷ [])
     ∷ noneLine 2 2
@@ -213,6 +213,16 @@ games =
     ∷ roundLine 2 2 1 2 (0 ∷ 1 ∷ 2 ∷ [])
     ∷ [])
     -- three kinds: a round that passes state 0 three times
-    ∷ knownIn 4 3 (marksOf (1 ∷ []) (2 ∷ []) (3 ∷ []) []) (0 ∷ 1 ∷ 1 ∷ 0 ∷ 0 ∷ 2 ∷ 2 ∷ 0 ∷ 0 ∷ 3 ∷ []) (map single (add (3, 0) ∷ cut (0, 2) ∷ []))
+    ∷ knownIn 4 3 (marksOf (1 ∷ []) (2 ∷ []) (3 ∷ []) []) (0 ∷ 1 ∷ 1 ∷ 0 ∷ 0 ∷ 2 ∷ 2 ∷ 0 ∷ 0 ∷ 3 ∷ []) (map (λ c. update (single c)) (add (3, 0) ∷ cut (0, 2) ∷ []))
     (gameLine 4 5 3 ∷ noneLine 26 0 ∷ roundLine 14 11 0 6 (0 ∷ 1 ∷ 0 ∷ 2 ∷ 0 ∷ 3 ∷ []) ∷ noneLine 13 0 ∷ [])
+    -- Ticket 10: of two kinds one goes, and comes back carried by no state until one is marked; then too many, and the same once more
+    ∷ knownIn 2 2 (marksOf (0 ∷ []) (1 ∷ []) [] []) (0 ∷ 1 ∷ 1 ∷ 0 ∷ []) (setKinds 1 ∷ setKinds 2 ∷ update (single (mark 1 2)) ∷ setKinds 5 ∷ setKinds 2 ∷ [])
+    (gameLine 2 2 2
+    ∷ roundLine 4 0 0 2 (0 ∷ 1 ∷ [])
+    ∷ roundLine 4 0 0 2 (0 ∷ 1 ∷ [])
+    ∷ noneLine 6 0
+    ∷ roundLine 3 1 0 2 (0 ∷ 1 ∷ [])
+    ∷ noLine (numbered 16)
+    ∷ roundLine 4 0 0 2 (0 ∷ 1 ∷ [])
+    ∷ [])
     ∷ []

@@ -1,6 +1,6 @@
 -- Document 01, "The plain table" and "Load, add, cut": what each call answers, and what it leaves. Document 02, ticket 2: the paying marks can be switched too;
--- ticket 4: what is kept of moves that the search had not come to; ticket 5: batches of changes; ticket 9: kinds of pay. Assumes nothing.
-use Prim.Native.Nat.{ℕ, suc, _+_, _-_}
+-- ticket 4: what is kept of moves that the search had not come to; ticket 5: batches of changes; ticket 9: kinds of pay; ticket 10: another count of kinds. Assumes nothing.
+use Prim.Native.Nat.{ℕ, zero, suc, _+_, _-_}
 use mathlib.Core.Bool.{Bool, true, false, _||_, not}
 use mathlib.Core.List.{List, [], _∷_, _++_, map}
 use lib.Dec.{eqb, ltb}
@@ -8,7 +8,7 @@ use lib.ListN.{length, drop, getD, set}
 use Rattle.plain.specs.Lists.{any, all, filter}
 use Rattle.plain.specs.Search.{Edge, Config, probesOf, meets, finished, Verdict, none, lasso, unfinished, verdict, count}
 use Rattle.plain.specs.Table.{Table, carriedBy, withMark, withoutMark, searched, copiesIn, plainEdge, printedVerdict, budget, final, firstMeeting, acceptingCount}
-use Rattle.plain.specs.Refusals.{Trial, accepted, refused, firstHeld, pairs, sameEdge, present, outside, beyond, full, roomCondition, Load, loadTrial}
+use Rattle.plain.specs.Refusals.{Trial, accepted, refused, firstHeld, pairs, sameEdge, present, outside, beyond, badKinds, full, roomCondition, Load, loadTrial}
 
 -- A change of a session. Tickets of document 02 bring more kinds.
 pub data Change : Type 0 where
@@ -118,9 +118,9 @@ batchTrial xs t room = elim (firstHeld (roomCondition (t .size) (t .kinds) room)
   | refused n ↦ record { trial = refused n; position = 0 }
 ]
 
--- ---- calls
+-- ---- changes, alone or in a batch
 
--- What a call on a session asks for: one change, or a batch of lines.
+-- one change, or a batch of lines
 pub data Update : Type 0 where
   single : Change → Update
   batch : List BatchLine → Update
@@ -195,6 +195,49 @@ keptPart u t = elim (keepsAll u t) [ true ↦ final (applied u t) | false ↦ fi
 unfoldable pub kept : Update → Table → ℕ
 kept u t = count (keptPart u t)
 
+-- ---- ticket 10
+
+-- "Marks of kinds up to the new K stay, those above are dropped"
+unfoldable pub upToKind : ℕ → List (List ℕ) → List (List ℕ)
+upToKind k [] = []
+upToKind zero (words ∷ rest) = map (λ w. 0) words ∷ upToKind zero rest
+upToKind (suc k) (words ∷ rest) = words ∷ upToKind k rest
+
+-- the table with k kinds in use: ".. and moves hold their arrival order"
+unfoldable pub toKinds : ℕ → Table → Table
+toKinds k t = record { size = t .size; start = t .start; kinds = k; marks = upToKind k (t .marks); edges = t .edges }
+
+-- "Refusals 16 and then 11 apply", 11 by the new K: the list lent is for the walk on its layers
+unfoldable pub kindsTrial : ℕ → Table → ℕ → Trial
+kindsTrial k t room = firstHeld ((16, badKinds k (t .size) (length (t .edges))) ∷ roomCondition (t .size) k room)
+
+-- ---- calls
+
+-- What a call on a session asks for: changes, or another count of kinds.
+pub data Command : Type 0 where
+  update : Update → Command
+  -- ticket 10: "The line `kinds` is .. taken after `go` as well."
+  setKinds : ℕ → Command
+
+abbrev pub commandTrial : Command → Table → ℕ → Trial
+commandTrial (update u) t room = updateTrial u t room
+commandTrial (setKinds k) t room = kindsTrial k t room
+
+-- where a refusal of it stands
+abbrev pub positionFor : Command → Table → ℕ → Position
+positionFor (update u) t room = positionIn u t room
+positionFor (setKinds k) t room = alone
+
+-- the table that it leaves where it is accepted
+abbrev pub commanded : Command → Table → Table
+commanded (update u) t = applied u t
+commanded (setKinds k) t = toKinds k t
+
+-- the looks that are kept: of another count of kinds "kept 0"
+abbrev pub keptBy : Command → Table → ℕ
+keptBy (update u) t = kept u t
+keptBy (setKinds k) t = 0
+
 -- "After a load, kept is 0."
 unfoldable pub loadAnswer : Trial → Table → Answer
 loadAnswer accepted t = answer (printedVerdict t (verdict (final t))) (count (final t)) 0
@@ -207,31 +250,36 @@ after (refused n) new old = old
 
 -- A call on a session: what it asks for, and "of the list lent for the walk the length alone".
 pub record Call : Type 0 where
-  pub update : Update
+  pub command : Command
   pub room : ℕ
 
 -- a call that makes one change, and one that makes a batch
 abbrev pub callFor : ℕ → Change → Call
-callFor room c = record { update = single c; room = room }
+callFor room c = record { command = update (single c); room = room }
 
 abbrev pub batchCall : ℕ → List BatchLine → Call
-batchCall room xs = record { update = batch xs; room = room }
+batchCall room xs = record { command = update (batch xs); room = room }
+
+-- one that sets another count of kinds
+abbrev pub kindsCall : ℕ → ℕ → Call
+kindsCall room k = record { command = setKinds k; room = room }
 
 unfoldable pub trialOf : Call → Table → Trial
-trialOf c t = updateTrial (c .update) t (c .room)
+trialOf c t = commandTrial (c .command) t (c .room)
 
--- "spent is the rest": t is the table as the call finds it
-unfoldable pub updateAnswer : Trial → Call → Table → Answer
-updateAnswer accepted c t =
-    let u = c .update in
-    answer (printedVerdict (applied u t) (verdict (final (applied u t)))) (count (final (applied u t)) - kept u t) (kept u t)
-updateAnswer (refused n) c t = refusal (record { number = n; position = positionIn (c .update) t (c .room) })
+-- "spent is the rest": t is the table as the call finds it. Ticket 10: the line `kinds` "is answered in the form of a change".
+unfoldable pub callAnswer : Trial → Call → Table → Answer
+callAnswer accepted c t =
+    let u = commanded (c .command) t in
+    let k = keptBy (c .command) t in
+    answer (printedVerdict u (verdict (final u))) (count (final u) - k) k
+callAnswer (refused n) c t = refusal (record { number = n; position = positionFor (c .command) t (c .room) })
 
 unfoldable pub answerTo : Call → Table → Answer
-answerTo c t = updateAnswer (trialOf c t) c t
+answerTo c t = callAnswer (trialOf c t) c t
 
 unfoldable pub tableAfter : Call → Table → Table
-tableAfter c t = after (trialOf c t) (applied (c .update) t) t
+tableAfter c t = after (trialOf c t) (commanded (c .command) t) t
 
 -- a list of calls, any number of them
 unfoldable pub answers : List Call → Table → List Answer

@@ -8,7 +8,7 @@ use Rattle.plain.specs.Lists.{Once}
 use Rattle.plain.specs.Search.{Edge}
 use Rattle.plain.specs.Table.{Table, carriedBy, row, final}
 use Rattle.plain.specs.Refusals.{accepted}
-use Rattle.plain.specs.Machine.{Change, add, cut, tableOf, changesOf, namedAll, Answer, loadAnswer, Call, callFor, trialOf, answerTo, tableAfter, answers, Line, gameLine, roundLine, noneLine, noLine, waysLine, answerLine}
+use Rattle.plain.specs.Machine.{Change, add, cut, tableOf, changesOf, namedAll, Command, update, setKinds, Answer, loadAnswer, Call, callFor, trialOf, answerTo, tableAfter, answers, Line, gameLine, roundLine, noneLine, noLine, waysLine, answerLine}
 use Rattle.plain.specs.Questions.{Question, replyTo}
 use Rattle.plain.specs.Claims.{Arises, totalled, Reports, tableBehind, lastOf}
 use Rattle.plain.specs.Games.{gameH}
@@ -61,10 +61,23 @@ pub data Permutation : List Change → List Change → Type 0 where
   nothing : Permutation [] []
   first : (c : Change) (cs before behind : List Change) → Permutation cs (before ++ behind) → Permutation (c ∷ cs) (before ++ (c ∷ behind))
 
--- the changes that calls ask for, one behind the other, those of batches too
+-- the changes that a call asks for, those of a batch too, and those of calls, one behind the other
+abbrev pub askedBy : Command → List Change
+askedBy (update u) = changesOf u
+askedBy (setKinds k) = []
+
 unfoldable pub changesAsked : List Call → List Change
 changesAsked [] = []
-changesAsked (c ∷ cs) = changesOf (c .update) ++ changesAsked cs
+changesAsked (c ∷ cs) = askedBy (c .command) ++ changesAsked cs
+
+-- calls that ask for changes and nothing else
+abbrev pub IsUpdate : Command → Type 0
+IsUpdate (update u) = Unit {0}
+IsUpdate (setKinds k) = ⊥
+
+abbrev pub Switching : List Call → Type 0
+Switching [] = Unit {0}
+Switching (c ∷ cs) = IsUpdate (c .command) × Switching cs
 
 -- Two lists of calls end alike: in the same verdict, walk and total in the last answer (of an empty list that is the one before it), and nothing asked behind them tells the two apart.
 pub record SameEnding (cs ds : List Call) (t : Table) : Type 0 where
@@ -73,7 +86,7 @@ pub record SameEnding (cs ds : List Call) (t : Table) : Type 0 where
 
 -- Beyond the ticket's two: any number of changes that name pairwise different states, in any two orders that are accepted, each a call of its own or in a batch.
 abbrev pub AnyOrders : Type 0
-AnyOrders = (t : Table) (cs ds : List Call) → Arises t → Apart (changesAsked cs) → Permutation (changesAsked cs) (changesAsked ds)
+AnyOrders = (t : Table) (cs ds : List Call) → Arises t → Switching cs → Switching ds → Apart (changesAsked cs) → Permutation (changesAsked cs) (changesAsked ds)
     → EachAccepted cs t → EachAccepted ds t → SameEnding cs ds t
 
 -- ---- lines
