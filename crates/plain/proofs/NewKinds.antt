@@ -93,21 +93,6 @@ unfolding toKinds kindsTrial
 kinds-tried k t v room =
     sym (fresh-trial (toKinds k t) (record { size-ok = v .size-ok; start-ok = v .start-ok; marks-ok = marks-fine k t v; few = edges-most t v; inside = v .inside; once = v .once }) room)
 
-valid-kinds : (k : ℕ) (t : Table) → Valid t → badKinds k (t .size) (length (t .edges)) ≡ false → Valid (toKinds k t)
-unfolding toKinds
-valid-kinds k t v f =
-    let fit = kinds-fit k (t .size) (length (t .edges)) f in record {
-      size-ok = v .size-ok;
-      start-ok = v .start-ok;
-      marks-ok = marks-fine k t v;
-      some-kind = fit .some;
-      four-kinds = fit .four;
-      states-few = fit .states;
-      moves-few = fit .moves-fit;
-      inside = v .inside;
-      once = v .once;
-    }
-
 -- ---- an accepted line
 
 module _ (k : ℕ) (t : Table) (room : ℕ) (e : kindsTrial k t room ≡ accepted) where
@@ -116,10 +101,25 @@ module _ (k : ℕ) (t : Table) (room : ℕ) (e : kindsTrial k t room ≡ accepte
   unfolding kindsTrial shortRoom
   kinds-room = ltb-false room (t .size * k) (unheld 11 _ e)
 
-  -- it leaves a table that a session can hold: a load accepts it
+  -- the table that it leaves keeps the limits
+  pub valid-kinds : Valid t → Valid (toKinds k t)
+  unfolding toKinds kindsTrial
+  valid-kinds v =
+      let fit = kinds-fit k (t .size) (length (t .edges)) (unheld 16 _ e) in record {
+        size-ok = v .size-ok;
+        start-ok = v .start-ok;
+        marks-ok = marks-fine k t v;
+        some-kind = fit .some;
+        four-kinds = fit .four;
+        states-few = fit .states;
+        moves-few = fit .moves-fit;
+        inside = v .inside;
+        once = v .once;
+      }
+
+  -- a session can hold it: a load accepts it
   pub kinds-arises : Arises t → Arises (toKinds k t)
-  unfolding kindsTrial
-  kinds-arises a = fresh-arises (toKinds k t) (valid-kinds k t (valid t a) (unheld 16 _ e))
+  kinds-arises a = fresh-arises (toKinds k t) (valid-kinds (valid t a))
 
 pub kinds-never-7 : (k : ℕ) (t : Table) (room : ℕ) → kindsTrial k t room ≢ refused 7
 unfolding kindsTrial elem

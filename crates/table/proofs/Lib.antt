@@ -5,3 +5,4 @@ pub mod Filing
 pub mod Counting
 pub mod Changing
 pub mod Holding
+pub mod NewKinds

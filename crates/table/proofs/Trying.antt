@@ -119,7 +119,6 @@ module _ (size start kinds : ℕ) (marks numbers : List ℕ) (room : ℕ) where
   pub record Early : Type 0 where
     pub size-ok : badSize size ≡ false
     pub count-ok : badCount numbers ≡ false
-    pub kinds-ok : badKinds kinds size (length (pairs numbers)) ≡ false
     pub inside-ok : any (outside size) (pairs numbers) ≡ false
     pub rest : (k : Trial) → k ≡ tried (firstHeld ((8, repeated (pairs numbers)) ∷ roomCondition size kinds room)) → k ≡ whole
 
@@ -130,7 +129,6 @@ module _ (size start kinds : ℕ) (marks numbers : List ℕ) (room : ℕ) where
       record {
         size-ok = unheld 2 _ a;
         count-ok = unheld 5 _ a;
-        kinds-ok = unheld 16 _ a;
         inside-ok = unheld 6 _ a;
         rest = λ k h. h ∙ free-before _ ((8, repeated (pairs numbers)) ∷ roomCondition size kinds room) e;
       }

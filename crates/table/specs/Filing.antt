@@ -1,5 +1,5 @@
 -- The table in its arrays: what they hold, and what filing leaves. Assumes nothing.
-use Prim.Native.Nat.{ℕ, _-_, _≤_, _<_}
+use Prim.Native.Nat.{ℕ, _*_, _-_, _≤_, _<_, min}
 use mathlib.Core.Path.{_≡_}
 use mathlib.Core.Bool.{Bool, true, false}
 use mathlib.Core.List.{List, [], _∷_}
@@ -13,12 +13,12 @@ use Rattle.plain.specs.Questions.{inDegree}
 use Rattle.rows.specs.Rows.{rowAt, edgeCount, placeOf, Compressed}
 use Rattle.rows.specs.Change.{Rows, rowsOf, inserted, removed}
 use Rattle.look.specs.Numbers.{further}
-use Rattle.layers.specs.Packed.{Packed}
+use Rattle.layers.specs.Packed.{Packed, ClearedFrom}
 use Rattle.table.specs.declared.Op.{Op}
 use Rattle.table.specs.declared.Op.the-variants.{Add, Cut, Mark, Unmark}
 use Rattle.table.specs.declared.Trial.{Trial}
 use Rattle.table.specs.declared.Trial.the-variants.{Accepted, Refused}
-use Rattle.table.specs.Trials.{Arrays, tried, trialIn}
+use Rattle.table.specs.Trials.{Arrays, tried, trialIn, kindsTrialIn}
 
 -- the rows hold these edges: the row of each state has the targets of those that leave it, oldest first
 pub record Filed (size : ℕ) (edges : List Edge) (rows : Rows) : Type 0 where
@@ -104,3 +104,11 @@ pub record FiledAll (size : ℕ) (numbers : List ℕ) (r : Bool) (targets′ sta
 pub record Tried (l : Load) (room : ℕ) (r : Trial) (targets′ starts′ : List ℕ) : Type 0 where
   pub trial-is : r ≡ tried (loadTrial l room)
   pub filed : r ≡ Accepted → Filed (l .size) (pairs (l .numbers)) (rowsOf targets′ starts′)
+
+-- ---- another count of kinds
+
+-- it was tried: the marks of the kinds that stay in use stay where it is accepted, else all
+pub record AttemptedKinds (k size kinds room : ℕ) (starts words : List ℕ) (r : Trial) (words′ : List ℕ) : Type 0 where
+  pub trial-is : r ≡ tried (kindsTrialIn k size starts room)
+  pub kept : r ≡ Accepted → ClearedFrom (min kinds k * size) words words′
+  pub untouched : (n : ℕ) → r ≡ Refused n → words′ ≡ words

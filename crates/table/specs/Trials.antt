@@ -3,7 +3,7 @@ use Prim.Native.Nat.{ℕ, _+_, _*_, _-_}
 use mathlib.Core.Path.{_≡_}
 use mathlib.Core.Bool.{Bool, true, false, _&&_, _||_, not}
 use mathlib.Core.List.{List, [], _∷_, _++_}
-use lib.Dec.{ltb, leb}
+use lib.Dec.{eqb, ltb, leb}
 use lib.ListN.{length}
 use Rattle.plain.specs.Lists.{any}
 use Rattle.plain.specs.Table.{accepts, byKind, carriedBy}
@@ -106,3 +106,7 @@ conditionsIn (Unmark state kind) size kinds rows words = unmarkConditions size k
 -- the trial of a change: 11 behind its own conditions; 1, that its kind is none, is tried ahead of it (crates/batch/specs/Batches.antt)
 unfoldable pub trialIn : Op → ℕ → ℕ → Rows → List ℕ → ℕ → PlainTrial
 trialIn op size kinds rows words room = firstHeld (conditionsIn op size kinds rows words ++ roomCondition size kinds room)
+
+-- the trial of another count of kinds, read off the rows: 16 and 11, and ahead of them that there is a game, which no table of a session lacks
+unfoldable pub kindsTrialIn : ℕ → ℕ → List ℕ → ℕ → PlainTrial
+kindsTrialIn k size starts room = firstHeld ((2, eqb size 0) ∷ (16, badKinds k size (edgeCount starts size)) ∷ roomCondition size k room)

@@ -8,8 +8,8 @@ ghost use Rattle.plain.specs.Table.{byKind};
 ghost use Rattle.plain.specs.Refusals.{firstHeld, badMarks, badKinds, outside, roomCondition, pairs};
 ghost use Rattle.rows.specs.Rows.{Tabled};
 ghost use Rattle.rows.specs.Change.{rowsOf};
-ghost use Rattle.table.specs.Trials.{arraysOf, opOf, tried, badMark, earlyTrial, there, carriesIn, addConditions, cutConditions, markConditions, unmarkConditions, conditionsIn, trialIn};
-ghost use Rattle.table.specs.Filing.{recounted, countedAll, filedIn, Attempted, Empty, Limits, FiledAll, Tried};
+ghost use Rattle.table.specs.Trials.{arraysOf, opOf, tried, badMark, earlyTrial, there, carriesIn, addConditions, cutConditions, markConditions, unmarkConditions, conditionsIn, trialIn, kindsTrialIn};
+ghost use Rattle.table.specs.Filing.{recounted, countedAll, filedIn, Attempted, Empty, Limits, FiledAll, Tried, AttemptedKinds};
 
 // Where a refusal stands: it is that of the call, or that of a line of a batch, with its position.
 pub enum Position {
@@ -113,9 +113,9 @@ fn any_outside(numbers: &[u16], size: u16) -> bool
     false
 }
 
-// Refusal 16: no kind or more than four, or so many that the copies of states or moves are too many. The moves are those of a list that keeps its limit.
+// Refusal 16: no kind or more than four, or so many that the copies of states or moves are too many.
 fn kinds_outside(kinds: u16, size: u16, moves: usize) -> bool
-    requires { ⌜ moves ≤ 2048 ⌝ }
+    requires { ⌜ moves < 65536 ⌝ }
     ensures { λ r. ⌜ r ≡ badKinds kinds size moves ⌝ }
 {
     if kinds == 0 {
@@ -436,5 +436,39 @@ pub fn attempt_change(
         return Trial::Refused(n);
     }
     file_one(switch, size, targets, starts, words, indegree);
+    Trial::Accepted
+}
+
+// Refusals 16 and 11 of another count of kinds, and ahead of them that there is a game.
+fn kinds_trial(new: u16, size: u16, starts: &[u16; 513], room: usize) -> Trial
+    requires { ⌜ length (now starts) ≡ 513 ⌝ }
+    ensures { λ r. ⌜ r ≡ tried (kindsTrialIn new size (now (starts .entry)) room) ⌝ }
+{
+    if size == 0 {
+        return Trial::Refused(2);
+    }
+    if kinds_outside(new, size, wide(rows::edge_count(starts, size))) {
+        return Trial::Refused(16);
+    }
+    room_trial(size, new, room)
+}
+
+// Tries another count of kinds, and drops the marks of kinds above it where it is accepted.
+pub fn attempt_kinds(
+    new: u16,
+    size: u16,
+    kinds: u16,
+    starts: &[u16; 513],
+    words: &mut [u64; 8],
+    room: usize,
+) -> Trial
+    requires { ⌜ length (now starts) ≡ 513 ⌝ }
+    ensures { λ r. ⌜ AttemptedKinds new size kinds room (now (starts .entry)) (now (words .entry)) r (now (words .exit)) ⌝ }
+{
+    let trial = kinds_trial(new, size, starts, room);
+    if let Trial::Refused(n) = trial {
+        return Trial::Refused(n);
+    }
+    layers::keep_kinds(words, size, kinds, new);
     Trial::Accepted
 }

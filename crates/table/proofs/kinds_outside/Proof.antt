@@ -42,11 +42,11 @@ returns-3 c =
 wide-requires : tie.Need-wide-requires
 wide-requires c κs = search needs
 
-product : (m k : ℕ) → m ≤ 2048 → k ≤ 4 → m * k ≤ 8192
+product : (m k : ℕ) → m ≤ 65535 → k ≤ 4 → m * k ≤ 262140
 product m k h j = omega (arith, mul-le-mul h j)
 
 mul-result : tie.Need-mul-result
-mul-result c = omega (arith, c .wide .ensures, product (c .before .before .before .before .before .args .moves) (c .wide .result) (c .before .before .before .before .before .pre) (omega (arith, c .wide .ensures, c .before .before .before .if2 .left)))
+mul-result c = omega (arith, c .wide .ensures, product (c .before .before .before .before .before .args .moves) (c .wide .result) (omega (arith, c .before .before .before .before .before .pre)) (omega (arith, c .wide .ensures, c .before .before .before .if2 .left)))
 
 returns-4 : tie.Need-returns-4
 unfolding badKinds
