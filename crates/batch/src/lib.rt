@@ -12,10 +12,16 @@ ghost use Rattle.rows.specs.Rows.{Tabled};
 ghost use Rattle.table.specs.Trials.{arraysOf, tried};
 ghost use Rattle.batch.specs.Batches.{lineFor, lineTo, isChange, isValid, subjectIn, switchIn, lineIn, numbersIn, endIn, headLine, linesIn, isRefused, positionAt, triedIn, aheadTrial, callTriedIn, AttemptedLine, AttemptedLines, AttemptedCall};
 
-// What a call on a session asks for: one change, or a batch, whose lines a lent list holds.
+// Changes of the game: one change, or a batch, whose lines a lent list holds.
 pub enum Update {
     Change(Op),
     Batch,
+}
+
+// What a call on a session asks for: changes, or another count of kinds.
+pub enum Command {
+    Update(Update),
+    Kinds(u16),
 }
 
 // A line of a batch: what it does, and two numbers. 1 adds a move, 2 cuts one, 3 marks a state, 4 unmarks one; of a move the numbers are its states, of a mark the state and the kind.

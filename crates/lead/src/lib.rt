@@ -1,5 +1,6 @@
 // What a line asks for, and what is held from line to line.
 use batch::BatchLine;
+use batch::Command;
 use batch::Update;
 use line::Record;
 use line::Word;
@@ -12,7 +13,7 @@ use table::Position;
 use table::Refusal;
 ghost use mathlib.Core.Path.{_≡_};
 ghost use Rattle.line.specs.Records.{recordOf};
-ghost use Rattle.lead.specs.Asked.{firstLead, staged as Asked·staged, noTask, refusing as Asked·refusing, changing as Asked·changing, questioning as Asked·questioning, batching as Asked·batching, holding as Asked·holding, isFull, askedFirst, askedMove, askedBefore, askedOpened, requestOf, askedAfter, askedInside, asked, takesPay, filedPay, takesMove, filedMove, takesLine, lineRead, filedLine, filed, isOver};
+ghost use Rattle.lead.specs.Asked.{firstLead, staged as Asked·staged, noTask, refusing as Asked·refusing, changing as Asked·changing, settingKinds, questioning as Asked·questioning, batching as Asked·batching, holding as Asked·holding, isFull, askedFirst, askedMove, askedBefore, askedOpened, requestOf, askedAfter, askedInside, asked, takesPay, filedPay, takesMove, filedMove, takesLine, lineRead, filedLine, filed, isOver};
 
 // How far the lead has come: no line yet, straight behind `game`, before `go`, after it, inside a batch, or past a refusal that ends the run.
 pub enum Stage {
@@ -34,11 +35,12 @@ pub struct Lead {
     pub count: u16,
 }
 
-// What a line after `go` requests: a change, the begin or the end of a batch, a question's reply, or nothing that is known there.
+// What a line after `go` requests: a change, the begin or the end of a batch, another count of kinds, a question's reply, or nothing that is known there.
 pub enum Request {
     Change(Op),
     Begin,
     End,
+    Kinds(u16),
     Question(Question),
     Unknown,
 }
@@ -46,7 +48,7 @@ pub enum Request {
 // What a line asks of the session. The lines of a batch are those held.
 pub enum Ask {
     Load,
-    Update(Update),
+    Call(Command),
 }
 
 // What is to be done for a line. Only what asks something reaches the session, and only a load or a call may change it.
@@ -203,7 +205,17 @@ fn changing(lead: Lead, op: Op) -> Plan
 {
     Plan {
         lead,
-        task: Task::Ask(Ask::Update(Update::Change(op))),
+        task: Task::Ask(Ask::Call(Command::Update(Update::Change(op)))),
+    }
+}
+
+// Another count of kinds is asked of it.
+fn setting_kinds(lead: Lead, kinds: u16) -> Plan
+    ensures { λ p. ⌜ p ≡ settingKinds kinds lead ⌝ }
+{
+    Plan {
+        lead,
+        task: Task::Ask(Ask::Call(Command::Kinds(kinds))),
     }
 }
 
@@ -217,7 +229,7 @@ fn questioning(lead: Lead, question: Question) -> Plan
     }
 }
 
-// After `go`: `add` and `cut`, `mark` and `unmark`, `begin` and `end`, `ways`.
+// After `go`: `add` and `cut`, `mark` and `unmark`, `begin` and `end`, `kinds`, `ways`.
 fn request_of(r: Record) -> Request
     ensures { λ q. ⌜ q ≡ requestOf r ⌝ }
 {
@@ -247,6 +259,9 @@ fn request_of(r: Record) -> Request
     }
     if is_word(word, Word::End) {
         return Request::End;
+    }
+    if is_word(word, Word::Kinds) {
+        return Request::Kinds(from);
     }
     if is_word(word, Word::Ways) {
         return Request::Question(Question {
@@ -279,6 +294,7 @@ fn ask_after(lead: Lead, r: Record) -> Plan
         Request::Change(op) => changing(lead, op),
         Request::Begin => no_task(batching(lead, 0)),
         Request::End => refusing(Stage::Playing, lead, 1),
+        Request::Kinds(kinds) => setting_kinds(lead, kinds),
         Request::Question(question) => questioning(lead, question),
         Request::Unknown => refusing(Stage::Playing, lead, 1),
     }
@@ -302,7 +318,7 @@ fn ask_inside(lead: Lead, r: Record) -> Plan
     if is_word(word, Word::End) {
         return Plan {
             lead: staged(Stage::Playing, lead),
-            task: Task::Ask(Ask::Update(Update::Batch)),
+            task: Task::Ask(Ask::Call(Command::Update(Update::Batch))),
         };
     }
     holding(lead)

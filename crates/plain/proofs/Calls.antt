@@ -83,6 +83,13 @@ as-fresh c t a k =
     let t′ = tableAfter c t in
     fresh-answer t′ (valid t′ (after-arises c t a k)) (c .room) (rw (table-accepted c t k) (command-room (c .command) t (c .room) k)) ∙ sym (after-reports c t a k)
 
+-- another count of kinds, accepted: nothing is kept and every look is spent, as by a load
+pub kinds-answer : (k : ℕ) (t : Table) (room : ℕ) → trialOf (kindsCall room k) t ≡ accepted → answerTo (kindsCall room k) t ≡ loadAnswer accepted (toKinds k t)
+unfolding loadAnswer
+kinds-answer k t room e =
+    let t′ = toKinds k t in
+    answer-accepted (kindsCall room k) t e ∙ ap (λ (n : ℕ). answer (printedVerdict t′ (verdict (final t′))) n 0) (omega arith)
+
 -- TICKET 10: the line `kinds` is answered as a load of the table that it leaves, refused or not
 pub as-loaded : (k : ℕ) (t : Table) (room : ℕ) → Arises t → AsLoaded k t room
 unfolding trialOf loadAnswer
@@ -95,9 +102,7 @@ as-loaded k t room a =
     }
   where
     by-trial : (x : Trial) → kindsTrial k t room ≡ x → answerTo (kindsCall room k) t ≡ loadAnswer (kindsTrial k t room) (toKinds k t)
-    by-trial accepted e =
-        let t′ = toKinds k t in
-        answer-accepted (kindsCall room k) t e ∙ ap (λ (n : ℕ). answer (printedVerdict t′ (verdict (final t′))) n 0) (omega arith) ∙ ap (λ (x : Trial). loadAnswer x t′) (sym e)
+    by-trial accepted e = kinds-answer k t room e ∙ ap (λ (x : Trial). loadAnswer x (toKinds k t)) (sym e)
     by-trial (refused n) e = answer-refused (kindsCall room k) t n e ∙ ap (λ (x : Trial). loadAnswer x (toKinds k t)) (sym e)
 
 -- a call that makes one change is accepted where the change is

@@ -13,7 +13,7 @@ use Rattle.plain.specs.Search.{Graph, Frame, frame, Config, outer, nested, exha
 use Rattle.plain.specs.Unexplored.{bareFrames, bare}
 use Rattle.plain.specs.Table.{Table, searched, copiesIn, printedVerdict, final}
 use Rattle.plain.specs.Refusals.{Trial, accepted, refused}
-use Rattle.plain.specs.Machine.{BatchLine as PlainLine, makes, Update as PlainUpdate, changesOf, applied, namedBy, updateTrial, Position as PlainPosition, positionIn, passedOver, keepsAll, keptPart, kept, Answer as PlainAnswer, refusal, answer, trialOf, answerTo, written, answerLine}
+use Rattle.plain.specs.Machine.{BatchLine as PlainLine, makes, Update as PlainUpdate, changesOf, applied, namedBy, updateTrial, Position as PlainPosition, positionIn, Command as PlainCommand, update, positionFor, passedOver, keepsAll, keptPart, kept, Answer as PlainAnswer, refusal, answer, trialOf, answerTo, written, answerLine}
 use Rattle.plain.specs.Notes.{Notes, Faithful}
 use Rattle.plain.proofs.Tests.{either, in-one, any-some}
 use Rattle.plain.proofs.Prefix.{FirstMeeting}
@@ -32,8 +32,7 @@ use Rattle.search.proofs.Scans.{ran-from}
 use Rattle.search.proofs.Ended.{rewound-spent}
 use Rattle.plain.proofs.Limits.{Small, limits, size-few, small}
 use Rattle.search.proofs.Resumed.{resume-fits}
-use Rattle.batch.specs.declared.Update.{Update}
-use Rattle.batch.specs.declared.BatchLine.{BatchLine}
+use Rattle.table.specs.declared.Position.{Position}
 use Rattle.session.specs.declared.Session.{Session}
 use Rattle.session.specs.declared.Settled.{Settled}
 use Rattle.session.specs.declared.Resumption.{Resumption}
@@ -43,14 +42,14 @@ use Rattle.verdict.specs.declared.Answer.{Answer}
 use Rattle.verdict.specs.declared.Answer.the-variants.{Refused}
 use Rattle.table.specs.Trials.{Arrays}
 use Rattle.table.specs.Filing.{Stored}
-use Rattle.batch.specs.Batches.{linesIn, statesIn as namedIn, numbersIn, TriedIn, callTriedIn, positionAt}
+use Rattle.batch.specs.Batches.{linesIn, statesIn as namedIn, TriedIn, callTriedIn, positionAt}
 use Rattle.batch.proofs.Batches.{lines-other}
-use Rattle.session.specs.Model.{Records, recordsOf, recordsIn, arraysHeld, gameIn, statesIn, copiesUpAll, allPassedOver, namedMost, earliestOf, resumptionOf, backAt, Sought, verdictOf, sessionOf, Settles, isAlone, onlyLine, UpdatedIn}
-use Rattle.session.specs.Promises.{heightOf, Holds, updateOf, callOf, withoutGame, Updates}
+use Rattle.session.specs.Model.{Records, recordsOf, recordsIn, arraysHeld, gameIn, statesIn, copiesUpAll, allPassedOver, namedMost, earliestOf, resumptionOf, backAt, Sought, verdictOf, sessionOf, Settles, UpdatedIn}
+use Rattle.session.specs.Promises.{heightOf, Holds, callOf, withoutGame, refusedWithoutGame, Updates}
 use Rattle.verdict.proofs.Told.{told, never-refused}
 use Rattle.verdict.specs.Answers.{refusing, positionOf, shown, lowered, WalkOf, Answered, Tells}
 use Rattle.session.proofs.Sought.{matches, states-are, starts-at, Reached, reached}
-use Rattle.session.proofs.Asking.{Asks, asked-so}
+use Rattle.session.proofs.Asking.{Asks}
 use Rattle.session.proofs.FirstMet.{earliest-is}
 use Rattle.session.proofs.Lines.{resumption-nowhere, resumption-earliest}
 use Rattle.session.proofs.Copied.{all-up, up-all, copies-few}
@@ -106,10 +105,10 @@ archive-moved g h n a f w e =
     }
 
 -- what a session holds of its last search
-abbrev oldOf : Session → Verdict
+abbrev pub oldOf : Session → Verdict
 oldOf s = record { stem = s .stem; length = s .length; height = s .height; spent = 0; kept = s .total }
 
-abbrev recordsHeld : Session → Records
+abbrev pub recordsHeld : Session → Records
 recordsHeld s = recordsOf (s .number) (s .parent) (s .index) (s .probes) (s .stamp) (s .walk)
 
 -- where a session's search is taken up for the lines of a call, given as numbers
@@ -305,6 +304,32 @@ same-session s h = λ i. record {
   total = (plus-more (s .total) 0 (omega arith) ∙ add-zero (s .total)) i;
 }
 
+-- a refused call: nothing has changed
+module _ (c : PlainCommand) (s : Session) (lent : List ℕ) (n : ℕ) (p : Position) where
+  pub refused-right : ((t : Table) → Holds s t → trialOf (callOf c lent) t ≡ refused n) → ((t : Table) → Holds s t → positionFor c t (length lent) ≡ positionOf p)
+      → (s .size ≡ 0 → refusing n p ≡ Refused (refusedWithoutGame (s .kinds) c)) → Updates c s lent (record { answer = refusing n p; session = s }) lent
+  unfolding shown written answerLine
+  refused-right is place none = record {
+    answers = λ t h. record { line = ap answerLine (refused-as t h); list = sym (ap (λ (x : PlainAnswer). written x lent) (refused-as t h)) };
+    holds = λ t h. subst⁻¹ (λ (x : Table). Holds s x) (table-refused (callOf c lent) t n (is t h)) h;
+    refused = λ m z. (refl, refl);
+    no-game = none;
+  }
+    where
+      refused-as : (t : Table) → Holds s t → answerTo (callOf c lent) t ≡ refusal (record { number = n; position = positionOf p })
+      refused-as t h = answer-refused (callOf c lent) t n (is t h) ∙ ap (λ (x : PlainPosition). refusal (record { number = n; position = x })) (place t h)
+
+  -- what the arrays were, they are
+  pub left-alone : (r : Settled) (b : Arrays) (a : Records) (lent′ : List ℕ) (total : ℕ) → s .total ≤ 65535 → total ≡ plus (r .verdict .kept) (r .verdict .spent)
+      → (r ≡ record { answer = refusing n p; verdict = oldOf s; kinds = s .kinds }) × (b ≡ arraysHeld s) × (a ≡ recordsHeld s) × (lent′ ≡ lent)
+      → Updates c s lent (record { answer = refusing n p; session = s }) lent
+      → Updates c s lent (record { answer = r .answer; session = sessionOf (s .size) (s .start) (r .kinds) b a (r .verdict) total }) lent′
+  left-alone r b a lent′ total small e k w =
+      let sum : total ≡ plus (s .total) 0 = e ∙ (λ i. plus (k .0 i .verdict .kept) (k .0 i .verdict .spent)) in
+      subst⁻¹ (λ (x : ℕ × Settled × Arrays × Records × List ℕ). Updates c s lent (record { answer = x .1 .answer; session = sessionOf (s .size) (s .start) (x .1 .kinds) (x .2) (x .3) (x .1 .verdict) (x .0) }) (x .4))
+      (λ i. (sum i, k .0 i, k .1 i, k .2 i, k .3 i))
+      (subst⁻¹ (λ (x : Session). Updates c s lent (record { answer = refusing n p; session = x }) lent) (same-session s small) w)
+
 module _ (u : PlainUpdate) (alone : Bool) (ns : List ℕ) (q : Asks u alone (linesIn ns)) (s : Session) (lent : List ℕ) where
   abbrev tried : TriedIn
   tried = callTriedIn alone (linesIn ns) (s .size) (s .kinds) (arraysHeld s) (length lent)
@@ -331,32 +356,23 @@ module _ (u : PlainUpdate) (alone : Bool) (ns : List ℕ) (q : Asks u alone (lin
         ap (λ (w : TriedIn). refusing (withoutGame (s .kinds) u .number) (positionAt alone (w .position))) e ∙ q .refusal-is (s .kinds) (arraysHeld s) (length lent),
       )
 
-  call-refused : (n : ℕ) → tried .trial ≡ refused n → Updates u s lent (record { answer = refusing n (positionAt alone (tried .position)); session = s }) lent
-  unfolding shown written answerLine trialOf
-  call-refused n e = record {
-    answers = λ t h. record { line = ap answerLine (refused-as t h); list = sym (ap (λ (x : PlainAnswer). written x lent) (refused-as t h)) };
-    holds = λ t h. subst⁻¹ (λ (x : Table). Holds s x) (table-refused (callOf u lent) t n (trial-is t h ∙ e)) h;
-    refused = λ m z. (refl, refl);
-    no-game = λ z. let w = none-is z in ap (λ (k : ℕ). refusing k (positionAt alone (tried .position))) (refused-same (sym e ∙ w .0)) ∙ w .1;
-  }
+  call-refused : (n : ℕ) → tried .trial ≡ refused n → Updates (update u) s lent (record { answer = refusing n (positionAt alone (tried .position)); session = s }) lent
+  unfolding trialOf
+  call-refused n e = refused-right (update u) s lent n (positionAt alone (tried .position)) (λ t h. trial-is t h ∙ e) position-is
+      (λ z. let w = none-is z in ap (λ (k : ℕ). refusing k (positionAt alone (tried .position))) (refused-same (sym e ∙ w .0)) ∙ w .1)
     where
-      refused-as : (t : Table) → Holds s t → answerTo (callOf u lent) t ≡ refusal (record { number = n; position = positionOf (positionAt alone (tried .position)) })
-      refused-as t h =
-          answer-refused (callOf u lent) t n (trial-is t h ∙ e)
-          ∙ ap (λ (p : PlainPosition). refusal (record { number = n; position = p })) (position-is t h)
-
       refused-same : {x y : ℕ} → refused x ≡ refused y → x ≡ y
       refused-same z = cc
 
   call-accepted : (lent′ : List ℕ) (b : Arrays) (a : Records) (r : Settled) → tried .trial ≡ accepted → b ≡ tried .arrays
       → Settles (s .size) (s .kinds) (gameIn (s .size) (s .kinds) b) (s .start) (takenUp ns s) (oldOf s) (recordsHeld s) lent r a lent′
-      → Updates u s lent (record { answer = r .answer; session = sessionOf (s .size) (s .start) (s .kinds) b a (r .verdict) (plus (r .verdict .kept) (r .verdict .spent)) }) lent′
+      → Updates (update u) s lent (record { answer = r .answer; session = sessionOf (s .size) (s .start) (s .kinds) b a (r .verdict) (plus (r .verdict .kept) (r .verdict .spent)) }) lent′
   unfolding trialOf
   call-accepted lent′ b a r e new w = record {
-    answers = λ t h. subst⁻¹ (λ (x : PlainAnswer). Answered x lent (r .answer) lent′) (answer-accepted (callOf u lent) t (is t h))
+    answers = λ t h. subst⁻¹ (λ (x : PlainAnswer). Answered x lent (r .answer) lent′) (answer-accepted (callOf (update u) lent) t (is t h))
         (next-answers u ns s b a (r .verdict) (w .sought) t h (length lent) (is t h) (lines t h) (stored t h) lent lent′ (r .answer) (omega arith) (w .tells));
     holds = λ t h. subst⁻¹ (λ (x : Table). Holds (next u ns s b a (r .verdict) (w .sought) t h (length lent) (is t h) (lines t h) (stored t h)) x)
-        (table-accepted (callOf u lent) t (is t h)) (next-holds u ns s b a (r .verdict) (w .sought) t h (length lent) (is t h) (lines t h) (stored t h));
+        (table-accepted (callOf (update u) lent) t (is t h)) (next-holds u ns s b a (r .verdict) (w .sought) t h (length lent) (is t h) (lines t h) (stored t h));
     refused = λ m z. absurd (never-refused (r .verdict .spent) (r .verdict .kept) (r .verdict .stem) (r .verdict .length) m (sym (w .tells .answer-is) ∙ z));
     no-game = λ z. absurd (refused-not (sym (none-is z .0) ∙ e));
   }
@@ -374,27 +390,14 @@ module _ (u : PlainUpdate) (alone : Bool) (ns : List ℕ) (q : Asks u alone (lin
       refused-not z = let k : _≡_ {A = ℕ} 0 1 = cc in omega arith
 
   -- the contract of a call, from what it leaves in the arrays
-  call-right : (lent′ : List ℕ) (b : Arrays) (a : Records) (r : Settled) (total : ℕ) → s .total ≤ 65535 → total ≡ plus (r .verdict .kept) (r .verdict .spent)
+  pub call-right : (lent′ : List ℕ) (b : Arrays) (a : Records) (r : Settled) (total : ℕ) → s .total ≤ 65535 → total ≡ plus (r .verdict .kept) (r .verdict .spent)
       → UpdatedIn alone ns (s .size) (s .kinds) (s .start) (oldOf s) (arraysHeld s) (recordsHeld s) lent r b a lent′
-      → Updates u s lent (record { answer = r .answer; session = sessionOf (s .size) (s .start) (s .kinds) b a (r .verdict) total }) lent′
+      → Updates (update u) s lent (record { answer = r .answer; session = sessionOf (s .size) (s .start) (r .kinds) b a (r .verdict) total }) lent′
   call-right lent′ b a r total small e w = by-trial (tried .trial) refl
     where
-      Made-so : Settled → Arrays → Records → ℕ → List ℕ → Type 0
-      Made-so x y z n list = Updates u s lent (record { answer = x .answer; session = sessionOf (s .size) (s .start) (s .kinds) y z (x .verdict) n }) list
-
-      by-trial : (x : Trial) → tried .trial ≡ x → Made-so r b a total lent′
-      by-trial accepted f = let k = w .on-acceptance f in subst⁻¹ (λ (n : ℕ). Made-so r b a n lent′) e (call-accepted lent′ b a r f (k .0) (k .1))
-      by-trial (refused n) f =
-          let k = w .on-refusal n f in
-          let sum : total ≡ plus (s .total) 0 = e ∙ (λ i. plus (k .0 i .verdict .kept) (k .0 i .verdict .spent)) in
-          subst⁻¹ (λ (x : ℕ × Settled × Arrays × Records × List ℕ). Made-so (x .1) (x .2) (x .3) (x .0) (x .4)) (λ i. (sum i, k .0 i, k .1 i, k .2 i, k .3 i))
-          (subst⁻¹ (λ (x : Session). Updates u s lent (record { answer = refusing n (positionAt alone (tried .position)); session = x }) lent) (same-session s small) (call-refused n f))
-
--- the same as the session is asked
-pub update-right : (asked : Update) (alone : Bool) (only : BatchLine) → alone ≡ isAlone asked → only ≡ onlyLine asked → (lines : List ℕ) (s : Session) (lent lent′ : List ℕ) (b : Arrays) (a : Records) (r : Settled) (total : ℕ)
-    → s .total ≤ 65535 → total ≡ plus (r .verdict .kept) (r .verdict .spent)
-    → UpdatedIn alone (numbersIn alone only lines) (s .size) (s .kinds) (s .start) (oldOf s) (arraysHeld s) (recordsHeld s) lent r b a lent′
-    → Updates (updateOf asked lines) s lent (record { answer = r .answer; session = sessionOf (s .size) (s .start) (s .kinds) b a (r .verdict) total }) lent′
-update-right asked alone only e f lines s lent lent′ b a r total small sum w =
-    call-right (updateOf asked lines) (isAlone asked) (numbersIn (isAlone asked) (onlyLine asked) lines) (asked-so asked lines) s lent lent′ b a r total small sum
-    (subst (λ (x : Bool × BatchLine). UpdatedIn (x .0) (numbersIn (x .0) (x .1) lines) (s .size) (s .kinds) (s .start) (oldOf s) (arraysHeld s) (recordsHeld s) lent r b a lent′) (λ i. (e i, f i)) w)
+      by-trial : (x : Trial) → tried .trial ≡ x → Updates (update u) s lent (record { answer = r .answer; session = sessionOf (s .size) (s .start) (r .kinds) b a (r .verdict) total }) lent′
+      by-trial accepted f =
+          let k = w .on-acceptance f in
+          subst⁻¹ (λ (x : ℕ × ℕ). Updates (update u) s lent (record { answer = r .answer; session = sessionOf (s .size) (s .start) (x .0) b a (r .verdict) (x .1) }) lent′) (λ i. (k .1 .kinds-is i, e i))
+          (call-accepted lent′ b a r f (k .0) (k .1))
+      by-trial (refused n) f = left-alone (update u) s lent n (positionAt alone (tried .position)) r b a lent′ total small e (w .on-refusal n f) (call-refused n f)

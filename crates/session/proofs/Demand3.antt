@@ -6,7 +6,7 @@ use mathlib.Core.List.{List, [], _∷_, _++_, map}
 use lib.ListN.{length}
 use Rattle.plain.specs.Table.{Table}
 use Rattle.plain.specs.Refusals.{Trial, Load, accepted, refused, loadTrial}
-use Rattle.plain.specs.Machine.{Change, BatchLine, makes, changesIn, Update, single, batch, Call, callFor, trialOf, Answer as PlainAnswer, tableOf, loadAnswer, answerTo, tableAfter, answers, Line, answerLine, answerLines}
+use Rattle.plain.specs.Machine.{Change, BatchLine, makes, changesIn, single, batch, Command, update, Call, callFor, trialOf, Answer as PlainAnswer, tableOf, loadAnswer, answerTo, tableAfter, answers, Line, answerLine, answerLines}
 use Rattle.plain.specs.Claims.{LineTrue}
 use Rattle.plain.specs.Questions.{Question, replyTo, tableNext, told, toldAll}
 use Rattle.plain.proofs.Answers.{load-told, call-told, reply-told}
@@ -40,8 +40,8 @@ question-right q s t r h c =
 pub all-right : (s : Session) (t : Table) (xs : List Event) → Holds s t → Served s xs → AllRight xs t
 unfolding tableNext
 all-right s t xs h done = tt
-all-right s t xs h (call u lent r lent′ ys c rest) =
-    let x : Exchange = record { asked = u; lent = lent; answered = r .answer; after = lent′ } in
+all-right s t xs h (call d lent r lent′ ys c rest) =
+    let x : Exchange = record { asked = d; lent = lent; answered = r .answer; after = lent′ } in
     (call-right x s t r h c refl, all-right (r .session) (tableAfter (callIn x) t) ys (c .holds t h) rest)
 all-right s t xs h (ask q r ys c rest) = (question-right q s t r h c, all-right s t ys h rest)
 
@@ -122,17 +122,17 @@ answered-accepted c t lent r lent′ w y = by-trial (trialOf c t) refl
     by-trial accepted e = e
     by-trial (refused n) e = absurd (told-refused r lent′ _ (sym (ap answerLine (answer-refused c t n e)) ∙ w .line) y)
 
-call-accepted : (u : Update) (s : Session) (t : Table) (lent : List ℕ) (r : Outcome) (lent′ : List ℕ) → Holds s t → Updates u s lent r lent′ → NoRefusal (r .answer)
-    → trialOf (callOf u lent) t ≡ accepted
-call-accepted u s t lent r lent′ h w y = answered-accepted (callOf u lent) t lent (r .answer) lent′ (w .answers t h) y
+call-accepted : (c : Command) (s : Session) (t : Table) (lent : List ℕ) (r : Outcome) (lent′ : List ℕ) → Holds s t → Updates c s lent r lent′ → NoRefusal (r .answer)
+    → trialOf (callOf c lent) t ≡ accepted
+call-accepted c s t lent r lent′ h w y = answered-accepted (callOf c lent) t lent (r .answer) lent′ (w .answers t h) y
 
 -- a batch of one change is that change
 pub batch-of-one : (c : Change) (s : Session) (t : Table) → Holds s t → (lent : List ℕ) (r r₂ : Outcome) (lent′ lent₂ : List ℕ)
-    → Updates (batch (makes c ∷ [])) s lent r lent′ → Updates (single c) s lent r₂ lent₂ → NoRefusal (r₂ .answer) → SameCall (batch (makes c ∷ [])) (single c) lent t r r₂ lent′ lent₂
+    → Updates (update (batch (makes c ∷ []))) s lent r lent′ → Updates (update (single c)) s lent r₂ lent₂ → NoRefusal (r₂ .answer) → SameCall (update (batch (makes c ∷ []))) (update (single c)) lent t r r₂ lent′ lent₂
 batch-of-one c s t h lent r r₂ lent′ lent₂ w v y =
     let one = as-one c t (length lent) (h .arises) in
-    let same = one .same-answer (call-accepted (single c) s t lent r₂ lent₂ h v y) in
-    let both = answered-once (answerTo (callOf (single c) lent) t) lent (r .answer) (r₂ .answer) lent′ lent₂
+    let same = one .same-answer (call-accepted (update (single c)) s t lent r₂ lent₂ h v y) in
+    let both = answered-once (answerTo (callOf (update (single c)) lent) t) lent (r .answer) (r₂ .answer) lent′ lent₂
     (subst (λ (a : PlainAnswer). Answered a lent (r .answer) lent′) same (w .answers t h)) (v .answers t h) in
     record {
       same-answer = both .0;
@@ -143,10 +143,10 @@ batch-of-one c s t h lent r r₂ lent′ lent₂ w v y =
     }
 
 -- an accepted batch and its changes one by one
-pub batch-one-by-one : (xs : List BatchLine) (s : Session) (t : Table) → Holds s t → (lent : List ℕ) (r : Outcome) (lent′ : List ℕ) → Updates (batch xs) s lent r lent′ → NoRefusal (r .answer)
+pub batch-one-by-one : (xs : List BatchLine) (s : Session) (t : Table) → Holds s t → (lent : List ℕ) (r : Outcome) (lent′ : List ℕ) → Updates (update (batch xs)) s lent r lent′ → NoRefusal (r .answer)
     → (ys : List Exchange) → Served s (map made ys) → map callIn ys ≡ map (callFor (length lent)) (changesIn xs) → SameEnd xs lent t r lent′ ys
 batch-one-by-one xs s t h lent r lent′ w y ys v e = record {
-  plain = one-by-one xs t (length lent) (h .arises) (call-accepted (batch xs) s t lent r lent′ h w y);
+  plain = one-by-one xs t (length lent) (h .arises) (call-accepted (update (batch xs)) s t lent r lent′ h w y);
   batch-tells = w .answers t h .line;
   batch-holds = w .holds t h;
   changes-tell = sym (calls-lines ys) ∙ same-lines (map made ys) t (all-right s t (map made ys) h v) ∙ calls-told ys t ∙ ap (λ (cs : List Call). answerLines (answers cs t)) e;

@@ -5,6 +5,8 @@ pub mod Copied
 pub mod Resuming
 pub mod Lines
 pub mod Accepted
+pub mod Afresh
 pub mod Loaded
 pub mod Changing
+pub mod Performing
 pub mod Demand3

@@ -1,10 +1,10 @@
 -- What the inner functions of the session do, over the lists that its arrays hold. Cited by their contracts alone. Assumes nothing.
-use Prim.Native.Nat.{ℕ, zero, suc, _*_, _-_, _%_}
+use Prim.Native.Nat.{ℕ, zero, suc, _*_, _-_, _%_, min}
 use mathlib.Core.Path.{_≡_}
 use mathlib.Core.Bool.{Bool, true, false, cond, _&&_, _||_}
 use mathlib.Core.List.{List, [], _∷_, _++_}
 use lib.Dec.{eqb, ltb}
-use lib.ListN.{length, getD, take, replicate}
+use lib.ListN.{length, getD, set, take, replicate}
 use Rattle.plain.specs.Lists.{all}
 use Rattle.plain.specs.Refusals.{accepted, refused}
 use Rattle.plain.specs.Machine.{BatchLine as PlainLine, makes, other}
@@ -14,12 +14,16 @@ use Rattle.table.specs.declared.Op.{Op}
 use Rattle.table.specs.declared.Op.the-variants.{Add, Cut, Mark, Unmark}
 use Rattle.batch.specs.declared.Update.{Update}
 use Rattle.batch.specs.declared.Update.the-variants as Update
+use Rattle.batch.specs.declared.Command.{Command}
+use Rattle.batch.specs.declared.Command.the-variants as Command
 use Rattle.batch.specs.declared.BatchLine.{BatchLine}
-use Rattle.table.specs.Trials.{Arrays, arraysOf}
+use Rattle.table.specs.declared.Position.the-variants as Position
+use Rattle.table.specs.Trials.{Arrays, arraysOf, kindsTrialIn}
 use Rattle.table.specs.Filing.{namedBy}
-use Rattle.batch.specs.Batches.{lineFor, lineTo, linesIn, statesIn as namedIn, opFor, positionAt, callTriedIn}
+use Rattle.batch.specs.Batches.{lineFor, lineTo, linesIn, numbersIn, statesIn as namedIn, opFor, positionAt, callTriedIn}
 use Rattle.look.specs.Numbers.{noNumber, plus}
 use Rattle.layers.specs.Layout.{layered}
+use Rattle.layers.specs.Packed.{ClearedFrom}
 use Rattle.search.specs.declared.Phase.{Phase}
 use Rattle.search.specs.declared.Phase.the-variants.{Outer, Nested, Exhausted, Found}
 use Rattle.search.specs.declared.Walker.{Walker}
@@ -200,15 +204,37 @@ abbrev pub Sought : Game → ℕ → ℕ → Resumption → Verdict → Records 
 Sought g size start Nowhere old a r a′ = (r ≡ old) × (a′ ≡ a)
 Sought g size start (At s) old a r a′ = (c : Result) × Ran g bound (backAt size start s a) c × (r ≡ verdictOf (c .walker) (c .spent)) × (a′ ≡ recordsIn c)
 
--- What searching and answering leaves: the search, its answer, and the walk at the head of the lent list.
+-- What searching and answering leaves: the search, its answer, the walk at the head of the lent list, and the count of kinds.
 pub record Settles (size kinds : ℕ) (g : Game) (start : ℕ) (from : Resumption) (old : Verdict) (a : Records) (lent : List ℕ) (r : Settled) (a′ : Records) (lent′ : List ℕ) : Type 0 where
   pub sought : Sought g (statesIn size kinds) start from old a (r .verdict) a′
   pub tells : Tells (r .verdict .spent) (r .verdict .kept) (r .verdict .stem) (r .verdict .length) (lowered size (kinds - 1) (a′ .walk)) lent (r .answer) lent′
+  pub kinds-is : r .kinds ≡ kinds
+
+-- the records of a search that has met the start state alone
+abbrev pub freshFrom : ℕ → List ℕ → Records
+freshFrom start walk = recordsOf (set (replicate 512 noNumber) start 0) (replicate 512 start) (replicate 512 0) (replicate 512 0) (replicate 512 noNumber) walk
+
+-- what searching from the start and answering leaves
+abbrev pub SettlesAfresh : ℕ → ℕ → Game → ℕ → List ℕ → List ℕ → Settled → Records → List ℕ → Type 0
+SettlesAfresh size kinds g start walk lent r a′ lent′ = Settles size kinds g start (At start) noVerdict (freshFrom start walk) lent r a′ lent′
 
 -- What a call leaves, whose lines are given as numbers: a refusal, and all is as it was; or the table's arrays changed, and what searching and answering leaves.
 pub record UpdatedIn (alone : Bool) (ns : List ℕ) (size kinds start : ℕ) (old : Verdict) (b : Arrays) (a : Records) (lent : List ℕ) (r : Settled) (b′ : Arrays) (a′ : Records) (lent′ : List ℕ) : Type 0 where
   pub on-refusal : (n : ℕ) → callTriedIn alone (linesIn ns) size kinds b (length lent) .trial ≡ refused n
-      → (r ≡ record { answer = refusing n (positionAt alone (callTriedIn alone (linesIn ns) size kinds b (length lent) .position)); verdict = old }) × (b′ ≡ b) × (a′ ≡ a) × (lent′ ≡ lent)
+      → (r ≡ record { answer = refusing n (positionAt alone (callTriedIn alone (linesIn ns) size kinds b (length lent) .position)); verdict = old; kinds = kinds }) × (b′ ≡ b) × (a′ ≡ a) × (lent′ ≡ lent)
   pub on-acceptance : callTriedIn alone (linesIn ns) size kinds b (length lent) .trial ≡ accepted
       → (b′ ≡ callTriedIn alone (linesIn ns) size kinds b (length lent) .arrays)
       × Settles size kinds (gameIn size kinds b′) start (resumptionOf size kinds ns (b .rows) (a .number) (a .index) (a .walk) (old .height)) old a lent r a′ lent′
+
+-- What another count of kinds leaves: a refusal, and all is as it was; or the marks of the kinds that stay, and what searching from the start and answering leaves.
+pub record KindsSet (k size kinds start : ℕ) (old : Verdict) (rows : Rows) (words : List ℕ) (a : Records) (lent : List ℕ) (r : Settled) (words′ : List ℕ) (a′ : Records) (lent′ : List ℕ) : Type 0 where
+  pub on-refusal : (n : ℕ) → kindsTrialIn k size (rows .starts) (length lent) ≡ refused n
+      → (r ≡ record { answer = refusing n Position.Alone; verdict = old; kinds = kinds }) × (words′ ≡ words) × (a′ ≡ a) × (lent′ ≡ lent)
+  pub on-acceptance : kindsTrialIn k size (rows .starts) (length lent) ≡ accepted
+      → ClearedFrom (min kinds k * size) words words′ × SettlesAfresh size k (gameOf (rows .targets) (layered size (k - 1) (rows .starts) words′) words′ size) start (a .walk) lent r a′ lent′
+
+-- by what a call asks for
+abbrev pub Performed : Command → List ℕ → ℕ → ℕ → ℕ → Verdict → Arrays → Records → List ℕ → Settled → Arrays → Records → List ℕ → Type 0
+Performed (Command.Update u) ns size kinds start old b a lent r b′ a′ lent′ = UpdatedIn (isAlone u) (numbersIn (isAlone u) (onlyLine u) ns) size kinds start old b a lent r b′ a′ lent′
+Performed (Command.Kinds k) ns size kinds start old b a lent r b′ a′ lent′ =
+    KindsSet k size kinds start old (b .rows) (b .words) a lent r (b′ .words) a′ lent′ × (b′ .rows ≡ b .rows) × (b′ .indegree ≡ b .indegree)

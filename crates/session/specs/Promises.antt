@@ -9,7 +9,7 @@ use lib.ListN.{length}
 use Rattle.plain.specs.Search.{Config, outer, nested, exhausted, found, unfinished, verdict, count, run}
 use Rattle.plain.specs.Table.{Table, searched, final}
 use Rattle.plain.specs.Refusals.{Load, accepted, refused, loadTrial}
-use Rattle.plain.specs.Machine.{Change, add, cut, mark, unmark, misnamed, BatchLine, changesIn, callFor, batchCall, Update as PlainUpdate, single, batch, loadAnswer, tableOf, Call, answerTo, tableAfter, answers, Line, answerLine, answerLines}
+use Rattle.plain.specs.Machine.{Change, add, cut, mark, unmark, misnamed, BatchLine, changesIn, callFor, batchCall, Update as PlainUpdate, single, batch, Command as PlainCommand, update, setKinds, loadAnswer, tableOf, Call, answerTo, tableAfter, answers, Line, answerLine, answerLines}
 use Rattle.plain.specs.Questions.{Question, ways, replyTo, Operation, call as calling, question, tableNext, toldAll}
 use Rattle.plain.specs.Claims.{Arises, OneByOne, LineTrue, LineCounted, LoopTold}
 use Rattle.search.specs.Archive.{Archived}
@@ -24,6 +24,8 @@ use Rattle.table.specs.declared.Position.{Position}
 use Rattle.table.specs.declared.Position.the-variants as Position
 use Rattle.batch.specs.declared.Update.{Update}
 use Rattle.batch.specs.declared.Update.the-variants as Update
+use Rattle.batch.specs.declared.Command.{Command}
+use Rattle.batch.specs.declared.Command.the-variants as Command
 use Rattle.session.specs.declared.Session.{Session}
 use Rattle.session.specs.declared.Outcome.{Outcome}
 use Rattle.table.specs.Trials.{changeOf}
@@ -31,14 +33,18 @@ use Rattle.table.specs.Filing.{Stored}
 use Rattle.batch.specs.Batches.{linesIn}
 use Rattle.session.specs.Model.{arraysHeld, noGame}
 
--- what is asked of the plain table: one change, or a batch, whose lines stand in a list of numbers
+-- what is asked of the plain table: one change, or a batch, whose lines stand in a list of numbers; or another count of kinds
 abbrev pub updateOf : Update → List ℕ → PlainUpdate
 updateOf (Update.Change op) ns = single (changeOf op)
 updateOf Update.Batch ns = batch (linesIn ns)
 
+abbrev pub commandOf : Command → List ℕ → PlainCommand
+commandOf (Command.Update u) ns = update (updateOf u ns)
+commandOf (Command.Kinds k) ns = setKinds k
+
 -- the call: what is asked, and the length of the list that is lent
-abbrev pub callOf : PlainUpdate → List ℕ → Call
-callOf u lent = record { update = u; room = length lent }
+abbrev pub callOf : PlainCommand → List ℕ → Call
+callOf c lent = record { command = c; room = length lent }
 
 -- a mark of a kind above those in use
 abbrev pub unknownKind : ℕ → Change → Bool
@@ -48,10 +54,14 @@ unknownKind kinds (mark s kind) = ltb kinds kind
 unknownKind kinds (unmark s kind) = ltb kinds kind
 
 -- What a session without a game answers, of so many kinds: a change names a state outside it, unless its kind is refused ahead of that; a batch is refused ahead of its lines, since
--- the count of states is 0, so that an empty one is refused too.
+-- the count of states is 0, so that an empty one is refused too; and for the same reason another count of kinds is.
 abbrev pub withoutGame : ℕ → PlainUpdate → Refusal
 withoutGame kinds (single c) = record { number = cond (misnamed c) 1 (cond (unknownKind kinds c) 4 6); position = Position.Alone }
 withoutGame kinds (batch xs) = record { number = 2; position = Position.Line 0 }
+
+abbrev pub refusedWithoutGame : ℕ → PlainCommand → Refusal
+refusedWithoutGame kinds (update u) = withoutGame kinds u
+refusedWithoutGame kinds (setKinds k) = record { number = 2; position = Position.Alone }
 
 -- how many states are on the open path
 abbrev pub heightOf : Config → ℕ
@@ -81,14 +91,14 @@ pub record Loads (l : Load) (lent : List ℕ) (r : Outcome) (lent′ : List ℕ)
   -- what a refused load hands back in place of a session has no state, so every call on it is refused
   pub empty : (n : ℕ) → loadTrial l (length lent) ≡ refused n → r .session ≡ noGame
 
--- A CALL: one change, or a batch. For every plain table that the session holds: the answer and the lent list are the plain table's, and the new session holds the
+-- A CALL: one change, a batch, or another count of kinds. For every plain table that the session holds: the answer and the lent list are the plain table's, and the new session holds the
 -- table that the call leaves. For every session, forged too: a refusal gives back the session and the list as they were. What a refused load hands back holds no
 -- table, and every call on it is refused.
-pub record Updates (u : PlainUpdate) (s : Session) (lent : List ℕ) (r : Outcome) (lent′ : List ℕ) : Type 0 where
-  pub answers : (t : Table) → Holds s t → Answered (answerTo (callOf u lent) t) lent (r .answer) lent′
-  pub holds : (t : Table) → Holds s t → Holds (r .session) (tableAfter (callOf u lent) t)
+pub record Updates (c : PlainCommand) (s : Session) (lent : List ℕ) (r : Outcome) (lent′ : List ℕ) : Type 0 where
+  pub answers : (t : Table) → Holds s t → Answered (answerTo (callOf c lent) t) lent (r .answer) lent′
+  pub holds : (t : Table) → Holds s t → Holds (r .session) (tableAfter (callOf c lent) t)
   pub refused : (n : Refusal) → r .answer ≡ Refused n → (r .session ≡ s) × (lent′ ≡ lent)
-  pub no-game : s .size ≡ 0 → r .answer ≡ Refused (withoutGame (s .kinds) u)
+  pub no-game : s .size ≡ 0 → r .answer ≡ Refused (refusedWithoutGame (s .kinds) c)
 
 -- A QUESTION. For every plain table that the session holds, the reply is the plain table's. For every session, forged too: a state that is not below its count of states is
 -- refused with 6, so every state where there is no game. The counts replied of any other state of a forged session are left open. The operation takes the session and the question
@@ -101,7 +111,7 @@ pub record Replies (q : Question) (s : Session) (r : Reply) : Type 0 where
 
 -- one call as it was made: what it was given, what it answered, and what the lent list then held
 pub record Exchange : Type 0 where
-  pub asked : PlainUpdate
+  pub asked : PlainCommand
   pub lent : List ℕ
   pub answered : Answer
   pub after : List ℕ
@@ -130,9 +140,9 @@ lineOf (posed q r) = replyShown r
 -- calls on a session and questions, in any order: each call is given the session that the call before it returned, and so is a question. Each is known by its contract alone.
 pub data Served : Session → List Event → Type 0 where
   done : {s : Session} → Served s []
-  call : {s : Session} (u : PlainUpdate) (lent : List ℕ) (r : Outcome) (lent′ : List ℕ) (xs : List Event)
-      → Updates u s lent r lent′ → Served (r .session) xs
-      → Served s (made (record { asked = u; lent = lent; answered = r .answer; after = lent′ }) ∷ xs)
+  call : {s : Session} (c : PlainCommand) (lent : List ℕ) (r : Outcome) (lent′ : List ℕ) (xs : List Event)
+      → Updates c s lent r lent′ → Served (r .session) xs
+      → Served s (made (record { asked = c; lent = lent; answered = r .answer; after = lent′ }) ∷ xs)
   ask : {s : Session} (q : Question) (r : Reply) (xs : List Event) → Replies q s r → Served s xs → Served s (posed q r ∷ xs)
 
 -- ---- demand 3
@@ -179,12 +189,12 @@ pub record LoopsTold (l : Load) (r : Outcome) (lent′ : List ℕ) (xs : List Ev
 
 -- A batch of one change, and that change, each asked of the same session with the same list, where the change is accepted: the answer is the same, with its counts, the
 -- same list is left, with its walk, and the sessions that are returned hold the same table.
-pub record SameCall (u v : PlainUpdate) (lent : List ℕ) (t : Table) (r r₂ : Outcome) (lent′ lent₂ : List ℕ) : Type 0 where
+pub record SameCall (c d : PlainCommand) (lent : List ℕ) (t : Table) (r r₂ : Outcome) (lent′ lent₂ : List ℕ) : Type 0 where
   pub same-answer : r .answer ≡ r₂ .answer
   pub same-list : lent′ ≡ lent₂
-  pub same-table : tableAfter (callOf u lent) t ≡ tableAfter (callOf v lent) t
-  pub holds : Holds (r .session) (tableAfter (callOf v lent) t)
-  pub holds₂ : Holds (r₂ .session) (tableAfter (callOf v lent) t)
+  pub same-table : tableAfter (callOf c lent) t ≡ tableAfter (callOf d lent) t
+  pub holds : Holds (r .session) (tableAfter (callOf d lent) t)
+  pub holds₂ : Holds (r₂ .session) (tableAfter (callOf d lent) t)
 
 -- An accepted batch, and its changes as calls of their own from the same session on, with lists of the same length: the batch and the changes tell what the plain table
 -- tells of them, and of the plain table it is proved that the batch's answer and the last of theirs tell the same verdict, walk and total (OneByOne).

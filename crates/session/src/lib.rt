@@ -1,5 +1,6 @@
 // One session: the game's table and the records of its search. It is made by a load and by nothing else.
 use batch::BatchLine;
+use batch::Command;
 use batch::Update;
 use question::Question;
 use question::Reply;
@@ -22,8 +23,8 @@ ghost use Rattle.search.specs.Core.{gameOf, Lengths};
 ghost use Rattle.table.specs.Trials.{arraysOf, opOf};
 ghost use Rattle.question.specs.Replies.{questionOf};
 ghost use Rattle.batch.specs.Batches.{switchIn, lineIn, linesIn, statesIn as namedIn, numbersIn};
-ghost use Rattle.session.specs.Model.{unexploredEdge, copyPassedOver, passedOverIn, allPassedOver, namedMost, copiesUp, copiesUpAll, firstOf, earliestOf, statesIn, resumptionOf, isFound, verdictOf, noVerdict, recordsOf, Sought, isAlone, onlyLine, noGame, Settles, UpdatedIn};
-ghost use Rattle.session.specs.Promises.{updateOf, Loads, Updates, Replies};
+ghost use Rattle.session.specs.Model.{unexploredEdge, copyPassedOver, passedOverIn, allPassedOver, namedMost, copiesUp, copiesUpAll, firstOf, earliestOf, statesIn, resumptionOf, isFound, verdictOf, noVerdict, recordsOf, Sought, isAlone, onlyLine, noGame, Settles, SettlesAfresh, UpdatedIn, KindsSet, Performed};
+ghost use Rattle.session.specs.Promises.{commandOf, Loads, Updates, Replies};
 
 // What a search has come to: the lengths of stem and walk (0: no walk), the height of the open path, and the probes.
 struct Verdict {
@@ -34,10 +35,11 @@ struct Verdict {
     kept: u16,
 }
 
-// The answer to a call, and what its search has come to.
+// The answer to a call, what its search has come to, and the count of kinds that it leaves.
 struct Settled {
     answer: Answer,
     verdict: Verdict,
+    kinds: u16,
 }
 
 // Where a search is taken up: nowhere, since it had not come to what a change alters, or where the state was discovered that the change names.
@@ -495,7 +497,50 @@ fn settle(
     );
     let above = look::down(kinds);
     let answer = verdict::tell(v.spent, v.kept, v.stem, v.length, size, above, walk, lent);
-    Settled { answer, verdict: v }
+    Settled {
+        answer,
+        verdict: v,
+        kinds,
+    }
+}
+
+// Searches from the start and answers. Of what the arrays of a search held before, nothing is used.
+fn search_afresh(
+    targets: &[u16; 2048],
+    starts: &[u16; 513],
+    words: &[u64; 8],
+    number: &mut [u16; 512],
+    parent: &mut [u16; 512],
+    index: &mut [u16; 512],
+    probes: &mut [u16; 512],
+    stamp: &mut [u16; 512],
+    walk: &mut [u16; 512],
+    size: u16,
+    kinds: u16,
+    start: u16,
+    lent: &mut [u16],
+) -> Settled
+    requires { ⌜ Tabled (now targets) (now starts) × Lengths (now number) (now parent) (now index) (now probes) (now stamp) (now walk) ⌝ }
+    ensures { λ r. ⌜ SettlesAfresh size kinds (gameOf (now (targets .entry)) (layered size (kinds - 1) (now (starts .entry)) (now (words .entry))) (now (words .entry)) size) start (now (walk .entry)) (now (lent .entry)) r (recordsOf (now (number .exit)) (now (parent .exit)) (now (index .exit)) (now (probes .exit)) (now (stamp .exit)) (now (walk .exit))) (now (lent .exit)) ⌝ }
+{
+    search::begin(number, parent, index, probes, stamp, start);
+    settle(
+        targets,
+        starts,
+        words,
+        number,
+        parent,
+        index,
+        probes,
+        stamp,
+        walk,
+        size,
+        kinds,
+        start,
+        Resumption::At(start),
+        no_verdict(),
+        lent,
+    )
 }
 
 // Loads a game: the count of states, the start state, the count of kinds of pay, the paying words, eight for each of four kinds, the moves as a list of numbers, and the list lent
@@ -537,15 +582,7 @@ pub fn load(
     let mut probes: [u16; 512] = [0; 512];
     let mut stamp: [u16; 512] = [0; 512];
     let mut walk: [u16; 512] = [0; 512];
-    search::begin(
-        &mut number,
-        &mut parent,
-        &mut index,
-        &mut probes,
-        &mut stamp,
-        start,
-    );
-    let r = settle(
+    let r = search_afresh(
         &targets,
         &starts,
         &words,
@@ -558,8 +595,6 @@ pub fn load(
         size,
         kinds,
         start,
-        Resumption::At(start),
-        no_verdict(),
         lent,
     );
     let answer = r.answer;
@@ -644,6 +679,7 @@ fn update_in(
         return Settled {
             answer: verdict::refused(n, position),
             verdict: old,
+            kinds,
         };
     }
     settle(
@@ -661,6 +697,53 @@ fn update_in(
         start,
         from,
         old,
+        lent,
+    )
+}
+
+// Another count of kinds on the arrays of a session: tried and set in the table's, then searched from the start and answered. Where it is refused, all are as they were.
+fn set_kinds_in(
+    new: u16,
+    targets: &[u16; 2048],
+    starts: &[u16; 513],
+    words: &mut [u64; 8],
+    number: &mut [u16; 512],
+    parent: &mut [u16; 512],
+    index: &mut [u16; 512],
+    probes: &mut [u16; 512],
+    stamp: &mut [u16; 512],
+    walk: &mut [u16; 512],
+    size: u16,
+    kinds: u16,
+    start: u16,
+    old: Verdict,
+    lent: &mut [u16],
+) -> Settled
+    requires { ⌜ Tabled (now targets) (now starts) × Lengths (now number) (now parent) (now index) (now probes) (now stamp) (now walk) ⌝ }
+    ensures { λ r. ⌜ KindsSet new size kinds start old (rowsOf (now (targets .entry)) (now (starts .entry))) (now (words .entry)) (recordsOf (now (number .entry)) (now (parent .entry)) (now (index .entry)) (now (probes .entry)) (now (stamp .entry)) (now (walk .entry))) (now (lent .entry)) r (now (words .exit)) (recordsOf (now (number .exit)) (now (parent .exit)) (now (index .exit)) (now (probes .exit)) (now (stamp .exit)) (now (walk .exit))) (now (lent .exit)) ⌝ }
+{
+    let room = lent.len();
+    let trial = table::attempt_kinds(new, size, kinds, starts, words, room);
+    if let Trial::Refused(n) = trial {
+        return Settled {
+            answer: verdict::refused(n, Position::Alone),
+            verdict: old,
+            kinds,
+        };
+    }
+    search_afresh(
+        targets,
+        starts,
+        words,
+        number,
+        parent,
+        index,
+        probes,
+        stamp,
+        walk,
+        size,
+        new,
+        start,
         lent,
     )
 }
@@ -689,13 +772,75 @@ fn only_line(asked: Update) -> BatchLine
     }
 }
 
-// A call on a session: one change of the game, or a batch of lines, which are all made or none. Of a batch, `lines` has three numbers for each line (BatchLine); a
-// change alone does not read it. The list lent for the walk comes last. There is one exit, so that the session is copied out and in once.
-pub fn update(s: Session, asked: Update, lines: &[u16], lent: &mut [u16]) -> Outcome
-    ensures { λ r. ⌜ Updates (updateOf asked (now (lines .entry))) s (now (lent .entry)) r (now (lent .exit)) ⌝ }
+// A call on the arrays of a session, by what it asks for.
+fn perform(
+    command: Command,
+    lines: &[u16],
+    targets: &mut [u16; 2048],
+    starts: &mut [u16; 513],
+    words: &mut [u64; 8],
+    indegree: &mut [u16; 512],
+    number: &mut [u16; 512],
+    parent: &mut [u16; 512],
+    index: &mut [u16; 512],
+    probes: &mut [u16; 512],
+    stamp: &mut [u16; 512],
+    walk: &mut [u16; 512],
+    size: u16,
+    kinds: u16,
+    start: u16,
+    old: Verdict,
+    lent: &mut [u16],
+) -> Settled
+    requires { ⌜ Tabled (now targets) (now starts) × (length (now indegree) ≡ 512) × Lengths (now number) (now parent) (now index) (now probes) (now stamp) (now walk) ⌝ }
+    ensures { λ r. ⌜ Performed command (now (lines .entry)) size kinds start old (arraysOf (now (targets .entry)) (now (starts .entry)) (now (words .entry)) (now (indegree .entry))) (recordsOf (now (number .entry)) (now (parent .entry)) (now (index .entry)) (now (probes .entry)) (now (stamp .entry)) (now (walk .entry))) (now (lent .entry)) r (arraysOf (now (targets .exit)) (now (starts .exit)) (now (words .exit)) (now (indegree .exit))) (recordsOf (now (number .exit)) (now (parent .exit)) (now (index .exit)) (now (probes .exit)) (now (stamp .exit)) (now (walk .exit))) (now (lent .exit)) ⌝ }
 {
-    let alone = is_alone(asked);
-    let only = only_line(asked);
+    match command {
+        Command::Update(asked) => update_in(
+            is_alone(asked),
+            only_line(asked),
+            lines,
+            targets,
+            starts,
+            words,
+            indegree,
+            number,
+            parent,
+            index,
+            probes,
+            stamp,
+            walk,
+            size,
+            kinds,
+            start,
+            old,
+            lent,
+        ),
+        Command::Kinds(new) => set_kinds_in(
+            new,
+            targets,
+            starts,
+            words,
+            number,
+            parent,
+            index,
+            probes,
+            stamp,
+            walk,
+            size,
+            kinds,
+            start,
+            old,
+            lent,
+        ),
+    }
+}
+
+// A call on a session: one change of the game, a batch of lines, which are all made or none, or another count of kinds. Of a batch, `lines` has three numbers for each line
+// (BatchLine); no other call reads it. The list lent for the walk comes last. There is one exit, so that the session is copied out and in once.
+pub fn update(s: Session, command: Command, lines: &[u16], lent: &mut [u16]) -> Outcome
+    ensures { λ r. ⌜ Updates (commandOf command (now (lines .entry))) s (now (lent .entry)) r (now (lent .exit)) ⌝ }
+{
     let mut words = s.words;
     let mut targets = s.targets;
     let mut starts = s.starts;
@@ -713,9 +858,8 @@ pub fn update(s: Session, asked: Update, lines: &[u16], lent: &mut [u16]) -> Out
         spent: 0,
         kept: s.total,
     };
-    let r = update_in(
-        alone,
-        only,
+    let r = perform(
+        command,
         lines,
         &mut targets,
         &mut starts,
@@ -740,7 +884,7 @@ pub fn update(s: Session, asked: Update, lines: &[u16], lent: &mut [u16]) -> Out
         session: Session {
             size: s.size,
             start: s.start,
-            kinds: s.kinds,
+            kinds: r.kinds,
             words,
             targets,
             starts,

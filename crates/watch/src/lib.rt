@@ -86,7 +86,7 @@ pub fn serve(
             &numbers[..n],
             walk,
         ),
-        Ask::Update(asked) => session::update(s, asked, &numbers[..n], walk),
+        Ask::Call(command) => session::update(s, command, &numbers[..n], walk),
     }
 }
 
@@ -195,7 +195,7 @@ fn put_lines(
         Task::Refuse(refusal) => put_one(Answer::Refused(refusal), walk, out),
         Task::Ask(ask) => match ask {
             Ask::Load => put_load(lead, marks, answer, walk, out),
-            Ask::Update(asked) => put_one(answer, walk, out),
+            Ask::Call(command) => put_one(answer, walk, out),
         },
         Task::Question(question) => {
             let n = put_reply(out, reply);
@@ -225,7 +225,7 @@ fn lead_behind(plan: Plan, answer: Answer) -> Lead
         Task::Refuse(refusal) => lead,
         Task::Ask(ask) => match ask {
             Ask::Load => lead_loaded(lead, answer),
-            Ask::Update(asked) => lead,
+            Ask::Call(command) => lead,
         },
         Task::Question(question) => lead,
     }

@@ -7,7 +7,7 @@ use Rattle.plain.specs.Table.{byKind}
 use Rattle.plain.specs.Refusals.{Load, accepted, loadTrial}
 use Rattle.table.proofs.Trying.{tried-accepted}
 use Rattle.table.proofs.Holding.{packs, four-kinds}
-use Rattle.session.proofs.Loaded.{load-refused, load-accepted, fresh-lengths, settles-fresh}
+use Rattle.session.proofs.Loaded.{load-refused, load-accepted}
 use borrow.Author.Needs.{needs}
 use Rattle.session.proofs.load.Statement.{statement}
 use Rattle.session.proofs.load.Tie as tie
@@ -63,27 +63,28 @@ pack-requires c κs =
 count-edges-requires : tie.Need-count-edges-requires
 count-edges-requires c κs = search needs
 
-begin-requires : tie.Need-begin-requires
-begin-requires c κs = search needs
+-- the places before the search
+abbrev counted : tie.After-search-afresh-arg → tie.After-count-edges
+counted c = c .before .before .before .before .before .before .before .before .before .before
 
-no-verdict-requires : tie.Need-no-verdict-requires
-no-verdict-requires c κs = search needs
-
--- the places before settling
-abbrev fresh : tie.After-settle-arg → tie.After-begin
-fresh c = c .before .before .before .before .before .before .before .before .before .before .before
-
-abbrev counted : tie.After-settle-arg → tie.After-count-edges
-counted c = fresh c .before .before .before .before .before .before
-
-abbrev packed : tie.After-settle-arg → tie.After-pack
+abbrev packed : tie.After-search-afresh-arg → tie.After-pack
 packed c = counted c .before .before
 
-abbrev tried-at : tie.After-settle-arg → tie.After-enum-told
+abbrev tried-at : tie.After-search-afresh-arg → tie.After-enum-told
 tried-at c = packed c .before .before
 
-settle-requires : tie.Need-settle-requires
-settle-requires c κs = (tried-at c .before .before .load-trial .ensures .filed (tried-at c .enum-told .given .1) .compressed .tabled, fresh-lengths (fresh c .begin .ensures) (length-replicate 512 zero))
+search-afresh-requires : tie.Need-search-afresh-requires
+search-afresh-requires c κs = (
+  tried-at c .before .before .load-trial .ensures .filed (tried-at c .enum-told .given .1) .compressed .tabled,
+  record {
+    number-size = length-replicate 512 zero;
+    parent-size = length-replicate 512 zero;
+    index-size = length-replicate 512 zero;
+    probes-size = length-replicate 512 zero;
+    stamp-size = length-replicate 512 zero;
+    walk-size = length-replicate 512 zero;
+  },
+)
 
 total-of-requires : tie.Need-total-of-requires
 total-of-requires c κs = search needs
@@ -98,9 +99,9 @@ returns-2 c =
     let e = tried-at g in
     let n = e .before .before .load-trial in
     let s = begun (e .before .before) in
-    load-accepted (game s) (now (s .args .lent)) _ _ _ _ _ (w .settle .result) (replicate 512 zero)
+    load-accepted (game s) (now (s .args .lent)) _ _ _ _ _ (w .search-afresh .result) (replicate 512 zero)
     (is-accepted e) (n .ensures .filed (e .enum-told .given .1)) (counted g .count-edges .ensures) (length-replicate 512 zero) (four-kinds (s .args .t4) (sized s)) (packed g .pack .ensures)
-    (settles-fresh (fresh g .begin .ensures) (g .before .no-verdict .ensures) (w .settle .ensures)) (c .total-of .result) (c .total-of .ensures)
+    (w .search-afresh .ensures) (c .total-of .result) (c .total-of .ensures)
 
 pub load-spec : {M : Type 1} → statement M
 load-spec =
@@ -114,9 +115,7 @@ load-spec =
     enum-told
     pack-requires
     count-edges-requires
-    begin-requires
-    no-verdict-requires
-    settle-requires
+    search-afresh-requires
     total-of-requires
     same-length
     returns-2)

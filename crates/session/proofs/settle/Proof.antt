@@ -1,5 +1,5 @@
 -- `settle` meets its contract. Assumes nothing.
-use mathlib.Core.Path.{_≡_, subst}
+use mathlib.Core.Path.{_≡_, refl, subst}
 use mathlib.Core.List.{List}
 use Prim.Native.Nat.{ℕ}
 use borrow.Author.Needs.{needs}
@@ -33,6 +33,7 @@ returns c =
     record {
       sought = s .seek .ensures .0;
       tells = above _ _ _ _ (s .before .before .before .before .before .before .before .before .args .size) _ _ (s .seek .last .1 .1 .1 .1 .1 .1 .1 .1 .0) _ _ _ (d .down .ensures) (t .tell .ensures);
+      kinds-is = refl;
     }
 
 pub settle-spec : {M : Type 1} → statement M

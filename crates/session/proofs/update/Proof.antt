@@ -6,16 +6,13 @@ use lib.ListN.{length}
 use denote.Ref.{now}
 use Rattle.rows.specs.Rows.{Tabled}
 use Rattle.search.specs.Core.{Lengths}
-use Rattle.session.proofs.Accepted.{update-right}
+use Rattle.session.proofs.Performing.{update-right}
 use borrow.Author.Needs.{needs}
 use Rattle.session.proofs.update.Statement.{statement}
 use Rattle.session.proofs.update.Tie as tie
 
-abbrev lined : tie.After-update-in-arg → tie.After-only-line
-lined c = c .before .before .before .before .before .before .before .before .before .before .before .before .before .before .before .before .before .before .before .before .before
-
-abbrev begun : tie.After-update-in-arg → tie.Start
-begun c = lined c .before .before .before .before
+abbrev begun : tie.After-perform-arg → tie.Start
+begun c = c .before .before .before .before .before .before .before .before .before .before .before .before .before .before .before .before .before .before .before .before .before .before .before
 
 -- the arrays of a session have the sizes of their types
 sizes : (b : tie.Start) → Lengths (b .args .s .number) (b .args .s .parent) (b .args .s .index) (b .args .s .probes) (b .args .s .stamp) (b .args .s .walk)
@@ -37,14 +34,8 @@ counts b = search needs
 range : (b : tie.Start) → b .args .s .total < 65536
 range b = search needs
 
-is-alone-requires : tie.Need-is-alone-requires
-is-alone-requires c κs = search needs
-
-only-line-requires : tie.Need-only-line-requires
-only-line-requires c κs = search needs
-
-update-in-requires : tie.Need-update-in-requires
-update-in-requires c κs = (tabled (begun c), counts (begun c), sizes (begun c))
+perform-requires : tie.Need-perform-requires
+perform-requires c κs = (tabled (begun c), counts (begun c), sizes (begun c))
 
 total-of-requires : tie.Need-total-of-requires
 total-of-requires c κs = search needs
@@ -55,10 +46,9 @@ same-length c = search needs
 returns : tie.Need-returns
 returns c =
     let w = c .before .before .before .before in
-    let l = lined (w .before) in
     let b = begun (w .before) in
-    update-right (b .args .asked) (l .before .is-alone .result) (l .only-line .result) (l .before .is-alone .ensures) (l .only-line .ensures) (now (b .args .lines)) (b .args .s) (now (b .args .lent)) _ _ _
-    (w .update-in .result) (c .total-of .result) (omega (arith, range b)) (c .total-of .ensures) (w .update-in .ensures)
+    update-right (b .args .command) (now (b .args .lines)) (b .args .s) (now (b .args .lent)) _ _ _
+    (w .perform .result) (c .total-of .result) (sizes b .walk-size) (omega (arith, range b)) (c .total-of .ensures) (w .perform .ensures)
 
 pub update-spec : {M : Type 1} → statement M
-update-spec = tie.close (tie.spec is-alone-requires only-line-requires update-in-requires total-of-requires same-length returns)
+update-spec = tie.close (tie.spec perform-requires total-of-requires same-length returns)
