@@ -1,7 +1,7 @@
 -- What a line asks for, one law for each way through the code. Assumes nothing.
 use Prim.Native.Nat.{_+_, _≤_, _<_}
-use mathlib.Core.Path.{_≡_, refl}
-use mathlib.Core.Bool.{Bool, true, false, _&&_, and-false, cond}
+use mathlib.Core.Path.{_≡_, refl, sym, ap}
+use mathlib.Core.Bool.{Bool, true, false, _&&_, and-false}
 use mathlib.Core.List.{[], _∷_}
 use mathlib.Core.Logic.{⊎-elim}
 use native.Mathlib.Omega.{arith}
@@ -10,6 +10,7 @@ use types.Run.{OneOf}
 use borrow.Author.Tests.{eq-eqb, ne-eqb, lt-ltb, le-ltb}
 use lib.Dec.{eqb}
 use Rattle.line.specs.Words.{isWord}
+use Rattle.line.specs.declared.Word.{Word}
 use Rattle.line.specs.declared.Word.the-variants.{Game, Pay, Move, Go, End, Kinds}
 use Rattle.line.specs.declared.Record.{Record}
 use Rattle.batch.specs.Batches.{lineFor}
@@ -18,7 +19,7 @@ use Rattle.lead.specs.declared.Stage.the-variants.{Opened, Gathering, Ov
 use Rattle.lead.specs.declared.Lead.{Lead}
 use Rattle.lead.specs.declared.Request.{Request}
 use Rattle.lead.specs.declared.Request.the-variants as R
-use Rattle.lead.specs.Asked.{staged, noTask, refusing, loading, ending, batching, isFull, askedFirst, askedMove, askedBefore, askedOpened, heldMost, holding, askedInside, askedAt, asked, lineFrom}
+use Rattle.lead.specs.Asked.{staged, noTask, refusing, loading, ending, batching, isFull, askedFirst, askedMove, askedBefore, askedOpened, requestBy, requestOf, heldMost, holding, askedInside, askedAt, asked, lineFrom}
 use Rattle.lead.proofs.Request.{the-type}
 
 -- ---- a `move`
@@ -92,19 +93,17 @@ module _ (l : Lead) (r : Record) where
 
 -- ---- after `go`
 
--- a line in the order of the words: this one, or one behind it
-module _ (x y : Request) {b : Bool} {q : Request} where
-  pub request-is : b ≡ true → cond b x y ≡ q → x ≡ q
-  request-is e h = rw e at h
-
-  pub request-behind : b ≡ false → cond b x y ≡ q → y ≡ q
-  request-behind e h = rw e at h
+-- what a line requests goes by its word
+pub request-at : (r : Record) (w : Word) → r .word ≡ w → requestBy w (r .first) (r .second) ≡ requestOf r
+unfolding requestOf
+request-at r w e = ap (λ (x : Word). requestBy x (r .first) (r .second)) (sym e)
 
 -- a line that requests no change: the tags of the others
-pub no-change : (q : Request) → OneOf (1 ∷ 2 ∷ 3 ∷ 4 ∷ []) (tagOf the-type q) → lineFor 0 0 0 ≡ lineFrom q
-no-change (R.Change op) o = absurd (⊎-elim (λ z. omega arith) (⊎-elim (λ z. omega arith) (⊎-elim (λ z. omega arith) (λ z. omega arith))) o)
+pub no-change : (q : Request) → OneOf (1 ∷ 2 ∷ 3 ∷ 4 ∷ 5 ∷ []) (tagOf the-type q) → lineFor 0 0 0 ≡ lineFrom q
+no-change (R.Change op) o = absurd (⊎-elim (λ z. omega arith) (⊎-elim (λ z. omega arith) (⊎-elim (λ z. omega arith) (⊎-elim (λ z. omega arith) (λ z. omega arith)))) o)
 no-change R.Begin o = refl
 no-change R.End o = refl
+no-change (R.Kinds k) o = refl
 no-change (R.Question q) o = refl
 no-change R.Unknown o = refl
 

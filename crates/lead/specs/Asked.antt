@@ -8,12 +8,14 @@ use lib.ListN.{length}
 use Rattle.plain.specs.Table.{withMark}
 use Rattle.line.specs.Words.{isWord}
 use Rattle.line.specs.declared.Word.the-variants.{Game, Pay, Move, Go, Kinds}
+use Rattle.line.specs.declared.Word.{Word}
 use Rattle.line.specs.declared.Word.the-variants as Word
 use Rattle.line.specs.declared.Record.{Record}
 use Rattle.answer.specs.Bytes.{overwritten}
 use Rattle.table.specs.declared.Op.{Op}
 use Rattle.table.specs.declared.Op.the-variants.{Add, Cut, Mark, Unmark}
 use Rattle.batch.specs.declared.Update.the-variants.{Change, Batch}
+use Rattle.batch.specs.declared.Command.the-variants as Command
 use Rattle.table.specs.declared.Position.the-variants.{Alone}
 use Rattle.batch.specs.declared.BatchLine.{BatchLine}
 use Rattle.batch.specs.Batches.{lineFor, lineTo}
@@ -22,7 +24,7 @@ use Rattle.question.specs.declared.Topic.the-variants.{Ways}
 use Rattle.lead.specs.declared.Stage.{Stage}
 use Rattle.lead.specs.declared.Stage.the-variants.{Waiting, Opened, Gathering, Playing, Batching, Over}
 use Rattle.lead.specs.declared.Lead.{Lead}
-use Rattle.lead.specs.declared.Ask.the-variants.{Load as AskLoad, Update as AskUpdate}
+use Rattle.lead.specs.declared.Ask.the-variants.{Load as AskLoad, Call as AskCall}
 use Rattle.lead.specs.declared.Request.{Request}
 use Rattle.lead.specs.declared.Request.the-variants as R
 use Rattle.lead.specs.declared.Task.the-variants.{Nothing, Refuse, Ask as Asks, Question as Questions}
@@ -52,7 +54,11 @@ loading l = record { lead = l; task = Asks AskLoad }
 
 -- a change is asked of the session
 abbrev pub changing : Op → Lead → Plan
-changing op l = record { lead = l; task = Asks (AskUpdate (Change op)) }
+changing op l = record { lead = l; task = Asks (AskCall (Command.Update (Change op))) }
+
+-- another count of kinds is
+abbrev pub settingKinds : ℕ → Lead → Plan
+settingKinds k l = record { lead = l; task = Asks (AskCall (Command.Kinds k)) }
 
 -- a question is
 abbrev pub questioning : Question → Lead → Plan
@@ -60,7 +66,7 @@ questioning q l = record { lead = l; task = Questions q }
 
 -- the batch that is held is asked of it
 abbrev pub ending : Lead → Plan
-ending l = record { lead = staged Playing l; task = Asks (AskUpdate Batch) }
+ending l = record { lead = staged Playing l; task = Asks (AskCall (Command.Update Batch)) }
 
 -- inside a batch, with so many numbers of its lines
 abbrev pub batching : Lead → ℕ → Lead
@@ -100,23 +106,32 @@ askedOpened l r = cond (isWord (r .word) Kinds)
     (noTask (record { stage = Gathering; size = l .size; start = l .start; kinds = r .first; count = 0 }))
     (askedBefore l r)
 
--- ".. then `add` and `cut`"; ticket 2: "Lines `mark` and `unmark` name a state"; ticket 5: `begin` and `end`; ticket 8: `ways`
+-- ".. then `add` and `cut`"; ticket 2: "Lines `mark` and `unmark` name a state"; ticket 5: `begin` and `end`; ticket 8: `ways`; ticket 10: `kinds`, "after `go` as well". Any other word is
+-- misplaced.
+abbrev pub requestBy : Word → ℕ → ℕ → Request
+requestBy Word.Add first second = R.Change (Add first second)
+requestBy Word.Cut first second = R.Change (Cut first second)
+requestBy Word.Mark first second = R.Change (Mark first second)
+requestBy Word.Unmark first second = R.Change (Unmark first second)
+requestBy Word.Begin first second = R.Begin
+requestBy Word.End first second = R.End
+requestBy Word.Kinds first second = R.Kinds first
+requestBy Word.Ways first second = R.Question (record { topic = Ways; number = first })
+requestBy Word.Game first second = R.Unknown
+requestBy Word.Pay first second = R.Unknown
+requestBy Word.Move first second = R.Unknown
+requestBy Word.Go first second = R.Unknown
+requestBy Word.Unreadable first second = R.Unknown
+
 unfoldable pub requestOf : Record → Request
-requestOf r =
-    cond (isWord (r .word) Word.Add) (R.Change (Add (r .first) (r .second)))
-    (cond (isWord (r .word) Word.Cut) (R.Change (Cut (r .first) (r .second)))
-    (cond (isWord (r .word) Word.Mark) (R.Change (Mark (r .first) (r .second)))
-    (cond (isWord (r .word) Word.Unmark) (R.Change (Unmark (r .first) (r .second)))
-    (cond (isWord (r .word) Word.Begin) R.Begin
-    (cond (isWord (r .word) Word.End) R.End
-    (cond (isWord (r .word) Word.Ways) (R.Question (record { topic = Ways; number = r .first }))
-    R.Unknown))))))
+requestOf r = requestBy (r .word) (r .first) (r .second)
 
 -- outside a batch an `end` is misplaced
 abbrev pub planFor : Request → Lead → Plan
 planFor (R.Change op) l = changing op l
 planFor R.Begin l = noTask (batching l 0)
 planFor R.End l = refusing Playing l 1
+planFor (R.Kinds k) l = settingKinds k l
 planFor (R.Question q) l = questioning q l
 planFor R.Unknown l = refusing Playing l 1
 
@@ -205,6 +220,7 @@ abbrev pub lineFrom : Request → BatchLine
 lineFrom (R.Change op) = lineTo op
 lineFrom R.Begin = lineFor 0 0 0
 lineFrom R.End = lineFor 0 0 0
+lineFrom (R.Kinds k) = lineFor 0 0 0
 lineFrom (R.Question q) = lineFor 0 0 0
 lineFrom R.Unknown = lineFor 0 0 0
 

@@ -236,40 +236,30 @@ fn request_of(r: Record) -> Request
     let word = r.word;
     let from = r.first;
     let to = r.second;
-    if is_word(word, Word::Add) {
-        return Request::Change(Op::Add { from, to });
-    }
-    if is_word(word, Word::Cut) {
-        return Request::Change(Op::Cut { from, to });
-    }
-    if is_word(word, Word::Mark) {
-        return Request::Change(Op::Mark {
+    match word {
+        Word::Add => Request::Change(Op::Add { from, to }),
+        Word::Cut => Request::Change(Op::Cut { from, to }),
+        Word::Mark => Request::Change(Op::Mark {
             state: from,
             kind: to,
-        });
-    }
-    if is_word(word, Word::Unmark) {
-        return Request::Change(Op::Unmark {
+        }),
+        Word::Unmark => Request::Change(Op::Unmark {
             state: from,
             kind: to,
-        });
-    }
-    if is_word(word, Word::Begin) {
-        return Request::Begin;
-    }
-    if is_word(word, Word::End) {
-        return Request::End;
-    }
-    if is_word(word, Word::Kinds) {
-        return Request::Kinds(from);
-    }
-    if is_word(word, Word::Ways) {
-        return Request::Question(Question {
+        }),
+        Word::Begin => Request::Begin,
+        Word::End => Request::End,
+        Word::Kinds => Request::Kinds(from),
+        Word::Ways => Request::Question(Question {
             topic: Topic::Ways,
             number: from,
-        });
+        }),
+        Word::Game => Request::Unknown,
+        Word::Pay => Request::Unknown,
+        Word::Move => Request::Unknown,
+        Word::Go => Request::Unknown,
+        Word::Unreadable => Request::Unknown,
     }
-    Request::Unknown
 }
 
 // The lead inside a batch, with so many numbers of its lines.

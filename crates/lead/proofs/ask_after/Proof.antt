@@ -33,6 +33,12 @@ refusing-requires c κs = search needs
 enum-known-request-2 : tie.Need-enum-known-request-2
 enum-known-request-2 c = search needs
 
+setting-kinds-requires : tie.Need-setting-kinds-requires
+setting-kinds-requires c κs = search needs
+
+enum-known-request-3 : tie.Need-enum-known-request-3
+enum-known-request-3 c = search needs
+
 questioning-requires : tie.Need-questioning-requires
 questioning-requires c κs = search needs
 
@@ -63,10 +69,15 @@ returns-3 c = c .refusing .ensures ∙ plan-is (c .before .before .before) (c .b
 returns-4 : tie.Need-returns-4
 returns-4 c =
     let q = c .before .before in
-    c .questioning .ensures ∙ plan-is (q .before .before) (q .request2 .given .1)
+    c .setting-kinds .ensures ∙ plan-is (q .before .before) (q .request2 .given .1)
 
 returns-5 : tie.Need-returns-5
-returns-5 c = c .refusing2 .ensures ∙ plan-is (c .before .before .before) (c .before .enum-told3 .given .1)
+returns-5 c =
+    let q = c .before .before in
+    c .questioning .ensures ∙ plan-is (q .before .before) (q .request3 .given .1)
+
+returns-6 : tie.Need-returns-6
+returns-6 c = c .refusing2 .ensures ∙ plan-is (c .before .before .before) (c .before .enum-told3 .given .1)
 
 pub ask-after-spec : {M : Type 1} → statement M
 ask-after-spec =
@@ -81,6 +92,8 @@ ask-after-spec =
     enum-told-2
     refusing-requires
     enum-known-request-2
+    setting-kinds-requires
+    enum-known-request-3
     questioning-requires
     enum-told-3
     refusing-requires-2
@@ -88,4 +101,5 @@ ask-after-spec =
     returns-2
     returns-3
     returns-4
-    returns-5)
+    returns-5
+    returns-6)

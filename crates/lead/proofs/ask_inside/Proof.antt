@@ -2,7 +2,8 @@
 use mathlib.Core.Path.{sym, ap, _∙_}
 use Rattle.batch.specs.declared.Update.the-variants.{Batch}
 use Rattle.lead.specs.declared.Lead.{Lead}
-use Rattle.lead.specs.declared.Ask.the-variants.{Update as AskUpdate}
+use Rattle.batch.specs.declared.Command.the-variants.{Update}
+use Rattle.lead.specs.declared.Ask.the-variants.{Call}
 use Rattle.lead.specs.declared.Task.the-variants.{Ask as Asks}
 use Rattle.lead.proofs.Asking.{inside-end, inside-other}
 use borrow.Author.Needs.{needs}
@@ -17,7 +18,7 @@ staged-requires c κs = search needs
 
 returns : tie.Need-returns
 returns c =
-    ap (λ (l : Lead). record { lead = l; task = Asks (AskUpdate Batch) }) (c .staged .ensures)
+    ap (λ (l : Lead). record { lead = l; task = Asks (Call (Update Batch)) }) (c .staged .ensures)
     ∙ inside-end _ _ (sym (c .before .before .is-word .ensures) ∙ c .before .if1 .taken)
 
 holding-requires : tie.Need-holding-requires
