@@ -13,7 +13,7 @@ use lib.Seq.{take-all, take-append-le, length-take-le}
 use Rattle.plain.specs.Search.{Edge, Verdict, none, lasso, unfinished, verdict, count}
 use Rattle.plain.specs.Table.{printedVerdict, final, withMark, byKind, acceptingCount}
 use Rattle.plain.specs.Refusals.{Trial, accepted, refused, flat, loadTrial}
-use Rattle.plain.specs.Machine.{BatchLine, makes, other, single, batch, Answer as PlainAnswer, answer, inKind, loadAnswer, tableOf, answerTo, Line, gameLine, roundLine, noneLine, noLine, waysLine, answerLine}
+use Rattle.plain.specs.Machine.{BatchLine, makes, other, single, batch, Command, update, setKinds, Answer as PlainAnswer, answer, inKind, loadAnswer, tableOf, answerTo, Line, gameLine, roundLine, noneLine, noLine, waysLine, answerLine}
 use Rattle.plain.specs.Questions.{replyTo}
 use Rattle.plain.proofs.Tests.{either, and-true}
 use Rattle.plain.proofs.OneByOne.{held-call}
@@ -23,7 +23,6 @@ use Rattle.line.specs.declared.Word.{Word}
 use Rattle.line.specs.declared.Word.the-variants as W
 use Rattle.line.specs.declared.Record.{Record}
 use Rattle.line.proofs.Paying.{PayFits, other-word}
-use Rattle.table.specs.declared.Op.{Op}
 use Rattle.verdict.specs.declared.Answer.{Answer}
 use Rattle.verdict.specs.declared.Answer.the-variants.{Refused, Clear, Round}
 use Rattle.verdict.specs.Answers.{LoadAnswered, isRefused, shown}
@@ -47,10 +46,10 @@ use Rattle.lead.specs.declared.Task.the-variants.{Nothing, Refuse, Ask as Asks,
 use Rattle.lead.specs.declared.Plan.{Plan}
 use Rattle.lead.specs.declared.Request.{Request as LeadRequest}
 use Rattle.lead.specs.declared.Request.the-variants as R
-use Rattle.lead.specs.Asked.{numbersMost, staged, noTask, refusing, loading, changing, questioning as leadQuestioning, ending as endingPlan, batching as leadBatching, isFull, askedFirst, askedMove, askedBefore, askedOpened, requestOf as leadRequest, planFor, askedAfter, heldMost, holding, askedInside, askedAt, asked, gathersPay, takesPay, filedPay, gathersMove, takesMove, insideLine, takesLine, lineFrom, lineRead, numbersOf, filed}
+use Rattle.lead.specs.Asked.{numbersMost, staged, noTask, refusing, loading, questioning as leadQuestioning, ending as endingPlan, batching as leadBatching, isFull, askedFirst, askedMove, askedBefore, askedOpened, requestBy, requestOf as leadRequest, planFor, askedAfter, heldMost, holding, askedInside, askedAt, asked, gathersPay, takesPay, filedPay, gathersMove, takesMove, insideLine, takesLine, lineFrom, lineRead, numbersOf, filed}
 use Rattle.lead.proofs.Asking.{taken-at, held, not-held}
 use Rattle.lead.proofs.Filing.{pay-not, no-pay-at, numbers-kept, move-put, line-put}
-use Rattle.watch.specs.Text.{Draft, Play, Held, waiting, opened, gathering, playing, batching, ended, Step, quiet, noStep, empty, room, loadStep, loadOf, draftOf, withKinds, withPay, withMove, moveMost, updateStep, questionStep, Request, changing as changes, beginning, ending, questioning, unknown, requestOf, playStep, batchStep, inBatch, atFirst, beforeGo, behindGame, afterGo, step}
+use Rattle.watch.specs.Text.{Draft, Play, Held, waiting, opened, gathering, playing, batching, ended, Step, quiet, noStep, empty, room, loadStep, loadOf, draftOf, withKinds, withPay, withMove, moveMost, callStep, questionStep, Request, changing as changes, beginning, ending, settingKinds, questioning, unknown, requestOf, playStep, batchStep, inBatch, atFirst, beforeGo, behindGame, afterGo, step}
 use Rattle.watch.proofs.Marks.{kind-marked}
 use Rattle.watch.specs.Model.{gathered, Serves, Replied, linesFor, leadFor}
 
@@ -204,12 +203,9 @@ abbrev requested : LeadRequest → Request
 requested (R.Change op) = changes (changeOf op)
 requested R.Begin = beginning
 requested R.End = ending
+requested (R.Kinds k) = settingKinds k
 requested (R.Question q) = questioning (questionOf q)
 requested R.Unknown = unknown
-
-requested-cond : (b : Bool) (x y : LeadRequest) (z : Request) → requested y ≡ z → requested (cond b x y) ≡ cond b (requested x) z
-requested-cond true x y z h = refl
-requested-cond false x y z h = h
 
 no-word : {A : Type 0} → false ≡ true → A
 no-word e = let z : _≡_ {A = ℕ} 0 1 = cc in absurd (omega arith)
@@ -219,19 +215,29 @@ abbrev batchLine : Request → BatchLine
 batchLine (changes c) = makes c
 batchLine beginning = other
 batchLine ending = other
+batchLine (settingKinds k) = other
 batchLine (questioning q) = other
 batchLine unknown = other
 
+by-word : (w : Word) (a b : ℕ) → requested (requestBy w a b) ≡ requestOf (record { word = w; first = a; second = b })
+unfolding isWord requestOf
+by-word W.Game a b = refl
+by-word W.Pay a b = refl
+by-word W.Move a b = refl
+by-word W.Go a b = refl
+by-word W.Add a b = refl
+by-word W.Cut a b = refl
+by-word W.Mark a b = refl
+by-word W.Unmark a b = refl
+by-word W.Begin a b = refl
+by-word W.End a b = refl
+by-word W.Ways a b = refl
+by-word W.Kinds a b = refl
+by-word W.Unreadable a b = refl
+
 same-request : (r : Record) → requested (leadRequest r) ≡ requestOf r
-unfolding leadRequest requestOf
-same-request r =
-    requested-cond (isWord (r .word) W.Add) _ _ _
-    (requested-cond (isWord (r .word) W.Cut) _ _ _
-    (requested-cond (isWord (r .word) W.Mark) _ _ _
-    (requested-cond (isWord (r .word) W.Unmark) _ _ _
-    (requested-cond (isWord (r .word) W.Begin) _ _ _
-    (requested-cond (isWord (r .word) W.End) _ _ _
-    (requested-cond (isWord (r .word) W.Ways) _ _ _ refl))))))
+unfolding leadRequest
+same-request r = by-word (r .word) (r .first) (r .second)
 
 -- ---- a line inside a batch
 
@@ -241,6 +247,7 @@ unfolding lineIn
 held-line (R.Change op) = line-makes op
 held-line R.Begin = refl
 held-line R.End = refl
+held-line (R.Kinds k) = refl
 held-line (R.Question q) = refl
 held-line R.Unknown = refl
 
@@ -293,20 +300,20 @@ module _ (y : Lent) (walk : List ℕ) (s : Session) (c : Outcome) (reply : Reply
   unfolding shown
   comes-refusing l₀ stage l n q h w v = (rw w h, refl)
 
-  comes-change : (op : Op) (l : Lead) (p : Play) → l .stage ≡ Playing → Holds s (p .table) → length walk ≡ room → Comes l (changing op l) (updateStep (single (changeOf op)) p)
-  comes-change op l p h k e w v = (
-    (h, rw e at (w .holds (p .table) k)),
-    sym (w .answers (p .table) k .line) ∙ ap (λ (n : ℕ). answerLine (answerTo (record { update = single (changeOf op); room = n }) (p .table))) e,
-  )
+  -- a call is answered as the plain table answers it
+  called : (x : Command) (l : Lead) (p : Play) → l .stage ≡ Playing → Holds s (p .table) → length walk ≡ room → Updates x s walk c walk′
+      → Tracks l y (c .session) (callStep x p .next) × (shown (c .answer) walk′ ∷ [] ≡ callStep x p .lines)
+  called x l p h k e w =
+      ((h, rw e at (w .holds (p .table) k)), sym (w .answers (p .table) k .line) ∙ ap (λ (n : ℕ). answerLine (answerTo (record { command = x; room = n }) (p .table))) e)
 
   -- the batch that is held is answered as the whole one
-  comes-batch : (l : Lead) (xs : List BatchLine) (p : Play) → Collects l y xs → Holds s (p .table) → length walk ≡ room → Comes l (endingPlan l) (updateStep (batch xs) p)
+  comes-batch : (l : Lead) (xs : List BatchLine) (p : Play) → Collects l y xs → Holds s (p .table) → length walk ≡ room → Comes l (endingPlan l) (callStep (update (batch xs)) p)
   comes-batch l xs p g k e w v =
       let first = take linesHeld xs in
-      let u : Updates (batch first) s walk c walk′ = subst (λ (ys : List BatchLine). Updates (batch ys) s walk c walk′) (g .lines) w in
+      let u : Updates (update (batch first)) s walk c walk′ = subst (λ (ys : List BatchLine). Updates (update (batch ys)) s walk c walk′) (g .lines) w in
       let whole = held-call xs (p .table) room in (
         (refl, rw (whole .1) at (rw e at (u .holds (p .table) k))),
-        sym (u .answers (p .table) k .line) ∙ ap (λ (n : ℕ). answerLine (answerTo (record { update = batch first; room = n }) (p .table))) e ∙ ap answerLine (whole .0),
+        sym (u .answers (p .table) k .line) ∙ ap (λ (n : ℕ). answerLine (answerTo (record { command = update (batch first); room = n }) (p .table))) e ∙ ap answerLine (whole .0),
       )
 
   -- a question is replied as the plain table replies, and all is as it was
@@ -342,9 +349,10 @@ module _ (y : Lent) (walk : List ℕ) (s : Session) (c : Outcome) (reply : Reply
 
   comes-requested : (q : LeadRequest) (l : Lead) (p : Play) → Tracks l y s (playing p) → length walk ≡ room → Comes l (planFor q l) (playStep (requested q) p)
   unfolding linesIn
-  comes-requested (R.Change op) l p h e = comes-change op l p (h .0) (h .1) e
+  comes-requested (R.Change op) l p h e = λ w v. called (update (single (changeOf op))) l p (h .0) (h .1) e w
   comes-requested R.Begin l p h e = comes-quiet l _ (batching p []) (record { stage = refl; count = refl; lines = refl }, h .1)
   comes-requested R.End l p h e = comes-refusing l Playing l 1 (playing p) (refl, h .1)
+  comes-requested (R.Kinds k) l p h e = λ w v. called (setKinds k) l p (h .0) (h .1) e w
   comes-requested (R.Question q) l p h e = comes-question q l p (h .0) (h .1)
   comes-requested R.Unknown l p h e = comes-refusing l Playing l 1 (playing p) (refl, h .1)
 

@@ -6,7 +6,7 @@ use Rattle.plain.specs.Search.{onPath, finishes, step as searchStep, steps, fin
 use Rattle.plain.specs.Layers.{copy, layerOf, stateOf, copies, copiesOf, next}
 use Rattle.plain.specs.Table.{bit, accepts, withBit, withMark, withoutBit, withoutMark, countBelow, carriedBy, acceptingCount, row, printed as printedStates, printedVerdict, budget, final, firstMeeting}
 use Rattle.plain.specs.Refusals.{firstHeld, pairs, flat, sameEdge, present, badSize, badStart, badMarks, badCount, outside, repeated, beyond, badKinds, full, shortRoom, loadTrial}
-use Rattle.plain.specs.Machine.{named, tableOf, inKind, without, apply, conditions, misnamed, changeTrial, lineConditions, changesIn, applyAll, namedAll, linesTrial, batchTrial, applied, namedBy, updateTrial, positionIn, unexplored, passedOver, keepsAll, keptPart, kept, loadAnswer, trialOf, updateAnswer, answerTo, tableAfter, answerLine}
+use Rattle.plain.specs.Machine.{named, tableOf, inKind, without, apply, conditions, misnamed, changeTrial, lineConditions, changesIn, applyAll, namedAll, linesTrial, batchTrial, applied, namedBy, updateTrial, positionIn, unexplored, passedOver, keepsAll, keptPart, kept, upToKind, toKinds, kindsTrial, loadAnswer, trialOf, callAnswer, answerTo, tableAfter, answerLine}
 use Rattle.plain.specs.Questions.{outDegree, inDegree, questionTrial, questionReply, replyTo, replyLine}
 use Rattle.line.specs.Fields.{bytes, tab, newline, onFirst, parted, linesOf, fieldsOf}
 use Rattle.line.specs.Numbers.{all, isDigit, valueFrom, value, leadingZero, isNumber}
@@ -18,5 +18,5 @@ use Rattle.watch.specs.Texts.{Dialogue, dialogue, games}
 
 -- one sentence for all games
 pub games-printed : map (λ (x : Dialogue). output (bytes (x .sent))) games ≡ map (λ (x : Dialogue). map bytes (x .written)) games
-unfolding any allOf filter anyBelow elem before from onPath finishes searchStep steps finished until statesOf stemOf cycleOf verdict bit accepts withBit withMark withoutBit withoutMark countBelow copy layerOf stateOf copies copiesOf next carriedBy acceptingCount row printedStates printedVerdict budget final firstMeeting firstHeld pairs sameEdge present badSize badStart badMarks badCount outside repeated beyond badKinds full shortRoom loadTrial named tableOf inKind without apply conditions misnamed changeTrial lineConditions changesIn applyAll namedAll linesTrial batchTrial applied namedBy updateTrial positionIn unexplored passedOver keepsAll keptPart kept loadAnswer trialOf updateAnswer answerTo tableAfter answerLine outDegree inDegree questionTrial questionReply replyTo replyLine bytes tab newline onFirst parted linesOf fieldsOf all isDigit valueFrom value leadingZero isNumber isWord sameBytes words wordIn wordOf isKind fieldsFit worded fromFields recordOf digitsIn decimal fieldOf printedFields lineOf render flat atFirst beforeGo behindGame requestOf afterGo inBatch step printed wholeLines counted outputOf output dialogue games
+unfolding any allOf filter anyBelow elem before from onPath finishes searchStep steps finished until statesOf stemOf cycleOf verdict bit accepts withBit withMark withoutBit withoutMark countBelow copy layerOf stateOf copies copiesOf next carriedBy acceptingCount row printedStates printedVerdict budget final firstMeeting firstHeld pairs sameEdge present badSize badStart badMarks badCount outside repeated beyond badKinds full shortRoom loadTrial named tableOf inKind without apply conditions misnamed changeTrial lineConditions changesIn applyAll namedAll linesTrial batchTrial applied namedBy updateTrial positionIn unexplored passedOver keepsAll keptPart kept upToKind toKinds kindsTrial loadAnswer trialOf callAnswer answerTo tableAfter answerLine outDegree inDegree questionTrial questionReply replyTo replyLine bytes tab newline onFirst parted linesOf fieldsOf all isDigit valueFrom value leadingZero isNumber isWord sameBytes words wordIn wordOf isKind fieldsFit worded fromFields recordOf digitsIn decimal fieldOf printedFields lineOf render flat atFirst beforeGo behindGame requestOf afterGo inBatch step printed wholeLines counted outputOf output dialogue games
 games-printed = refl

@@ -8,10 +8,10 @@ use native.Mathlib.Omega.{arith}
 use Rattle.plain.specs.Search.{none, lasso, unfinished}
 use Rattle.plain.specs.Table.{Table}
 use Rattle.plain.specs.Refusals.{Trial, accepted, refused, loadTrial}
-use Rattle.plain.specs.Machine.{BatchLine, Update, single, batch, applied, Answer, refusal, answer, answerLine, loadAnswer, tableOf, Call, trialOf, answerTo, tableAfter, after, Line, gameLine, roundLine, noneLine, noLine, waysLine}
+use Rattle.plain.specs.Machine.{BatchLine, single, batch, Command, update, setKinds, commanded, Answer, refusal, answer, answerLine, loadAnswer, tableOf, Call, trialOf, answerTo, tableAfter, after, Line, gameLine, roundLine, noneLine, noLine, waysLine}
 use Rattle.plain.specs.Claims.{Arises, loaded, LineTrue, NotNone}
 use Rattle.plain.proofs.Trials.{load-never-7}
-use Rattle.plain.proofs.Batches.{update-arises}
+use Rattle.plain.proofs.Calls.{command-arises}
 use Rattle.plain.proofs.Answers.{load-told, call-told, reply-told}
 use Rattle.plain.proofs.Loops.{loop-told}
 use Rattle.line.specs.Fields.{linesOf}
@@ -19,7 +19,7 @@ use Rattle.line.specs.Records.{recordOf}
 use Rattle.line.specs.Words.{isWord}
 use Rattle.line.specs.declared.Word.the-variants.{Game, Pay, Move, Go, Kinds}
 use Rattle.line.specs.declared.Record.{Record}
-use Rattle.watch.specs.Text.{Draft, Play, playOf, Held, waiting, opened, gathering, playing, batching, ended, Step, stop, empty, room, loadStep, loadOf, callOn, updateStep, Request, changing, beginning, ending, questioning, unknown, requestOf, playStep, batchStep, atFirst, moveMost, beforeGo, behindGame, afterGo, inBatch, step, counted}
+use Rattle.watch.specs.Text.{Draft, Play, playOf, Held, waiting, opened, gathering, playing, batching, ended, Step, stop, empty, room, loadStep, loadOf, callOn, callStep, Request, changing, beginning, ending, settingKinds, questioning, unknown, requestOf, playStep, batchStep, atFirst, moveMost, beforeGo, behindGame, afterGo, inBatch, step, counted}
 use Rattle.watch.specs.Truth.{Verdictless, Says, SaysLoop, All, EachLine, True}
 
 -- the table that is held is one that a session can hold
@@ -61,27 +61,29 @@ load-right : (x : Trial) (d : Draft) → loadTrial (loadOf d) room ≡ x → Rig
 load-right accepted d e = ((tt, lines-true (tableOf (loadOf d)) (loadAnswer accepted (tableOf (loadOf d))) (λ l f. load-told (loadOf d) room l e f)), loaded (loadOf d) room e)
 load-right (refused n) d e = stop-right n (λ z. load-never-7 (loadOf d) room (e ∙ ap refused z))
 
-arises-after : (c : Call) (t : Table) (x : Trial) → trialOf c t ≡ x → Arises t → Arises (after x (applied (c .update) t) t)
+arises-after : (c : Call) (t : Table) (x : Trial) → trialOf c t ≡ x → Arises t → Arises (after x (commanded (c .command) t) t)
 unfolding trialOf
-arises-after c t accepted e a = update-arises (c .update) t (c .room) a e
+arises-after c t accepted e a = command-arises (c .command) t (c .room) a e
 arises-after c t (refused n) e a = a
 
-update-right : (u : Update) (p : Play) → Arises (p .table) → Right (updateStep u p)
+call-right : (c : Command) (p : Play) → Arises (p .table) → Right (callStep c p)
 unfolding tableAfter
-update-right u p a =
-    (lines-true (tableAfter (callOn u) (p .table)) (answerTo (callOn u) (p .table)) (λ l f. call-told (callOn u) (p .table) l a f .truth), arises-after (callOn u) (p .table) (trialOf (callOn u) (p .table)) refl a)
+call-right c p a =
+    (lines-true (tableAfter (callOn c) (p .table)) (answerTo (callOn c) (p .table)) (λ l f. call-told (callOn c) (p .table) l a f .truth), arises-after (callOn c) (p .table) (trialOf (callOn c) (p .table)) refl a)
 
 play-right : (q : Request) (p : Play) → Arises (p .table) → Right (playStep q p)
-play-right (changing c) p a = update-right (single c) p a
+play-right (changing c) p a = call-right (update (single c)) p a
 play-right beginning p a = (tt, a)
 play-right ending p a = ((early 1 (omega arith), tt), a)
+play-right (settingKinds k) p a = call-right (setKinds k) p a
 play-right (questioning q) p a = ((reply-told q (p .table), tt), a)
 play-right unknown p a = ((early 1 (omega arith), tt), a)
 
 batch-right : (q : Request) (p : Play) (xs : List BatchLine) → Arises (p .table) → Right (batchStep q p xs)
 batch-right (changing c) p xs a = (tt, a)
 batch-right beginning p xs a = (tt, a)
-batch-right ending p xs a = update-right (batch xs) p a
+batch-right ending p xs a = call-right (update (batch xs)) p a
+batch-right (settingKinds k) p xs a = (tt, a)
 batch-right (questioning q) p xs a = (tt, a)
 batch-right unknown p xs a = (tt, a)
 

@@ -23,7 +23,7 @@ use Rattle.session.specs.declared.Outcome.{Outcome}
 use Rattle.lead.specs.declared.Lead.{Lead}
 use Rattle.lead.specs.declared.Task.{Task}
 use Rattle.lead.specs.declared.Ask.{Ask}
-use Rattle.lead.specs.declared.Ask.the-variants.{Load as AskLoad, Update as AskUpdate}
+use Rattle.lead.specs.declared.Ask.the-variants.{Load as AskLoad, Call as AskCall}
 use Rattle.lead.specs.declared.Task.the-variants.{Nothing, Refuse, Ask as Asks, Question as Questions}
 use Rattle.lead.specs.declared.Plan.{Plan}
 use Rattle.lead.specs.Asked.{numbersMost, asked, isOver}
@@ -80,7 +80,7 @@ pub short : (task : Task) (l : Lead) (marks : List ℕ) (answer : Answer) (reply
 short Nothing l marks answer reply walk = tt
 short (Refuse n) l marks answer reply walk = tt
 short (Asks AskLoad) l marks answer reply walk = short-cond (isRefused answer) _ _ _
-short (Asks (AskUpdate asked)) l marks answer reply walk = tt
+short (Asks (AskCall command)) l marks answer reply walk = tt
 short (Questions q) l marks answer reply walk = tt
 
 -- ---- what is asked of the session

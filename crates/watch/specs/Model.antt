@@ -19,11 +19,11 @@ use Rattle.question.specs.declared.Reply.the-variants as Reply
 use Rattle.question.specs.Replies.{questionOf, replyShown}
 use Rattle.session.specs.declared.Session.{Session}
 use Rattle.session.specs.declared.Outcome.{Outcome}
-use Rattle.session.specs.Promises.{updateOf, Loads, Updates, Replies}
+use Rattle.session.specs.Promises.{commandOf, Loads, Updates, Replies}
 use Rattle.lead.specs.declared.Stage.the-variants.{Playing, Over}
 use Rattle.lead.specs.declared.Lead.{Lead}
 use Rattle.lead.specs.declared.Ask.{Ask}
-use Rattle.lead.specs.declared.Ask.the-variants.{Load as AskLoad, Update as AskUpdate}
+use Rattle.lead.specs.declared.Ask.the-variants.{Load as AskLoad, Call as AskCall}
 use Rattle.lead.specs.declared.Task.{Task}
 use Rattle.lead.specs.declared.Task.the-variants.{Nothing, Refuse, Ask as Asks, Question as Questions}
 use Rattle.lead.specs.declared.Plan.{Plan}
@@ -44,7 +44,7 @@ gathered l marks ns = record { size = l .size; start = l .start; kinds = l .kind
 -- by what is asked, the session's own promise
 abbrev pub Serves : Ask → Lead → List ℕ → List ℕ → Session → List ℕ → Outcome → List ℕ → Type 0
 Serves AskLoad l marks ns s walk r walk′ = Loads (gathered l marks ns) walk r walk′
-Serves (AskUpdate asked) l marks ns s walk r walk′ = Updates (updateOf asked (numbersHeld l ns)) s walk r walk′
+Serves (AskCall command) l marks ns s walk r walk′ = Updates (commandOf command (numbersHeld l ns)) s walk r walk′
 
 -- By what is to be done, what is replied: to a question what the session promises of it; elsewhere nothing, and the 0 that stands for it is not told.
 abbrev pub Replied : Task → Session → Reply → Type 0
@@ -73,7 +73,7 @@ abbrev pub linesFor : Task → Lead → List ℕ → Answer → Reply → List �
 linesFor Nothing l marks answer reply walk = []
 linesFor (Refuse refusal) l marks answer reply walk = shown (Refused refusal) walk ∷ []
 linesFor (Asks AskLoad) l marks answer reply walk = linesOfLoad l marks answer walk
-linesFor (Asks (AskUpdate asked)) l marks answer reply walk = shown answer walk ∷ []
+linesFor (Asks (AskCall command)) l marks answer reply walk = shown answer walk ∷ []
 linesFor (Questions q) l marks answer reply walk = replyShown reply ∷ []
 
 -- The lines told of a plan, the marks, an answer and a reply, with the list of the walk, in a buffer of so many bytes. Where that list is longer than the box's own, or the
@@ -89,7 +89,7 @@ abbrev pub leadFor : Task → Lead → Answer → Lead
 leadFor Nothing l answer = l
 leadFor (Refuse refusal) l answer = l
 leadFor (Asks AskLoad) l answer = leadLoaded l answer
-leadFor (Asks (AskUpdate asked)) l answer = l
+leadFor (Asks (AskCall command)) l answer = l
 leadFor (Questions q) l answer = l
 
 -- the first line's bytes

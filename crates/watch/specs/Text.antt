@@ -9,7 +9,7 @@ use Rattle.plain.specs.Lists.{any}
 use Rattle.plain.specs.Search.{Edge}
 use Rattle.plain.specs.Table.{Table, withMark, acceptingCount}
 use Rattle.plain.specs.Refusals.{Trial, accepted, refused, flat, Load, loadTrial}
-use Rattle.plain.specs.Machine.{Change, add, cut, mark, unmark, BatchLine, makes, other, Update, single, batch, Call, numbered, inKind, tableOf, loadAnswer, answerTo, tableAfter, Line, gameLine, noLine, answerLine}
+use Rattle.plain.specs.Machine.{Change, add, cut, mark, unmark, BatchLine, makes, other, single, batch, Command, update, setKinds, Call, numbered, inKind, tableOf, loadAnswer, answerTo, tableAfter, Line, gameLine, noLine, answerLine}
 use Rattle.plain.specs.Questions.{Question, ways, replyTo, replyLine}
 use Rattle.line.specs.Fields.{newline, linesOf}
 use Rattle.line.specs.Words.{isWord}
@@ -124,27 +124,28 @@ beforeGo d r =
 unfoldable pub behindGame : Draft → Record → Step
 behindGame d r = cond (isWord (r .word) Kinds) (quiet (gathering (withKinds r d))) (beforeGo d r)
 
--- ".. and one line for each change"; document 02, ticket 5: one for each batch
-abbrev pub callOn : Update → Call
-callOn u = record { update = u; room = room }
+-- ".. and one line for each change"; document 02, ticket 5: one for each batch; ticket 10: one for each line `kinds`, "in the form of a change, with no `game` line"
+abbrev pub callOn : Command → Call
+callOn c = record { command = c; room = room }
 
-abbrev pub updateStep : Update → Play → Step
-updateStep u p = record { lines = answerLine (answerTo (callOn u) (p .table)); next = playing (playOf (tableAfter (callOn u) (p .table))) }
+abbrev pub callStep : Command → Play → Step
+callStep c p = record { lines = answerLine (answerTo (callOn c) (p .table)); next = playing (playOf (tableAfter (callOn c) (p .table))) }
 
 -- document 02, ticket 8: one line for each question, which leaves all as it is
 abbrev pub questionStep : Question → Play → Step
 questionStep q p = record { lines = replyLine (replyTo q (p .table)) ∷ []; next = playing p }
 
--- What a line after `go` requests: a change, the begin or the end of a batch, a question's reply, or nothing that is known there. Tickets of document 02 add to it.
+-- What a line after `go` requests: a change, the begin or the end of a batch, another count of kinds, a question's reply, or nothing that is known there. Tickets of document 02 add to it.
 pub data Request : Type 0 where
   changing : Change → Request
   beginning : Request
   ending : Request
+  settingKinds : ℕ → Request
   questioning : Question → Request
   unknown : Request
 
 -- ".. then `add` and `cut`", "(from, to)"; document 02, ticket 2: "Lines `mark` and `unmark` name a state", by ticket 9 with a kind; ticket 5: `begin` and `end`; ticket 8:
--- "A line `ways` with a state"
+-- "A line `ways` with a state"; ticket 10: "The line `kinds` is .. taken after `go` as well."
 unfoldable pub requestOf : Record → Request
 requestOf r =
     cond (isWord (r .word) Add) (changing (add (r .first, r .second)))
@@ -153,14 +154,16 @@ requestOf r =
     (cond (isWord (r .word) Unmark) (changing (unmark (r .first) (r .second)))
     (cond (isWord (r .word) Begin) beginning
     (cond (isWord (r .word) End) ending
+    (cond (isWord (r .word) Kinds) (settingKinds (r .first))
     (cond (isWord (r .word) Ways) (questioning (ways (r .first)))
-    unknown))))))
+    unknown)))))))
 
 -- "after `go` the next line is read": an `end` outside a batch is misplaced
 abbrev pub playStep : Request → Play → Step
-playStep (changing c) p = updateStep (single c) p
+playStep (changing c) p = callStep (update (single c)) p
 playStep beginning p = quiet (batching p [])
 playStep ending p = noStep 1 (playing p)
+playStep (settingKinds k) p = callStep (setKinds k) p
 playStep (questioning q) p = questionStep q p
 playStep unknown p = noStep 1 (playing p)
 
@@ -172,7 +175,8 @@ afterGo p r = playStep (requestOf r) p
 abbrev pub batchStep : Request → Play → List BatchLine → Step
 batchStep (changing c) p xs = quiet (batching p (xs ++ (makes c ∷ [])))
 batchStep beginning p xs = quiet (batching p (xs ++ (other ∷ [])))
-batchStep ending p xs = updateStep (batch xs) p
+batchStep ending p xs = callStep (update (batch xs)) p
+batchStep (settingKinds k) p xs = quiet (batching p (xs ++ (other ∷ [])))
 batchStep (questioning q) p xs = quiet (batching p (xs ++ (other ∷ [])))
 batchStep unknown p xs = quiet (batching p (xs ++ (other ∷ [])))
 

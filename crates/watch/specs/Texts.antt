@@ -198,7 +198,20 @@ games =
     ("game\t4\t5\t3\n" ∷ "none\t26\t0\n" ∷ "round\t14\t11\t0\t6\t0\t1\t0\t2\t0\t3\n" ∷ "none\t13\t0\n" ∷ [])
     -- game C with its one kind written
     ∷ dialogue "game\t2\t0\nkinds\t1\npay\t1\t1\nmove\t0\t1\nmove\t1\t0\ngo\n" ("game\t2\t2\t1\n" ∷ "round\t3\t0\t0\t2\t0\t1\n" ∷ [])
-    -- `kinds` elsewhere than directly after `game`, too many kinds, and a kind above K
+    -- Ticket 10: of two kinds one goes, and comes back carried by no state until one is marked; too few kinds, inside a batch, and unreadable
+    ∷ dialogue "game\t2\t0\nkinds\t2\npay\t0\npay\t1\t2\nmove\t0\t1\nmove\t1\t0\ngo\nkinds\t1\nmark\t1\t2\nkinds\t2\nmark\t1\t2\nkinds\t0\nbegin\nkinds\t1\nend\nkinds\t01\nways\t0\n"
+    ("game\t2\t2\t2\n"
+    ∷ "round\t4\t0\t0\t2\t0\t1\n"
+    ∷ "round\t4\t0\t0\t2\t0\t1\n"
+    ∷ "no\t4\n"
+    ∷ "none\t6\t0\n"
+    ∷ "round\t3\t1\t0\t2\t0\t1\n"
+    ∷ "no\t16\n"
+    ∷ "no\t1\t1\n"
+    ∷ "no\t1\n"
+    ∷ "ways\t0\t1\t1\n"
+    ∷ [])
+    -- `kinds` elsewhere than directly after `game` or after `go`, too many kinds, and a kind above K
     ∷ dialogue "game\t2\t0\npay\t0\nkinds\t2\n" ("no\t1\n" ∷ [])
     ∷ dialogue "game\t2\t0\nkinds\t5\ngo\n" ("no\t16\n" ∷ [])
     ∷ dialogue "game\t2\t0\nkinds\t2\npay\t0\t3\ngo\n" ("no\t4\n" ∷ [])
