@@ -1,4 +1,4 @@
--- TICKET 7 on the contracts of the session's operations: what the plain table's theorems say of the calls that were made. Assumes nothing.
+-- TICKETS 7 AND 10 on the contracts of the session's operations: what the plain table's theorems say of the calls that were made. Assumes nothing.
 use mathlib.Core.Path.{_≡_, refl, sym, ap, ap₂, subst, subst⁻¹, _∙_}
 use Prim.Native.Nat.{ℕ}
 use mathlib.Core.List.{List, [], _∷_, _++_, append-assoc, map, nil≢cons, cons≢nil, head-eq-of-cons-eq, tail-eq-of-cons-eq}
@@ -7,13 +7,13 @@ use lib.ListN.{length}
 use Rattle.plain.specs.Search.{Verdict, none, lasso, unfinished}
 use Rattle.plain.specs.Table.{Table}
 use Rattle.plain.specs.Refusals.{Trial, accepted}
-use Rattle.plain.specs.Machine.{Change, add, cut, Update, single, batch, changesOf, Answer as PlainAnswer, answer, loadAnswer, tableOf, written, Call, callFor, trialOf, answerTo, tableAfter, answers, Line, answerLine}
+use Rattle.plain.specs.Machine.{Change, add, cut, single, changesOf, toKinds, Command, update, setKinds, Answer as PlainAnswer, answer, loadAnswer, tableOf, written, Call, callFor, trialOf, answerTo, tableAfter, answers, Line, answerLine}
 use Rattle.plain.specs.Questions.{Question, replyTo, tableNext}
-use Rattle.plain.specs.Claims.{totalled, tableBehind, lastOf}
+use Rattle.plain.specs.Claims.{totalled, loadFrom, tableBehind, lastOf}
 use Rattle.plain.specs.Games.{gameH}
-use Rattle.plain.specs.Orders.{AnsweredAlike, Apart, Permutation, nothing, first, changesAsked, EachAccepted, addAndCut, totalLine}
+use Rattle.plain.specs.Orders.{AnsweredAlike, Apart, Permutation, nothing, first, askedBy, changesAsked, IsUpdate, Switching, EachAccepted, addAndCut, totalLine}
 use Rattle.plain.proofs.Answers.{first-line}
-use Rattle.plain.proofs.Calls.{fresh-reports, answer-accepted, after-reports}
+use Rattle.plain.proofs.Calls.{fresh-reports, answer-accepted, after-reports, as-loaded}
 use Rattle.plain.proofs.Orders.{line-totalled, written-totalled, any-orders, brings-back, cut-follows, need-not}
 use Rattle.verdict.specs.declared.Answer.{Answer}
 use Rattle.verdict.specs.declared.Answer.the-variants.{Refused, Clear, Round}
@@ -24,7 +24,7 @@ use Rattle.question.specs.Replies.{replied}
 use Rattle.session.specs.declared.Session.{Session}
 use Rattle.session.specs.Promises.{callOf, Holds, Exchange, Event, made, posed, callIn, Served, CallRight, QuestionRight, AllRight}
 use Rattle.session.proofs.Demand3.{all-right, load-accepted, answered-accepted}
-use Rattle.orders.specs.Sessions.{NoneRefused, Given, toCall, toQuestion, givenTo, callsIn, askedIn, SameTold, TwoOrders, AnyOrders, LastTold, by-load, by-call, left, BringsBack, CutFollows, NeedNot}
+use Rattle.orders.specs.Sessions.{NoneRefused, Given, toCall, toQuestion, givenTo, callsIn, askedIn, SameTold, TwoOrders, AnyOrders, LastTold, by-load, by-call, left, BringsBack, CutFollows, NeedNot, AsLoad}
 
 -- ---- calls, one behind the other
 
@@ -78,12 +78,12 @@ one-given x y a asked lent v w =
     λ i. record { asked = asked i; lent = lent i; answered = both .0 i; after = both .1 i }
 
 -- a call and a question are given other things
-no-question : (u : Update) (lent : List ℕ) (q : Question) → toCall u lent ≡ toQuestion q → ⊥
+no-question : (u : Command) (lent : List ℕ) (q : Question) → toCall u lent ≡ toQuestion q → ⊥
 no-question u lent q e = let z : _≡_ {A = ℕ} 0 1 = cc in omega arith
 
-updateIn : Given → Update
-updateIn (toCall u lent) = u
-updateIn (toQuestion q) = batch []
+commandIn : Given → Command
+commandIn (toCall u lent) = u
+commandIn (toQuestion q) = setKinds 0
 
 lentIn : Given → List ℕ
 lentIn (toCall u lent) = lent
@@ -91,11 +91,11 @@ lentIn (toQuestion q) = []
 
 -- one call, one question
 same-call : (x y : Exchange) (t u : Table) → AnsweredAlike t u → CallRight x t → CallRight y u → givenTo (made x) ≡ givenTo (made y) → x ≡ y
-unfolding answers updateIn lentIn
+unfolding answers commandIn lentIn
 same-call x y t u w a b g =
-    let asked : x .asked ≡ y .asked = ap updateIn g in
+    let asked : x .asked ≡ y .asked = ap commandIn g in
     let lent : x .lent ≡ y .lent = ap lentIn g in
-    let c : callIn x ≡ callIn y = λ i. record { update = asked i; room = length (lent i) } in
+    let c : callIn x ≡ callIn y = λ i. record { command = asked i; room = length (lent i) } in
     let told = head-eq-of-cons-eq (w .same-answers (callIn x ∷ [])) ∙ ap (λ (d : Call). answerTo d u) c in
     one-given x y (answerTo (callIn y) u) asked lent (subst (λ (p : PlainAnswer). Answered p (x .lent) (x .answered) (x .after)) told (a .answers)) (b .answers)
 
@@ -144,8 +144,8 @@ module _ (s : Session) (t : Table) (h : Holds s t) (xs : List Event) (x : Exchan
       subst⁻¹ (λ (p : PlainAnswer). Answered p (x .lent) (x .answered) (x .after)) e b
 
 pub sessions-any-orders : AnyOrders
-sessions-any-orders s t h xs x later served n ys y later₂ served₂ n₂ apart order =
-    let w = any-orders t (callsIn (xs ++ (made x ∷ []))) (callsIn (ys ++ (made y ∷ []))) (h .arises) apart order (taken s t h xs x later served n) (taken s t h ys y later₂ served₂ n₂) in
+sessions-any-orders s t h xs x later served n ys y later₂ served₂ n₂ v v₂ apart order =
+    let w = any-orders t (callsIn (xs ++ (made x ∷ []))) (callsIn (ys ++ (made y ∷ []))) (h .arises) v v₂ apart order (taken s t h xs x later served n) (taken s t h ys y later₂ served₂ n₂) in
     record {
       same-told = told-alike _ _ x y (w .same-report (loadAnswer accepted t) (fresh-reports t)) (last-right s t h xs x later served) (last-right s t h ys y later₂ served₂);
       same-after = same-later later later₂ _ _ (rest s t h xs x later served) (rest s t h ys y later₂ served₂) (w .same-after);
@@ -154,16 +154,19 @@ sessions-any-orders s t h xs x later served n ys y later₂ served₂ n₂ apart
 -- ---- TWO ORDERS
 
 -- two calls that ask for one change each
-two-asked : (x y : Exchange) (c d : Change) → x .asked ≡ single c → y .asked ≡ single d → askedIn (made x ∷ made y ∷ []) ≡ c ∷ d ∷ []
+two-asked : (x y : Exchange) (c d : Change) → x .asked ≡ update (single c) → y .asked ≡ update (single d) → askedIn (made x ∷ made y ∷ []) ≡ c ∷ d ∷ []
 unfolding changesAsked changesOf
-two-asked x y c d e f = (λ i. changesOf (e i) ++ (changesOf (f i) ++ []))
+two-asked x y c d e f = (λ i. askedBy (e i) ++ (askedBy (f i) ++ []))
+
+two-switching : (x y : Exchange) (c d : Change) → x .asked ≡ update (single c) → y .asked ≡ update (single d) → Switching (callsIn (made x ∷ made y ∷ []))
+two-switching x y c d e f = (subst⁻¹ IsUpdate e tt, (subst⁻¹ IsUpdate f tt, tt))
 
 pub sessions-two-orders : TwoOrders
 sessions-two-orders s t h c d apart x y e f served n x₂ y₂ e₂ f₂ served₂ n₂ =
     let one = two-asked x y c d e f in
     let other = two-asked x₂ y₂ d c e₂ f₂ in
     let order : Permutation (c ∷ d ∷ []) (d ∷ c ∷ []) = first c (d ∷ []) (d ∷ []) [] (first d [] [] [] nothing) in
-    sessions-any-orders s t h (made x ∷ []) y [] served n (made x₂ ∷ []) y₂ [] served₂ n₂ (subst⁻¹ Apart one apart) (rw (one, other) order) .same-told
+    sessions-any-orders s t h (made x ∷ []) y [] served n (made x₂ ∷ []) y₂ [] served₂ n₂ (two-switching x y c d e f) (two-switching x₂ y₂ d c e₂ f₂) (subst⁻¹ Apart one apart) (rw (one, other) order) .same-told
 
 -- ---- there and back
 
@@ -189,8 +192,8 @@ told-of s t l (by-call old u asked lent r lent′ h w n) =
 told-of s t l (left old u m asked lent r lent′ before w n e) = subst⁻¹ (λ (x : Session). Told x u m) (w .refused n e .0) (told-of old u m before)
 
 -- the two calls
-two-calls : (c d : Change) (x y : Exchange) → x .asked ≡ single c → y .asked ≡ single d → callsIn (made x ∷ made y ∷ []) ≡ callFor (length (x .lent)) c ∷ callFor (length (y .lent)) d ∷ []
-two-calls c d x y p q = λ i. record { update = p i; room = length (x .lent) } ∷ record { update = q i; room = length (y .lent) } ∷ []
+two-calls : (c d : Change) (x y : Exchange) → x .asked ≡ update (single c) → y .asked ≡ update (single d) → callsIn (made x ∷ made y ∷ []) ≡ callFor (length (x .lent)) c ∷ callFor (length (y .lent)) d ∷ []
+two-calls c d x y p q = λ i. record { command = p i; room = length (x .lent) } ∷ record { command = q i; room = length (y .lent) } ∷ []
 
 pub sessions-bring-back : BringsBack
 unfolding first-line lastOf answers tableBehind
@@ -238,5 +241,24 @@ sessions-cut-follows s t h e x y p q served longer n =
     let a : trialOf (callIn x) t ≡ accepted = answered-accepted (callIn x) t (x .lent) (x .answered) (x .after) (right .0 .answers) n in
     let calls = two-calls (add e) (cut e) x y p q in
     let each : EachAccepted (callsIn (made x ∷ made y ∷ [])) t = subst⁻¹ (λ (cs : List Call). EachAccepted cs t) calls
-    (cut-follows t e (length (x .lent)) (length (y .lent)) longer (subst (λ (u : Update). trialOf (record { update = u; room = length (x .lent) }) t ≡ accepted) p a)) in
+    (cut-follows t e (length (x .lent)) (length (y .lent)) longer (subst (λ (u : Command). trialOf (record { command = u; room = length (x .lent) }) t ≡ accepted) p a)) in
     accepted-told _ _ _ (y .answered) (y .after) (sym (ap answerLine (answer-accepted (callIn y) (tableAfter (callIn x) t) (each .1 .0))) ∙ right .1 .0 .answers .line)
+
+-- ---- ANOTHER COUNT OF KINDS
+
+pub sessions-as-load : AsLoad
+sessions-as-load s t h k lent r lent′ w r₂ lent₂ v =
+    let c = callOf (setKinds k) lent in
+    let u = tableOf (loadFrom (toKinds k t)) in
+    let same = as-loaded k t (length lent) (h .arises) in
+    let both = answered-once (answerTo c t) lent (r .answer) (r₂ .answer) lent′ lent₂ (w .answers t h)
+    (subst⁻¹ (λ (a : PlainAnswer). Answered a lent (r₂ .answer) lent₂) (same .same-answer) (v .answers)) in
+    record {
+      same-answer = both .0;
+      same-list = both .1;
+      same-after = λ n later later₂ served served₂ given.
+          let e : trialOf c t ≡ accepted = answered-accepted c t lent (r .answer) lent′ (w .answers t h) n in
+          let held : Holds (r .session) u = subst (Holds (r .session)) (same .same-table e) (w .holds t h) in
+          same-later later later₂ u u (all-right (r .session) u later held served) (all-right (r₂ .session) u later₂ (v .holds (sym (same .same-trial) ∙ e)) served₂)
+          (record { same-answers = λ cs. refl; same-replies = λ cs q. refl }) given;
+    }

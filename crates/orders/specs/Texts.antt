@@ -1,12 +1,16 @@
--- Document 02, ticket 7, for the lines of a text. proofs/Texts.antt proves it. Assumes nothing.
+-- Document 02, tickets 7 and 10, for the lines of a text. proofs/Texts.antt proves it. Assumes nothing.
 use Prim.Native.Nat.{ℕ, _+_}
 use mathlib.Core.Path.{_≡_}
 use mathlib.Core.List.{List, [], _∷_, _++_, map}
+use lib.ListN.{length}
 use Rattle.plain.specs.Search.{Edge}
-use Rattle.plain.specs.Machine.{Change, add, cut, Line, gameLine, roundLine, noneLine, noLine, waysLine}
+use Rattle.plain.specs.Table.{acceptingCount}
+use Rattle.plain.specs.Machine.{Change, add, cut, toKinds, Refusal, Line, gameLine, roundLine, noneLine, noLine, waysLine}
+use Rattle.plain.specs.Claims.{loadFrom}
 use Rattle.plain.specs.Orders.{Apart, Permutation, totalLine}
+use Rattle.line.specs.declared.Word.the-variants.{Go}
 use Rattle.line.specs.Records.{recordOf}
-use Rattle.watch.specs.Text.{Play, Held, waiting, playing, Request, changing, beginning, ending, requestOf, printed, heldBehind}
+use Rattle.watch.specs.Text.{Draft, Play, Held, waiting, opened, gathering, playing, batching, ended, loadOf, Request, changing, beginning, ending, settingKinds, requestOf, printed, heldBehind}
 use Rattle.watch.specs.Truth.{All}
 
 -- a line that is no refusal
@@ -68,3 +72,28 @@ AnyOrders = (earlier ls ms : List (List ℕ)) (p : Play) (cs ds : List Change) �
 abbrev pub BringsBack : Type 0
 BringsBack = (earlier : List (List ℕ)) (p : Play) (e : Edge) (l m : List ℕ) → heldAfter earlier ≡ playing p → requested l ≡ changing (add e) → requested m ≡ changing (cut e)
     → All NotNo (printedBehind earlier (l ∷ [])) → SameEnding (earlier ++ (l ∷ m ∷ [])) earlier
+
+-- ---- ticket 10: another count of kinds
+
+-- what was gathered up to here is to be loaded by a `go`
+abbrev pub Gathered : Held → Draft → Type 0
+Gathered waiting d = ⊥
+Gathered (opened e) d = e ≡ d
+Gathered (gathering e) d = e ≡ d
+Gathered (playing p) d = ⊥
+Gathered (batching p xs) d = ⊥
+Gathered ended d = ⊥
+
+-- A line `kinds`, and the `go` of another text that loads the table with that count of kinds: the `go` prints the line `game`, and both print the same answer; or both the same refusal. What is
+-- printed for lines behind them is the same, counts and all, unless they are refused: then the second text is over.
+pub record SameAsGo (earlier : List (List ℕ)) (l : List ℕ) (other : List (List ℕ)) (go : List ℕ) (d : Draft) : Type 0 where
+  pub same-answer : All NotNo (printedBehind earlier (l ∷ []))
+      → printedBehind other (go ∷ []) ≡ gameLine (d .size) (length (d .moves)) (acceptingCount (d .marks)) ∷ printedBehind earlier (l ∷ [])
+  pub same-refusal : (r : Refusal) → printedBehind earlier (l ∷ []) ≡ noLine r ∷ [] → printedBehind other (go ∷ []) ≡ noLine r ∷ []
+  pub same-after : All NotNo (printedBehind earlier (l ∷ [])) → (later : List (List ℕ)) → printedBehind (earlier ++ (l ∷ [])) later ≡ printedBehind (other ++ (go ∷ [])) later
+
+-- "That answer and what follows are the same as after a load of that table".
+abbrev pub AsGo : Type 0
+AsGo = (earlier : List (List ℕ)) (p : Play) (k : ℕ) (l : List ℕ) → heldAfter earlier ≡ playing p → requested l ≡ settingKinds k
+    → (other : List (List ℕ)) (d : Draft) (go : List ℕ) → Gathered (heldAfter other) d → recordOf go .word ≡ Go → loadOf d ≡ loadFrom (toKinds k (p .table))
+    → SameAsGo earlier l other go d

@@ -1,10 +1,11 @@
-// Replays scripts of loads, changes, batches and questions, and prints what each is answered.
+// Replays scripts of loads, changes, batches, new counts of kinds and questions, and prints what each is answered.
 // Standard input is a list of blocks of 65,536 bytes, of which the last may be shorter. Each is a script, which starts without a session: 16-bit numbers, the low
 // byte first.
 // - a load: 1, size, start, kinds of pay, a count, the paying words of so many kinds (at most 4) as 32 numbers each, a count, so many numbers of moves, room
 // - a change: 2 (add) or 3 (cut) and two states, or 4 (mark) or 5 (unmark) and a state and a kind, room
 // - a batch: 6, room, a count, so many lines of three numbers: 2 to 5 as above, or any other for a line that makes no change, and two more
 // - a question: 7, a state
+// - another count of kinds: 8, the count, room
 // - 0 at the end
 // The room says how much of the list is lent.
 // What is printed, a number on each line:
@@ -13,6 +14,7 @@
 // - of a round 2, the probes, the lengths of stem and cycle, and the walk
 // - behind each of these a sum of the lent list
 // - of a question, which lends no list, 4, the state, and the counts of moves that leave and enter it; or 0 and the refusal's number
+use batch::Command;
 use batch::Update;
 use question::Question;
 use question::Reply;
@@ -30,6 +32,9 @@ const BATCH: u16 = 6;
 
 // And a question.
 const QUESTION: u16 = 7;
+
+// And another count of kinds.
+const NEW_KINDS: u16 = 8;
 
 // The most kinds whose words a load has.
 const KINDS: usize = 4;
@@ -262,15 +267,18 @@ fn op_at(text: &[u8], at: usize, what: u16) -> Op {
 }
 
 // What the call at a place asks for.
-fn asked_at(text: &[u8], at: usize, what: u16) -> Update {
+fn command_at(text: &[u8], at: usize, what: u16) -> Command {
+    if what == NEW_KINDS {
+        return Command::Kinds(number_at(text, at, 2));
+    }
     if what == BATCH {
-        return Update::Batch;
+        return Command::Update(Update::Batch);
     }
     let op = op_at(text, at, what);
-    Update::Change(op)
+    Command::Update(Update::Change(op))
 }
 
-// How many lines the call at a place has: a change has none.
+// How many lines the call at a place has: one that is no batch has none.
 fn line_count(text: &[u8], at: usize, what: u16) -> usize
     ensures { λ r. ⌜ r ≤ 70 ⌝ }
 {
@@ -280,8 +288,11 @@ fn line_count(text: &[u8], at: usize, what: u16) -> usize
     0
 }
 
-// How much of the list the change or batch at a place lends.
+// How much of the list the call at a place lends.
 fn room_at(text: &[u8], at: usize, what: u16) -> usize {
+    if what == NEW_KINDS {
+        return wide(number_at(text, at, 4));
+    }
     if what == BATCH {
         return wide(number_at(text, at, 2));
     }
@@ -308,15 +319,15 @@ fn recode(lines: &mut [u16]) {
     }
 }
 
-// The change or batch at a place is made, with as much of the list lent as it says.
+// The call at a place is made, with as much of the list lent as it says.
 fn update_at(text: &[u8], at: usize, what: u16, s: Session, lent: &mut [u16]) -> Outcome {
     let mut lines: [u16; 210] = [0; 210];
     let count = line_count(text, at, what) * batch::LINE;
     list_at(text, at, 6, count, &mut lines);
     recode(&mut lines);
-    let asked = asked_at(text, at, what);
+    let command = command_at(text, at, what);
     let room = least(room_at(text, at, what), lent.len());
-    session::update(s, asked, &lines[..count], &mut lent[..room])
+    session::update(s, command, &lines[..count], &mut lent[..room])
 }
 
 fn print_reply(reply: Reply) {
@@ -363,6 +374,9 @@ fn size_at(text: &[u8], at: usize, what: u16) -> usize
     }
     if what == QUESTION {
         return 4;
+    }
+    if what == NEW_KINDS {
+        return 6;
     }
     8
 }

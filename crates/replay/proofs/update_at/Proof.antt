@@ -23,8 +23,8 @@ slice-aggregate-recode c = search needs
 recode-requires : tie.Need-recode-requires
 recode-requires c κs = search needs
 
-asked-at-requires : tie.Need-asked-at-requires
-asked-at-requires c κs = search needs
+command-at-requires : tie.Need-command-at-requires
+command-at-requires c κs = search needs
 
 room-at-requires : tie.Need-room-at-requires
 room-at-requires c κs = search needs
@@ -63,7 +63,7 @@ update-at-spec =
     list-at-requires
     slice-aggregate-recode
     recode-requires
-    asked-at-requires
+    command-at-requires
     room-at-requires
     least-requires
     array-share-prefix-lines
