@@ -722,8 +722,7 @@ fn set_kinds_in(
     requires { ⌜ Tabled (now targets) (now starts) × Lengths (now number) (now parent) (now index) (now probes) (now stamp) (now walk) ⌝ }
     ensures { λ r. ⌜ KindsSet new size kinds start old (rowsOf (now (targets .entry)) (now (starts .entry))) (now (words .entry)) (recordsOf (now (number .entry)) (now (parent .entry)) (now (index .entry)) (now (probes .entry)) (now (stamp .entry)) (now (walk .entry))) (now (lent .entry)) r (now (words .exit)) (recordsOf (now (number .exit)) (now (parent .exit)) (now (index .exit)) (now (probes .exit)) (now (stamp .exit)) (now (walk .exit))) (now (lent .exit)) ⌝ }
 {
-    let room = lent.len();
-    let trial = table::attempt_kinds(new, size, kinds, starts, words, room);
+    let trial = table::attempt_kinds(new, size, kinds, starts, words, lent.len());
     if let Trial::Refused(n) = trial {
         return Settled {
             answer: verdict::refused(n, Position::Alone),
