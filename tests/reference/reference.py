@@ -276,7 +276,7 @@ class Table:
 
     def load(self, size, start, kinds, words, numbers, room):
         """words: eight for each of four kinds, those of kind 1 first."""
-        assert len(words) == WORDS * MOST_KINDS and all(0 <= w < 1 << 64 for w in words)
+        assert len(words) == WORDS * MOST_KINDS and 0 <= min(words) <= max(words) < 1 << 64
         self.loaded = False
         self.run = None
         marks = bits_of(words)
@@ -453,7 +453,7 @@ class DeskTable(Table):
 def bits_of(words):
     """The marks of each kind as one number: bit s is that of state s."""
     each = [words[at:at + WORDS] for at in range(0, len(words), WORDS)]
-    return [sum(word << (64 * at) for at, word in enumerate(own)) for own in each]
+    return [sum(word << (64 * at) for at, word in enumerate(own)) if any(own) else 0 for own in each]
 
 
 def pairs(numbers):
@@ -2054,9 +2054,9 @@ OVER_GAMES = [
     # lines that cannot be read, and K's that there are not
     ("over-lines", 2, [1], C_MOVES, ("round", 3, 0, [], [0, 1]), [
         *[("line", row, ("no", 1)) for row in ("kinds", "kinds ", "kinds 65536", "kinds 99999", "kinds 100000", "kinds 01",
-                                               "kinds 02", "kinds 00", "kinds 1 1", "kinds 2 ", "kinds  2", "kinds +2", "kinds -1",
-                                               "kinds 2\r", "kinds 2\0", "kinds x", " kinds 2", "Kinds 2", "KINDS 2", "kind 2",
-                                               "kindss 2")],
+                                               "kinds 02", "kinds 00", "kinds 1 1", "kinds 2 ", "kinds  2", "kinds +2",
+                                               "kinds -1", "kinds 2\r", "kinds 2\0", "kinds x", " kinds 2", "Kinds 2", "KINDS 2",
+                                               "kind 2", "kindss 2")],
         ("mark", 0, 2, ("no", 4)),
         *[("kinds", kinds, ("no", 16)) for kinds in (0, 5, 9, 10, 9999, 65535)],
         ("kinds", 1, ("round", 3, 0, [], [0, 1])),
@@ -2796,6 +2796,12 @@ def random_kind(rng, table):
     return 1 if table.kinds == 1 else rng.randint(1, table.kinds)
 
 
+def given_marks(rng, table):
+    """For each kind in use that none carries a mark of some state."""
+    bare = [kind for kind, own in enumerate(table.marks[:table.kinds], 1) if not any(own)]
+    return [("mark", rng.randrange(table.size), kind) for kind in bare]
+
+
 def random_switch(rng, table):
     """A mark or an unmark that is accepted, or one time in eight any."""
     state, kind = rng.randrange(table.size), random_kind(rng, table)
@@ -3335,11 +3341,11 @@ def test_kind_loads():
 
 def load_number(size, start, kinds, marks, numbers, room):
     """What a load is refused with, read from the list; 0 if it is not. marks: pairs of a state and a kind."""
-    moves = Counter(pairs(numbers))
+    most = max(Counter(pairs(numbers)).values(), default=0)
     faults = [(2, not 1 <= size <= 512), (3, start >= size), (4, any(s >= size or kind > kinds for s, kind in marks)),
               (5, len(numbers) % 2 or len(numbers) > 4096),
               (16, kinds not in (1, 2, 3, 4) or size * kinds > 512 or len(numbers) // 2 * kinds > 2048),
-              (6, any(n >= size for n in numbers)), (8, any(count > 1 for count in moves.values())), (11, room < size * kinds)]
+              (6, any(n >= size for n in numbers)), (8, most > 1), (11, room < size * kinds)]
     return next((number for number, holds in faults if holds), 0)
 
 
@@ -3394,7 +3400,7 @@ def test_random_kinds():
     """Random games with 1 to 4 kinds, and changes. There are many of each K and of each sort."""
     rng = random.Random(15)
     seen = Counter()
-    for at in range(2800):
+    for at in range(2400):
         t, kinds = Table(), at % 4 + 1
         seen[kinds, random_load(rng, t, 6, kinds)[0]] += 1
         check_run(t)
@@ -3528,15 +3534,13 @@ def some_step(rng, table, behind=False):
     if behind and rng.random() < 0.6:
         line, = random_lines(rng, table, 1)
         return line, [line], least
-    bare = [kind for kind, own in enumerate(table.marks[:table.kinds], 1) if not any(own)]
-    dice = rng.random()
+    dice, given = rng.random(), given_marks(rng, table)
     if dice < 0.25:
         kinds = rng.choice((1, 2, 3, 4) * 3 + (0, 5, 65535))
         room = rng.choice((size * kinds,) * 4 + (max(size * kinds - 1, 0), least, least - 1, 600))
         return ("kinds", kinds), [], room
-    if dice < 0.45 and bare:
-        lines = [("mark", rng.randrange(size), kind) for kind in bare]
-        return ("batch", lines), lines, least
+    if dice < 0.45 and given:
+        return ("batch", given), given, least
     return *some_call(rng, table), rng.choice((least, least, least, least, 600, least - 1))
 
 
