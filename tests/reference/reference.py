@@ -13,7 +13,8 @@ those that enter it, and changes nothing.
 With several kinds of pay in use, 1 to K, the search runs on K layers of the game.
 A move out of a state that carries its layer's kind lands in the next layer, and
 from the last in the first. The table, the walk and the counts of a question are
-those of the plain game; looks and lengths count the layered states.
+those of the plain game; looks and lengths count the layered states. A session
+goes over to another K between two changes, without a reload.
 
 For the examiner's desk there is the search as candidates learn it, by procedures
 that call each other, for a game that is loaded and not changed.
@@ -23,6 +24,7 @@ that call each other, for a game that is loaded and not changed.
     python3 reference.py --desk < text   the same as the examiner's desk
 """
 
+import functools
 import itertools
 import random
 import sys
@@ -127,11 +129,9 @@ def in_layers(size, start, marks, moves):
     carries decides where it lands."""
     kinds = len(marks)
     pays = marks[0] + [False] * (size * (kinds - 1))
-
-    def copy(layer, a, b):
-        landing = (layer + 1) % kinds if marks[layer][a] else layer
-        return layer * size + a, landing * size + b
-    return size * kinds, start, pays, [copy(layer, *move) for move in moves for layer in range(kinds)]
+    landing = [[(layer + 1) % kinds if carries else layer for carries in own] for layer, own in enumerate(marks)]
+    copies = [(layer * size + a, landing[layer][a] * size + b) for a, b in moves for layer in range(kinds)]
+    return size * kinds, start, pays, copies
 
 
 def layered_search(size, start, marks, moves):
@@ -251,6 +251,17 @@ def no_kind(word, _, kind):
     return word not in MOVE_WORDS and not 1 <= kind <= MOST_KINDS
 
 
+def too_many(size, kinds, moves):
+    """Of a K, at a load and behind it: 16 for the K itself, or for so many states or moves with it."""
+    fits = 1 <= kinds <= MOST_KINDS and size * kinds <= MOST_STATES and len(moves) * kinds <= MOST_MOVES
+    return 0 if fits else 16
+
+
+def too_short(room, size, kinds):
+    """Of every call: 11 for the list lent for the walk."""
+    return 11 if room < size * kinds else 0
+
+
 class Table:
     """N, the start state, K, the marks of each of four kinds and the moves present, oldest first.
 
@@ -265,17 +276,18 @@ class Table:
 
     def load(self, size, start, kinds, words, numbers, room):
         """words: eight for each of four kinds, those of kind 1 first."""
-        assert len(words) == WORDS * MOST_KINDS and all(0 <= w < 1 << 64 for w in words)
+        assert len(words) == WORDS * MOST_KINDS and 0 <= min(words) <= max(words) < 1 << 64
         self.loaded = False
         self.run = None
-        number = self._load_refusal(size, start, kinds, words, numbers, room)
+        marks = bits_of(words)
+        number = self._load_refusal(size, start, kinds, marks, numbers, room)
         if number:
             return ("no", number)
         self.loaded = True
         self.size = size
         self.start = start
         self.kinds = kinds
-        self.marks = [[bits >> s & 1 == 1 for s in range(size)] for bits in bits_of(words)]
+        self.marks = [[bits >> s & 1 == 1 for s in range(size)] for bits in marks]
         self.moves = pairs(numbers)
         return self._answer(None)
 
@@ -322,6 +334,18 @@ class Table:
         spared = all(keeps_all(before, *change) for change in changes)
         return self._answer([change[1] for change in changes], spared)
 
+    def set_kinds(self, kinds, room):
+        """Another K, or the same again: the line `kinds` of a session. Marks of the kinds up to it stay, those above are
+        dropped for good, and the moves hold their order. It is answered as a load is, and all that follows as behind one; what
+        is refused leaves the old K. The lent list is held against the new one."""
+        self._need_session()
+        number = too_many(self.size, kinds, self.moves) or too_short(room, self.size, kinds)
+        if number:
+            return ("no", number)
+        self.kinds = kinds
+        self.marks[kinds:] = [[False] * self.size for _ in range(kinds, MOST_KINDS)]
+        return self._answer(None)
+
     def ways(self, state):
         """How many of the moves present leave the state, and how many enter it: one that does both counts in both.
         Nothing is written, so no list is lent, and nothing changes."""
@@ -366,12 +390,11 @@ class Table:
         return 8 if move in self.moves else 9 if (len(self.moves) + 1) * self.kinds > MOST_MOVES else 0
 
     def _short(self, room):
-        """Of every call: 11 for the lent list."""
-        return 11 if room < self.least_room else 0
+        return too_short(room, self.size, self.kinds)
 
     def _need_session(self):
         if not self.loaded:
-            raise RuntimeError("a change or a question without a session")
+            raise RuntimeError("a call that needs a session, and there is none")
 
     def _make(self, word, state, other):
         if word == "add":
@@ -381,31 +404,30 @@ class Table:
         else:
             self.marks[other - 1][state] = word == "mark"
 
-    def _load_refusal(self, size, start, kinds, words, numbers, room):
+    def _load_refusal(self, size, start, kinds, marks, numbers, room):
         if size == 0 or size > MOST_STATES:
             return 2
         if start >= size:
             return 3
-        if any(bits >> (size if kind <= kinds else 0) for kind, bits in enumerate(bits_of(words), 1)):
+        if any(bits >> (size if kind <= kinds else 0) for kind, bits in enumerate(marks, 1)):
             return 4
         if len(numbers) % 2 == 1 or len(numbers) > 2 * MOST_MOVES:
             return 5
         moves = pairs(numbers)
-        if not 1 <= kinds <= MOST_KINDS or size * kinds > MOST_STATES or len(moves) * kinds > MOST_MOVES:
-            return 16
+        number = too_many(size, kinds, moves)
+        if number:
+            return number
         if any(n >= size for n in numbers):
             return 6
         if len(set(moves)) < len(moves):
             return 8
-        if room < size * kinds:
-            return 11
-        return 0
+        return too_short(room, size, kinds)
 
     def _search(self):
         return layered_search(self.size, self.start, self.marks[:self.kinds], self.moves)
 
     def _answer(self, named, spared=False):
-        """named: the states that the changed moves leave, or whose marks changed; None after a load.
+        """named: the states that the changed moves leave, or whose marks changed; None after a load and for another K.
         spared: the run before the changes had come to none of them."""
         self.run = run = self._search()
         count = len(run.looks)
@@ -431,7 +453,7 @@ class DeskTable(Table):
 def bits_of(words):
     """The marks of each kind as one number: bit s is that of state s."""
     each = [words[at:at + WORDS] for at in range(0, len(words), WORDS)]
-    return [sum(word << (64 * at) for at, word in enumerate(own)) for own in each]
+    return [sum(word << (64 * at) for at, word in enumerate(own)) if any(own) else 0 for own in each]
 
 
 def pairs(numbers):
@@ -455,8 +477,8 @@ FIELDS = {b"game": [3], b"kinds": [2], b"pay": [2, 3], b"move": [3], b"go": [1],
 BEHIND = {b"game": {b"kinds", b"pay", b"move", b"go"}, b"kinds": {b"pay", b"move", b"go"}, b"pay": {b"pay", b"move", b"go"},
           b"move": {b"move", b"go"}}           # the words that may follow, up to `go`
 CHANGES = {b"add", b"cut", b"mark", b"unmark"}
-OUTSIDE = CHANGES | {b"begin", b"ways"}        # behind `go`, outside a batch
-INSIDE = CHANGES | {b"end"}                    # inside one
+OUTSIDE = CHANGES | {b"begin", b"kinds", b"ways"}      # behind `go`, outside a batch
+INSIDE = CHANGES | {b"end"}                    # inside one; `kinds` and `ways` are no changes
 WITH_KIND = {b"pay", b"mark", b"unmark"}       # name a state and, if it is not left out, a kind
 
 
@@ -471,7 +493,7 @@ def records(data):
 
 def read_number(field, most):
     """The number, or None for a bad one."""
-    if not 1 <= len(field) <= 5 or any(c not in b"0123456789" for c in field):
+    if len(field) > 5 or not field.isdigit():        # with no digits it is none
         return None
     if len(field) > 1 and field[:1] == b"0":
         return None
@@ -555,7 +577,12 @@ def change_lines(line, rest, table):
     elif word == b"ways":
         yield answer_line(table.ways(*args))
     else:
-        yield answer_line(getattr(table, word.decode())(*args, MOST_STATES))
+        yield answer_line(called(table, word.decode(), *args, MOST_STATES))
+
+
+def called(table, word, *args):
+    """The call that a word stands for, made. What `kinds` names is held by the table, so its call has another name."""
+    return getattr(table, "set_kinds" if word == "kinds" else word)(*args)
 
 
 def batch_lines(lines):
@@ -1702,10 +1729,9 @@ KIND_GAMES = [
     ]),
     # lines out of place, and such as cannot be read
     ("kinds-lines", 2, of_kinds(2, [0], [1]), C_MOVES, ("round", 4, 0, [], [0, 1]), [
-        *[("line", row, ("no", 1)) for row in ("kinds 2", "kinds 1", "kinds", "kinds 2 ", "kinds 5", "pay 0 2", "mark 0 ",
-                                               "mark 0 2 ", "mark 0 2 2", "mark 0 02", "mark 0 +2", "mark 0  2", "mark  2",
-                                               "unmark 1 2\r", "unmark 1 65536", "unmark 1 10", "mark", "add 0 1 1", "cut 0 1 1",
-                                               "ways 0 1", "Kinds 2")],
+        *[("line", row, ("no", 1)) for row in ("kinds", "kinds 2 ", "pay 0 2", "mark 0 ", "mark 0 2 ", "mark 0 2 2", "mark 0 02",
+                                               "mark 0 +2", "mark 0  2", "mark  2", "unmark 1 2\r", "unmark 1 65536",
+                                               "unmark 1 10", "mark", "add 0 1 1", "cut 0 1 1", "ways 0 1", "Kinds 2")],
         ("batch", ["kinds 2"], ("no", 1, 1)),
         ("batch", [("mark", 0, 2), "kinds 2", ("mark", 0, 2)], ("no", 1, 2)),
         ("batch", [("mark", 0, 2), ("unmark", 0, 2), "unmark 0 2 1"], ("no", 1, 3)),
@@ -1742,7 +1768,6 @@ KIND_GAMES = [
         ("unmark", 1, 1, ("none", 1, 1)),
         ("unmark", 1, ("no", 14)),
         ("mark", 1, ("round", 2, 1, [], [0, 1])),
-        ("line", "kinds 1", ("no", 1)),
         ("batch", [("unmark", 1, 1), ("mark", 1), ("mark", 0, 1)], ("round", 3, 0, [], [0, 1])),
         ("batch", [("unmark", 0), ("mark", 0, 2)], ("no", 4, 2)),
     ]),
@@ -1768,7 +1793,299 @@ KIND_GAMES = [
     *[long_walk(kinds) for kinds in (2, 3, 4)],
 ]
 
-WORKED = SINGLES + BATCH_GAMES + WAYS_GAMES + KIND_GAMES
+# The same for sessions that go over to another K, worked by hand. Such a call has the K: ("kinds", K, answer). The list lent
+# for it is as long as the new K needs. It keeps no look, and what follows is held against the run on the new K.
+def over_moves(kinds):
+    """A table with one move too many for this K, until one is cut. None of them leaves a state below 32."""
+    return ("over-moves-%d" % kinds, 64, [0], FULL_MOVES[:MOST_MOVES // kinds + 1], ("none", 0, 0), [
+        ("kinds", kinds, ("no", 16)),
+        ("mark", 1, kinds, ("no", 4)),
+        ("cut", 32, 0, ("none", 0, 0)),
+        ("kinds", kinds, ("none", 0, 0)),
+        ("add", 32, 0, ("no", 9)),
+        ("batch", [("add", 0, 1)], ("no", 9, 1)),
+        ("mark", 1, kinds, ("none", 0, 0)),
+        ("batch", [("cut", 32, 1), ("add", 0, 1)], ("none", 2, 0)),     # 0.1>1.2 | 0.1>1.2
+        ("add", 1, 0, ("no", 9)),
+        ("kinds", 1, ("none", 2, 0)),
+        ("add", 1, 0, ("round", 3, 1, [], [0, 1])),                     # 0.1>1.1 1.1>0.1 | 0.1>1.1 1.1>0.1
+        ("kinds", kinds, ("no", 16)),
+        ("batch", [("cut", 33, 0)], ("round", 0, 4, [], [0, 1])),
+        ("kinds", kinds, ("none", 6, 0)),                               # 0.1>1.2 1.2>0.2 0.2>1.2 | 0.1>1.2 1.2>0.2 0.2>1.2
+        # as on the full tables above
+        ("batch", [("mark", 1, kind) for kind in range(2, kinds + 1)], ("round", 4 * kinds - 5, 1, [], [0, 1] * (kinds - 1))),
+        ("add", 33, 0, ("no", 9)),
+        ("kinds", kinds, ("round", 4 * kinds - 4, 0, [], [0, 1] * (kinds - 1))),
+    ])
+
+
+def over_walk(kinds):
+    """The ring of as many states as there may be with this K, first with one kind, which state 0 carries."""
+    size = MOST_STATES // kinds
+    lap, laps, last = list(range(size)), 2 * size * kinds, size - 1
+    return ("over-walk-%d" % size, size, [0], [(s, (s + 1) % size) for s in lap], ("round", 2 * size, 0, [], lap), [
+        ("kinds", kinds + 1, ("no", 16)),
+        ("kinds", kinds, ("none", 2 * size + 2, 0)),                    # a lap from 0.1 to 0.2 and 0.2>1.2, twice
+        ("kinds", kinds + 1, ("no", 16)),
+        ("batch", [("mark", 0, kind) for kind in range(2, kinds + 1)], ("round", laps, 0, [], lap * kinds)),
+        ("batch", [], ("round", 0, laps, [], lap * kinds)),
+        ("kinds", kinds, ("round", laps, 0, [], lap * kinds)),
+        ("cut", last, 0, ("none", last, last)),
+        ("add", last, 0, ("round", laps - last, last, [], lap * kinds)),
+        ("kinds", kinds + 1, ("no", 16)),
+        ("kinds", 1, ("round", 2 * size, 0, [], lap)),
+        ("mark", last, ("round", 2, last, [], lap)),                    # the ring, and the last state's move once more
+        ("kinds", kinds, ("none", 2 * size + 2, 0)),
+        *asked((last, 1, 1), (0, 1, 1)),
+        *outside(size, size * kinds),
+    ])
+
+
+def over_states(kinds):
+    """One state too many for this K, and not for the one below."""
+    last = MOST_STATES // kinds
+    alone = "round", 4, 0, [], [0, last]                                # 0.1>last.1 last.1>0.1 | 0.1>last.1 last.1>0.1
+    below = alone if kinds == 2 else ("none", 6, 0)                     # 0.1>last.2 last.2>0.2 0.2>last.2 | the same
+    return ("over-states-%d" % (last + 1), last + 1, [0], [(0, last), (last, 0)], alone, [
+        *[("kinds", above, ("no", 16)) for above in range(kinds, 7)],
+        ("mark", 0, 2, ("no", 4)),
+        ("kinds", kinds - 1, below),
+        ("kinds", kinds, ("no", 16)),
+        ("mark", last, kinds, ("no", 4)),
+        ("kinds", 1, alone),
+    ])
+
+
+OVER_GAMES = [
+    # up and down: what was carried above the K is carried by nobody when that K comes again
+    ("over-two", 2, [0], C_MOVES, ("round", 4, 0, [], [0, 1]), [
+        ("mark", 1, 2, ("no", 4)),
+        ("kinds", 2, ("none", 6, 0)),                           # 0.1>1.2 1.2>0.2 0.2>1.2 | 0.1>1.2 1.2>0.2 0.2>1.2
+        ("mark", 1, 2, ("round", 3, 1, [], [0, 1])),            # 0.1>1.2 1.2>0.1 | 0.1>1.2 1.2>0.1
+        ("kinds", 1, ("round", 4, 0, [], [0, 1])),              # 0.1>1.1 1.1>0.1 | 0.1>1.1 1.1>0.1
+        ("unmark", 1, 2, ("no", 4)),
+        ("kinds", 2, ("none", 6, 0)),
+        ("unmark", 1, 2, ("no", 14)),
+        ("kinds", 2, ("none", 6, 0)),                           # the same again
+        ("kinds", 3, ("none", 6, 0)),                           # the same looks: nothing leaves layer 2
+        ("mark", 1, 3, ("none", 5, 1)),
+        ("mark", 1, 2, ("round", 7, 1, [], [0, 1, 0, 1])),      # 0.1>1.2 1.2>0.3 0.3>1.3 1.3>0.1 | the same four
+        ("kinds", 4, ("none", 12, 0)),                          # 0.1>1.2 1.2>0.3 0.3>1.3 1.3>0.4 0.4>1.4 1.4>0.4 | the same six
+        # 0.1>1.2 1.2>0.3 0.3>1.3 1.3>0.4 0.4>1.1 1.1>0.1 | the same six
+        ("mark", 0, 4, ("round", 12, 0, [], [0, 1, 0, 1, 0, 1])),
+        ("kinds", 2, ("round", 4, 0, [], [0, 1])),
+        ("kinds", 4, ("none", 8, 0)),                           # 0.1>1.2 1.2>0.3 0.3>1.3 1.3>0.3 | the same four
+        ("unmark", 1, 3, ("no", 14)),
+        ("unmark", 0, 4, ("no", 14)),
+        ("kinds", 3, ("none", 8, 0)),
+        ("kinds", 1, ("round", 4, 0, [], [0, 1])),
+    ]),
+    # each step from three kinds: those up to the K stay
+    ("over-three", 4, of_kinds(3, [0], [1], [3]), RING_4,
+     ("round", 8, 0, [], [0, 1, 2, 3]), [                       # 0.1>1.2 1.2>2.3 2.3>3.3 3.3>0.1 | the same four
+        ("kinds", 2, ("round", 8, 0, [], [0, 1, 2, 3])),        # 0.1>1.2 1.2>2.1 2.1>3.1 3.1>0.1 | the same four
+        ("unmark", 3, 3, ("no", 4)),
+        ("mark", 4, 3, ("no", 4)),
+        ("mark", 4, 2, ("no", 6)),
+        ("unmark", 3, 2, ("no", 14)),
+        ("mark", 1, 2, ("no", 13)),
+        ("kinds", 3, ("none", 12, 0)),                          # 0.1>1.2 1.2>2.3 2.3>3.3 3.3>0.3 0.3>1.3 1.3>2.3 | the same six
+        ("mark", 3, 3, ("round", 5, 3, [], [0, 1, 2, 3])),
+        # 0.1>1.2 1.2>2.3 2.3>3.3 3.3>0.4 0.4>1.4 1.4>2.4 2.4>3.4 3.4>0.4 | the same eight
+        ("kinds", 4, ("none", 16, 0)),
+        ("mark", 2, 4, ("round", 14, 2, [], [0, 1, 2, 3, 0, 1, 2, 3])),   # the last two are 2.4>3.1 3.1>0.1
+        ("kinds", 1, ("round", 8, 0, [], [0, 1, 2, 3])),
+        ("kinds", 4, ("none", 10, 0)),                          # 0.1>1.2 1.2>2.2 2.2>3.2 3.2>0.2 0.2>1.2 | the same five
+        ("mark", 2, 4, ("none", 8, 2)),                         # it had been dropped
+        ("kinds", 2, ("none", 10, 0)),
+    ]),
+    # a game's only state
+    ("over-alone", 1, [0], [(0, 0)], ("round", 2, 0, [], [0]), [
+        ("kinds", 4, ("none", 4, 0)),                           # 0.1>0.2 0.2>0.2 | 0.1>0.2 0.2>0.2
+        # 0.1>0.2 0.2>0.3 0.3>0.4 0.4>0.1 | the same four
+        ("batch", [("mark", 0, 2), ("mark", 0, 3), ("mark", 0, 4)], ("round", 8, 0, [], [0, 0, 0, 0])),
+        ("kinds", 3, ("round", 6, 0, [], [0, 0, 0])),
+        ("kinds", 2, ("round", 4, 0, [], [0, 0])),
+        ("kinds", 1, ("round", 2, 0, [], [0])),
+        ("kinds", 4, ("none", 4, 0)),
+        ("mark", 0, 3, ("none", 4, 0)),
+        ("mark", 0, 2, ("none", 8, 0)),                         # 0.1>0.2 0.2>0.3 0.3>0.4 0.4>0.4 | the same four
+        ("kinds", 3, ("round", 6, 0, [], [0, 0, 0])),
+        ("cut", 0, 0, ("none", 0, 0)),
+        ("kinds", 4, ("none", 0, 0)),
+        ("add", 0, 0, ("none", 8, 0)),
+        ("kinds", 1, ("round", 2, 0, [], [0])),
+        ("unmark", 0, ("none", 1, 0)),
+        ("kinds", 2, ("none", 1, 0)),                           # 0.1>0.1
+    ]),
+    # refused: the session runs on with its old K, its marks and its run
+    ("over-refused", 2, of_kinds(2, [0], [1]), C_MOVES, ("round", 4, 0, [], [0, 1]), [
+        *[("kinds", kinds, ("no", 16)) for kinds in (0, 5, 6, 255, 512, 65535)],
+        ("batch", [], ("round", 0, 4, [], [0, 1])),
+        ("mark", 0, 3, ("no", 4)),
+        ("mark", 1, 2, ("no", 13)),
+        ("kinds", 0, ("no", 16)),
+        ("unmark", 1, 2, ("none", 5, 1)),
+        ("kinds", 5, ("no", 16)),
+        ("mark", 1, 2, ("round", 3, 1, [], [0, 1])),
+        ("kinds", 65535, ("no", 16)),
+        ("add", 0, 0, ("round", 7, 0, [], [0, 1])),             # 0.1>1.2 1.2>0.1 0.1>0.2 0.2>1.2 0.2>0.2 | 0.1>1.2 1.2>0.1
+        ("cut", 0, 0, ("round", 4, 0, [], [0, 1])),
+        ("kinds", 3, ("none", 8, 0)),                           # 0.1>1.2 1.2>0.3 0.3>1.3 1.3>0.3 | the same four
+        ("add", 0, 1, ("no", 8)),
+        ("cut", 0, 0, ("no", 10)),
+        ("add", 0, 2, ("no", 6)),
+        ("mark", 2, 4, ("no", 4)),
+        ("mark", 2, 3, ("no", 6)),
+        ("mark", 1, 2, ("no", 13)),
+        ("unmark", 1, 3, ("no", 14)),
+        ("batch", [("mark", 1, 3), ("mark", 1, 3)], ("no", 13, 2)),
+        ("batch", [("add", 0, 0), ("mark", 1, 4)], ("no", 4, 2)),
+        ("kinds", 4, ("none", 8, 0)),
+        ("kinds", 2, ("round", 4, 0, [], [0, 1])),
+    ]),
+    # Game A, with other K's between its lines
+    ("over-a", 4, [2], [(0, 1), (1, 2)], ("none", 2, 0), [
+        ("kinds", 1, ("none", 2, 0)),
+        ("add", 2, 1, ("round", 2, 2, [0], [1, 2])),
+        ("kinds", 1, ("round", 4, 0, [0], [1, 2])),
+        ("kinds", 1, ("round", 4, 0, [0], [1, 2])),
+        ("add", 2, 3, ("round", 3, 2, [0], [1, 2])),
+        # 0.1>1.1 1.1>2.1 2.1>1.2 1.2>2.2 2.2>1.2 2.2>3.2 2.1>3.2 | the last five
+        ("kinds", 2, ("none", 12, 0)),
+        # 0.1>1.1 1.1>2.1 2.1>1.2 1.2>2.1 2.1>3.2 | 2.1>1.2 1.2>2.1
+        ("mark", 1, 2, ("round", 6, 1, [0, 1], [2, 1])),
+        ("cut", 1, 2, ("none", 0, 1)),
+        ("kinds", 1, ("none", 1, 0)),
+        ("cut", 1, 2, ("no", 10)),
+        ("add", 2, 0, ("none", 0, 1)),
+    ]),
+    # the moves hold the order in which they came, through every K: 02 10 20 01, and then 10 20 01 02
+    ("over-order", 3, [1, 2], [(0, 1), (0, 2), (1, 0), (2, 0)], ("round", 3, 0, [], [0, 1]), [
+        ("cut", 0, 1, ("round", 3, 0, [], [0, 2])),
+        ("add", 0, 1, ("round", 0, 3, [], [0, 2])),
+        ("kinds", 1, ("round", 3, 0, [], [0, 2])),
+        # 0.1>2.1 2.1>0.2 0.2>2.2 2.2>0.2 0.2>1.2 1.2>0.2 | the last five | 0.1>1.1 1.1>0.2 | 1.1>0.2
+        ("kinds", 2, ("none", 14, 0)),
+        ("mark", 0, 2, ("round", 6, 0, [0, 2], [0, 1])),        # 0.1>2.1 2.1>0.2 0.2>2.1 0.2>1.1 1.1>0.2 | 1.1>0.2
+        ("kinds", 1, ("round", 3, 0, [], [0, 2])),
+        ("cut", 0, 2, ("round", 3, 0, [], [0, 1])),
+        ("add", 0, 2, ("round", 0, 3, [], [0, 1])),
+        ("kinds", 1, ("round", 3, 0, [], [0, 1])),
+        ("kinds", 2, ("none", 14, 0)),                          # as before, with 1 and 2 in each other's place
+        ("mark", 0, 2, ("round", 6, 0, [0, 1], [0, 2])),
+    ]),
+    # a move that the run on one kind had not come to, and that on two kinds had: as in the game where every state carries all.
+    # There 1.1 and 2.2 have finished, and with one kind 2 alone
+    ("over-spared-1", 3, of_kinds(2, [0, 1, 2], [0, 1, 2]), RING_3, ("round", 8, 0, *TWICE_3), [
+        ("kinds", 1, ("round", 4, 0, [], [0, 1, 2])),           # 0.1>1.1 1.1>2.1 2.1>0.1 | 2.1>0.1
+        ("add", 1, 0, ("round", 0, 4, [], [0, 1, 2])),
+        ("kinds", 2, ("none", 10, 0)),                          # 0.1>1.2 1.2>2.2 2.2>0.2 0.2>1.2 1.2>0.2 | the same five
+        # 0.1>1.2 1.2>2.1 2.1>0.2 0.2>1.1 1.1>2.2 2.2>0.1 1.1>0.2 | 1.1>2.2 2.2>0.1
+        ("batch", [("mark", 0, 2), ("mark", 1, 2), ("mark", 2, 2)], ("round", 9, 0, *TWICE_3)),
+        ("kinds", 2, ("round", 9, 0, *TWICE_3)),
+        ("cut", 1, 0, ("round", 7, 1, *TWICE_3)),
+        ("kinds", 2, ("round", 8, 0, *TWICE_3)),
+        ("add", 0, 0, ("round", 0, 8, *TWICE_3)),
+        ("kinds", 1, ("round", 4, 0, [], [0, 1, 2])),
+        ("batch", [("add", 1, 0), ("add", 1, 1)], ("round", 0, 4, [], [0, 1, 2])),
+        ("cut", 0, 0, ("round", 0, 4, [], [0, 1, 2])),
+        ("batch", [("cut", 1, 1), ("cut", 1, 0), ("add", 0, 2)], ("round", 0, 4, [], [0, 1, 2])),
+        ("add", 2, 2, ("round", 3, 2, [], [0, 1, 2])),          # 0.1>1.1 1.1>2.1 2.1>0.1 2.1>2.1 | 2.1>0.1
+    ]),
+    # and the other way round: with two kinds 2.2 is on the open path, with one 2 has left it
+    ("over-spared-2", 3, of_kinds(2, [0, 1], [2]), F_MOVES,
+     ("round", 5, 0, [0, 1], [2, 1]), [                         # 0.1>1.2 1.2>2.2 2.2>1.1 1.1>2.2 | 1.1>2.2
+        ("add", 2, 2, ("round", 0, 5, [0, 1], [2, 1])),
+        ("kinds", 1, ("round", 6, 0, [0], [1, 2])),             # 0.1>1.1 1.1>2.1 2.1>1.1 2.1>2.1 | 1.1>2.1 2.1>1.1
+        ("cut", 2, 2, ("round", 3, 2, [0], [1, 2])),
+        ("add", 2, 2, ("round", 4, 2, [0], [1, 2])),
+        # 0.1>1.2 1.2>2.2 2.2>1.2 2.2>2.2 | the same four
+        ("kinds", 2, ("none", 8, 0)),
+        ("cut", 2, 2, ("none", 4, 2)),
+        ("mark", 2, 2, ("round", 3, 2, [0, 1], [2, 1])),
+        ("kinds", 2, ("round", 5, 0, [0, 1], [2, 1])),
+        ("batch", [("add", 2, 2), ("add", 0, 2)], ("round", 0, 5, [0, 1], [2, 1])),
+        ("kinds", 2, ("round", 5, 0, [0, 1], [2, 1])),
+        ("batch", [("cut", 2, 2), ("cut", 0, 2)], ("round", 0, 5, [0, 1], [2, 1])),
+        ("kinds", 1, ("round", 5, 0, [0], [1, 2])),
+        ("batch", [("add", 2, 2)], ("round", 4, 2, [0], [1, 2])),
+    ]),
+    # states that no run meets: every look is kept, and their marks come under the same rule
+    ("over-unmet", 4, [0], [(0, 1), (1, 0), (2, 3)], ("round", 4, 0, [], [0, 1]), [
+        ("kinds", 2, ("none", 6, 0)),
+        ("mark", 2, 2, ("none", 0, 6)),
+        ("mark", 1, 2, ("round", 3, 1, [], [0, 1])),
+        ("batch", [("mark", 3, 2), ("add", 3, 2), ("cut", 2, 3)], ("round", 0, 4, [], [0, 1])),
+        ("kinds", 1, ("round", 4, 0, [], [0, 1])),
+        ("mark", 3, ("round", 0, 4, [], [0, 1])),
+        ("kinds", 3, ("none", 6, 0)),
+        ("unmark", 2, 2, ("no", 14)),
+        ("unmark", 3, 2, ("no", 14)),
+        ("unmark", 3, ("none", 0, 6)),
+        *asked((2, 0, 1), (3, 1, 0), (0, 1, 1)),
+        *outside(4, 12),
+    ]),
+    # among batches and questions; inside a batch it is no change
+    ("over-batch", 4, [3], [(0, 1), (1, 2), (2, 3), (3, 2)], ("round", 5, 0, [0, 1], [2, 3]), [
+        *[("batch", [row], ("no", 1, 1)) for row in ("kinds 1", "kinds 2", "kinds 0", "kinds 5", "kinds", "kinds 65536")],
+        ("batch", [("mark", 1), "kinds 2", ("mark", 1)], ("no", 1, 2)),
+        ("batch", [("mark", 1), ("mark", 1, 2), "kinds 2"], ("no", 4, 2)),
+        ("batch", BACK_KIND * 32 + ["kinds 1"], ("no", 1, 65)),
+        ("mark", 1, 2, ("no", 4)),
+        # 0.1>1.1 1.1>2.1 2.1>3.1 3.1>2.2 2.2>3.2 3.2>2.2 | the last three
+        ("kinds", 2, ("none", 9, 0)),
+        ("batch", [], ("none", 0, 9)),
+        # 0.1>1.1 1.1>2.2 2.2>3.1 3.1>2.2 | 3.1>2.2
+        ("batch", [("mark", 1), ("mark", 2, 2)], ("round", 4, 1, [0, 1], [2, 3])),
+        ("batch", [("add", 0, 3), ("add", 1, 3), ("add", 2, 0)], ("round", 0, 5, [0, 1], [2, 3])),
+        *asked((0, 2, 1), (1, 2, 1), (2, 2, 2), (3, 1, 3)),
+        ("kinds", 1, ("round", 5, 0, [0, 1], [2, 3])),          # 0.1>1.1 1.1>2.1 2.1>3.1 3.1>2.1 | 3.1>2.1
+        *asked((0, 2, 1), (1, 2, 1), (2, 2, 2), (3, 1, 3)),
+        ("batch", [("cut", 0, 3), ("cut", 1, 3), ("cut", 2, 0)], ("round", 0, 5, [0, 1], [2, 3])),
+        ("batch", [("unmark", 3), "kinds 2", ("mark", 3)], ("no", 1, 2)),
+        ("kinds", 2, ("none", 7, 0)),                           # 0.1>1.1 1.1>2.2 2.2>3.2 3.2>2.2 | 1.1>2.2 2.2>3.2 3.2>2.2
+        *asked((0, 1, 0), (2, 1, 2)),
+        *outside(4, 7, 8),
+        ("batch", [("mark", 3, 2), ("mark", 3, 3)], ("no", 4, 2)),
+        ("batch", [("mark", 3, 2), ("unmark", 3, 2), ("mark", 2, 2)], ("round", 3, 2, [0, 1], [2, 3])),
+        ("batch", BACK_KIND[::-1] * 32, ("round", 4, 1, [0, 1], [2, 3])),
+    ]),
+    # lines that cannot be read, and K's that there are not
+    ("over-lines", 2, [1], C_MOVES, ("round", 3, 0, [], [0, 1]), [
+        *[("line", row, ("no", 1)) for row in ("kinds", "kinds ", "kinds 65536", "kinds 99999", "kinds 100000", "kinds 01",
+                                               "kinds 02", "kinds 00", "kinds 1 1", "kinds 2 ", "kinds  2", "kinds +2",
+                                               "kinds -1", "kinds 2\r", "kinds 2\0", "kinds x", " kinds 2", "Kinds 2", "KINDS 2",
+                                               "kind 2", "kindss 2")],
+        ("mark", 0, 2, ("no", 4)),
+        *[("kinds", kinds, ("no", 16)) for kinds in (0, 5, 9, 10, 9999, 65535)],
+        ("kinds", 1, ("round", 3, 0, [], [0, 1])),
+        ("kinds", 2, ("none", 7, 0)),                           # 0.1>1.1 1.1>0.2 0.2>1.2 1.2>0.2 | 1.1>0.2 0.2>1.2 1.2>0.2
+        ("line", "pay 0 2", ("no", 1)),
+        ("line", "kinds 1 ", ("no", 1)),
+        ("mark", 0, 2, ("round", 5, 0, [0], [1, 0])),           # 0.1>1.1 1.1>0.2 0.2>1.1 | 1.1>0.2 0.2>1.1
+    ]),
+    # with 512 states, and with 2,048 moves, there is one kind and no more
+    ("over-512", 512, [511], [(0, 511), (511, 0)], ("round", 3, 0, [], [0, 511]), [
+        *[("kinds", kinds, ("no", 16)) for kinds in (2, 3, 4, 0)],
+        ("kinds", 1, ("round", 3, 0, [], [0, 511])),
+        ("unmark", 511, ("none", 1, 1)),
+        ("kinds", 1, ("none", 2, 0)),
+    ]),
+    ("over-2048", 64, [0, 1], FULL_MOVES, ("none", 0, 0), [
+        *[("kinds", kinds, ("no", 16)) for kinds in (2, 3, 4, 5)],
+        ("kinds", 1, ("none", 0, 0)),
+        ("add", 0, 1, ("no", 9)),
+        ("batch", [("cut", 32, 0), ("add", 0, 1), ("cut", 32, 1), ("add", 1, 0)], ("round", 3, 0, [], [0, 1])),
+        ("kinds", 2, ("no", 16)),
+        ("kinds", 1, ("round", 3, 0, [], [0, 1])),
+    ]),
+    *[over_moves(kinds) for kinds in (2, 3, 4)],
+    *[over_walk(kinds) for kinds in (2, 3, 4)],
+    *[over_states(kinds) for kinds in (2, 3, 4)],
+]
+
+WORKED = SINGLES + BATCH_GAMES + WAYS_GAMES + KIND_GAMES + OVER_GAMES
 
 # N, paying states, moves; and, worked by hand, the looks, with a bar where an inner search begins and where it ends
 # without success; stem and round, if there are any. Start is 0. With kinds, those that carry each are parted by a comma, and
@@ -1819,7 +2136,12 @@ def made(table, call, room):
         return table.ways(*named)
     if word == "batch":
         named = [[line if isinstance(line, tuple) else None for line in named[0]]]
-    return getattr(table, word)(*named, room)
+    return called(table, word, *named, room)
+
+
+def least_room(table, call):
+    """How many entries the list lent for such a call must have: for another K as many as that needs."""
+    return table.size * call[1] if call[0] == "kinds" else table.least_room
 
 
 def rows_of(call):
@@ -1895,10 +2217,13 @@ def round_in_parts(size, start, marks, moves):
 Told = namedtuple("Told", "looks outer met done path walk")
 
 
+class Stop(Exception):
+    """Ends the recursive search at a round."""
+
+
+@functools.lru_cache(maxsize=4)
 def told_search(size, start, marks, moves):
-    """The steps of the paper once more, by recursion, sharing nothing."""
-    class Stop(Exception):
-        pass
+    """The steps of the paper once more, by recursion, sharing nothing. What it tells of the last few games is kept at hand."""
     met, path, marked, looks, inner, walk = {}, [], set(), [], [], []
     outer, done = {}, []
 
@@ -1947,7 +2272,8 @@ def in_use(table):
 
 
 def told_of(table):
-    return told_search(*in_use(table))
+    size, start, marks, moves = in_use(table)
+    return told_search(size, start, tuple(map(tuple, marks)), tuple(moves))
 
 
 def first_met(told, state):
@@ -1987,9 +2313,9 @@ def paired(size, number):
     return number % size, number // size + 1
 
 
-def same_search(size, start, marks, moves):
-    """The run of the plain search, with which the textbook search agrees in verdict, walk and looks."""
-    run, search = layered_search(size, start, marks, moves), TextbookSearch(size, start, marks, moves)
+def same_search(size, start, marks, moves, run=None):
+    """The run of the plain search, with which the textbook search agrees in verdict, walk and looks. run: that of a table."""
+    run, search = run or layered_search(size, start, marks, moves), TextbookSearch(size, start, marks, moves)
     assert search.looks == [(paired(size, a), paired(size, b)) for a, b in run.layered.looks], (size, start, marks, moves)
     assert (search.found, search.stem, search.round) == (run.found, run.stem, run.round), (size, start, marks, moves)
     assert run.found == round_in_parts(size, start, marks, moves), (size, start, marks, moves)
@@ -2011,7 +2337,7 @@ def check_walk(run, size, start, marks, moves):
 
 
 def check_textbook(table):
-    same_search(*in_use(table))
+    same_search(*in_use(table), table.run)
 
 
 def check_run(table):
@@ -2031,6 +2357,11 @@ def check_run(table):
     assert run.found == bool(told.path)
     if table.kinds == 1:
         assert run.found == free_round_reachable(table.size, table.start, table.pays, table.moves)
+
+
+def check_table(table):
+    """As much as there is time for: the whole of a full table takes too long."""
+    (check_run if table.size <= 8 else check_textbook)(table)
 
 
 def check_change(table, before, word, named, answer):
@@ -2144,6 +2475,55 @@ def moved(table, word, a, b, room):
     return answer, sort_of(before, word, a, b)
 
 
+def held(table):
+    """All that a table holds, to be compared with later."""
+    return table.size, table.start, table.kinds, [list(own) for own in table.marks], list(table.moves)
+
+
+def gone_over(table, kinds, room):
+    """Another K: its number held against the list of refusals, what it leaves and its answer against a load with the marks up to
+    that K and the moves in their order. The answer, and the table of that load in a list, which is empty if it is refused."""
+    before, run = held(table), table.run
+    size, start, _, marks, moves = before
+    faults = [(16, kinds not in (1, 2, 3, 4) or size * kinds > 512 or len(moves) * kinds > 2048), (11, room < size * kinds)]
+    number = next((n for n, holds in faults if holds), 0)
+    answer = table.set_kinds(kinds, room)
+    if number:
+        assert answer == ("no", number) and table.run is run and held(table) == before
+        return answer, []
+    carriers = [[s for s in range(size) if own[s]] for own in marks[:kinds]]
+    fresh = Table()
+    assert answer == fresh.load(*load_args(size, start, of_kinds(kinds, *carriers), moves), room) and answer[2] == 0
+    assert held(table) == held(fresh) == (size, start, kinds, marks[:kinds] + [[False] * size] * (4 - kinds), moves)
+    check_table(table)
+    return answer, [fresh]
+
+
+def tried(table, call, room):
+    """A call with all that must hold of it: its answer, and the table that another K was held against in a list."""
+    word, *named = call
+    if word == "kinds":
+        return gone_over(table, *named, room)
+    if word == "batch":
+        return batched(table, *named, room), []
+    if word in MOVE_WORDS:
+        return moved(table, *call, room)[0], []
+    if word in ("mark", "unmark"):
+        state, *kind = named
+        return switch(table, word, state, room, *kind), []
+    return made(table, call, room), []
+
+
+def in_step(table, others, call, room):
+    """The same of a session, with others beside it: each was loaded where the session went over, answers every later call alike
+    and is left alike."""
+    answer, fresh = tried(table, call, room)
+    for other in others:
+        assert made(other, call, room) == answer and held(other) == held(table), (held(table), call)
+    others += fresh
+    return answer
+
+
 def sort_of(before, word, a, b):
     """What the search had to do with a move. Where it had come to it in one layer, it may not have in another, in which the
     state that it leaves was met all the same."""
@@ -2161,13 +2541,12 @@ def test_games():
         rows = game_rows(size, 0, pay, moves)
         table = Table()
         loaded = lines = loaded_lines(table, name, size, pay, moves, first)
-        checked = check_run if size <= 8 else check_textbook       # the whole of a full table takes too long
         if table.loaded:
-            checked(table)
+            check_table(table)
         for *call, answer in calls:
-            got = made(table, call, table.least_room)
+            got = worked_call(table, call)
             assert got == answer, (name, call, got)
-            checked(table)
+            check_table(table)
             rows += rows_of(call)
             lines += answer_line(answer)
         text = as_text("|".join(rows))
@@ -2176,6 +2555,15 @@ def test_games():
         assert desk_hears(text) == loaded, name
         if not isinstance(pay, Carried):                           # `kinds 1`, written, changes nothing
             assert answer_text(as_text("|".join(rows[:1] + ["kinds 1"] + rows[1:]))) == lines, name
+
+
+def worked_call(table, call):
+    """A call of the games worked by hand, with a list that is just long enough. Another K is tried with one entry less before."""
+    room = least_room(table, call)
+    if call[0] != "kinds":
+        return made(table, call, room)
+    gone_over(table, *call[1:], max(room - 1, 0))
+    return gone_over(table, *call[1:], room)[0]
 
 
 def loaded_lines(table, name, size, pay, moves, first):
@@ -2217,8 +2605,8 @@ def says(given, wanted):
 
 def desk_hears(text):
     """The desk's output for a text: the box's for the text up to its `go`, and the first two lines of that for all of it."""
-    got = desk_text(text)
-    assert got == answer_text(up_to_go(text)) == first_two(answer_text(text)), (text, got)
+    got, heard, cut = desk_text(text), answer_text(text), up_to_go(text)
+    assert got == first_two(heard) == (heard if cut == text else answer_text(cut)), (text, got)
     return got
 
 
@@ -2387,6 +2775,16 @@ def random_load(rng, table, most, kinds=None):
     return table.load(*load_args(size, rng.randrange(size), pay, moves), size * (kinds or 1))
 
 
+def ring_load(rng, table, most, kinds):
+    """A random game of up to so many states: a ring that has all kinds, and further moves."""
+    size = rng.randint(2, most)
+    moves = list(dict.fromkeys([(s, (s + 1) % size) for s in range(size)]
+                               + [(rng.randrange(size), rng.randrange(size)) for _ in range(size)]))
+    rng.shuffle(moves)
+    carriers = [sorted({rng.randrange(size) for _ in range(rng.choice((1, 1, 2, size)))}) for _ in range(kinds)]
+    return table.load(*load_args(size, 0, of_kinds(kinds, *carriers), moves), size * kinds)
+
+
 def random_carried(rng, size, kinds):
     """Each kind is carried by few states, by many or by all, seldom by none; in some games one state carries all kinds."""
     shares = [0 if rng.random() < 0.06 else rng.choice((0.2, 0.35, 0.6, 1)) for _ in range(kinds)]
@@ -2396,6 +2794,12 @@ def random_carried(rng, size, kinds):
 
 def random_kind(rng, table):
     return 1 if table.kinds == 1 else rng.randint(1, table.kinds)
+
+
+def given_marks(rng, table):
+    """For each kind in use that none carries a mark of some state."""
+    bare = [kind for kind, own in enumerate(table.marks[:table.kinds], 1) if not any(own)]
+    return [("mark", rng.randrange(table.size), kind) for kind in bare]
 
 
 def random_switch(rng, table):
@@ -2628,7 +3032,7 @@ def test_ways_lines():
         says(head + "begin|cut 0 1|add 2 1|%s|cut 0 1|end|ways 1|ways 2" % row, heard + "no 1 3|ways 1 1 1|ways 2 0 0|")
         says(head + "ways 1|begin|cut 0 1|" + row, heard + "ways 1 1 1|")
         says(head + "begin|" + "mark 2|unmark 2|" * 32 + row + "|end", heard + "no 1 65|")
-    for word in ("kinds 1", "short 1", "all", "why", "sheet"):
+    for word in ("short 1", "all", "why", "sheet"):
         says(head + word + "|ways 0", heard + "no 1|ways 0 1 1|")
     given, wanted = as_text(head + "ways 0|ways 9|ways 2"), as_text(heard + "ways 0 1 1|no 6|ways 2 0 0|")
     assert bench_answer(given, 65536) == bench_answer(given, len(wanted)) == (wanted, 2 * len(wanted))
@@ -2730,10 +3134,10 @@ def test_questions():
         questions_matter_not(rng, t.size, rows, [call for call, _ in some_calls(rng, t, 10)])
 
 
-def some_calls(rng, table, count):
+def some_calls(rng, table, count, draw=some_call):
     """So many calls, each with its answer, made on this table; in a batch a text stands for a line that is no change."""
     for _ in range(count):
-        call, _ = some_call(rng, table)
+        call, *_ = draw(rng, table)
         answer = made(table, call, MOST_STATES)
         yield (call[0], ["x" if line is None else line for line in call[1]]) if call[0] == "batch" else call, answer
 
@@ -2838,6 +3242,9 @@ def test_desk_lines():
     assert desk_hears(as_text("game 3 0|go|move 0 1|go")) == as_text("game 3 0 0|none 0 0|")
 
 
+BAD_KINDS = ("kinds", "kinds ", "kinds 65536", "kinds 100000", "kinds 01", "kinds 00", "kinds 1 1", "kinds 2 ", "kinds  2",
+             "kinds +2", "kinds -1", "kinds 2\r", "kinds 2\0", " kinds 2", "Kinds 2", "KINDS 2", "kind 2", "kindss 2",
+             "kinds x", "kinds 1.0", "kinds" + " " * 30 + "2", "kinds 2" + " " * 26)       # lines that cannot be read
 KINDS_HEAD, KINDS_HEARD = "game 3 0|kinds 2|pay 0|pay 1 2|move 0 1|move 1 0|go|", "game 3 2 2|round 4 0 0 2 0 1|"
 
 
@@ -2845,8 +3252,8 @@ def test_kind_lines():
     says(KINDS_HEAD + "unmark 1 2|mark 1 2|mark 2 2|unmark 2 2|mark 0 2|unmark 0 1",
          KINDS_HEARD + "none 5 1|round 3 1 0 2 0 1|" + "round 0 4 0 2 0 1|" * 2 + "round 4 0 0 2 0 1|none 2 0|")
     head = KINDS_HEAD.split("|")
-    for at in range(len(head)):                 # `kinds` stands behind `game` and nowhere else
-        says("|".join(head[:at] + ["kinds 2"] + head[at:]), KINDS_HEARD + "no 1|" if at == 7 else "no 1|")
+    for at in range(len(head)):                 # `kinds` stands behind `game`, elsewhere only behind `go`
+        says("|".join(head[:at] + ["kinds 2"] + head[at:]), KINDS_HEARD + "round 4 0 0 2 0 1|" if at == 7 else "no 1|")
     says("game 3 0|pay 0|kinds 2|go", "no 1|")
     says("game 3 0|move 0 0|kinds 2|go", "no 1|")
     says("kinds 2|game 3 0|go", "no 1|")
@@ -2859,9 +3266,7 @@ def test_kind_lines():
         says("game 0 0|kinds %s|go" % kinds, "no 2|")
         says("game 3 0|kinds %s|pay 3 4|go" % kinds, "no 4|")
         says("game 3 0|kinds %s|pay 0 4|move 9 9|go" % kinds, "no 4|" if kinds == "0" else "no 16|")
-    for bad in ("kinds", "kinds ", "kinds 65536", "kinds 100000", "kinds 01", "kinds 00", "kinds 1 1", "kinds 2 ", "kinds  2",
-                "kinds +2", "kinds -1", "kinds 2\r", "kinds 2\0", " kinds 2", "Kinds 2", "KINDS 2", "kind 2", "kindss 2",
-                "kinds x", "kinds 1.0", "kinds" + " " * 30 + "2", "kinds 2" + " " * 26):
+    for bad in BAD_KINDS:
         says("game 3 0|" + bad + "|go", "no 1|")
     for kinds in "1234":
         says("game 3 0|kinds %s|go" % kinds, "game 3 0 0|none 0 0|")
@@ -2899,9 +3304,6 @@ def test_kind_fields():
     for row, number in (("mark 9 3", 15), ("mark 0 1", 15), ("mark 9 5", 1), ("mark 0 0", 1), ("mark 0 65535", 1),
                         ("mark 0 65536", 1)):
         says(KINDS_HEAD + "begin|" + back + row + "|end", KINDS_HEARD + "no %d 65|" % number)
-    for row in ("kinds 1", "kinds 2", "kinds 9", "kinds"):      # behind `go`, and in a batch
-        says(KINDS_HEAD + row + "|begin|" + row + "|end|begin|mark 2|" + row + "|mark 2|end|unmark 1 2",
-             KINDS_HEARD + "no 1|no 1 1|no 1 2|none 5 1|")
 
 
 def test_many_lines():
@@ -2939,11 +3341,11 @@ def test_kind_loads():
 
 def load_number(size, start, kinds, marks, numbers, room):
     """What a load is refused with, read from the list; 0 if it is not. marks: pairs of a state and a kind."""
-    moves = Counter(pairs(numbers))
+    most = max(Counter(pairs(numbers)).values(), default=0)
     faults = [(2, not 1 <= size <= 512), (3, start >= size), (4, any(s >= size or kind > kinds for s, kind in marks)),
               (5, len(numbers) % 2 or len(numbers) > 4096),
               (16, kinds not in (1, 2, 3, 4) or size * kinds > 512 or len(numbers) // 2 * kinds > 2048),
-              (6, any(n >= size for n in numbers)), (8, any(count > 1 for count in moves.values())), (11, room < size * kinds)]
+              (6, any(n >= size for n in numbers)), (8, most > 1), (11, room < size * kinds)]
     return next((number for number, holds in faults if holds), 0)
 
 
@@ -2998,7 +3400,7 @@ def test_random_kinds():
     """Random games with 1 to 4 kinds, and changes. There are many of each K and of each sort."""
     rng = random.Random(15)
     seen = Counter()
-    for at in range(2800):
+    for at in range(2400):
         t, kinds = Table(), at % 4 + 1
         seen[kinds, random_load(rng, t, 6, kinds)[0]] += 1
         check_run(t)
@@ -3025,18 +3427,12 @@ def test_random_kinds():
 
 
 def test_kinds_by_layer():
-    """Long walks through the layers: a ring that has all kinds, and further moves. Ticket 4's condition often holds in one layer
-    and not in another."""
+    """Long walks through the layers. Ticket 4's condition often holds in one layer and not in another."""
     rng = random.Random(16)
     seen = Counter()
     for _ in range(1300):
-        kinds, size = rng.randint(2, 4), rng.randint(2, 5)
-        moves = list(dict.fromkeys([(s, (s + 1) % size) for s in range(size)]
-                                   + [(rng.randrange(size), rng.randrange(size)) for _ in range(size)]))
-        rng.shuffle(moves)
-        carriers = [sorted({rng.randrange(size) for _ in range(rng.choice((1, 1, 2, size)))}) for _ in range(kinds)]
         t = Table()
-        t.load(*load_args(size, 0, of_kinds(kinds, *carriers), moves), size * kinds)
+        ring_load(rng, t, 5, rng.randint(2, 4))
         for _ in range(8):
             *sort, answer = rng.choice((random_move, random_move, random_move, random_switch))(rng, t)
             seen[(*sort, answer[0])] += 1
@@ -3106,6 +3502,122 @@ def test_kinds_textbook():
     assert min(seen[kinds, "walk of 50"] for kinds in (1, 2, 3, 4)) >= 3, seen
 
 
+def test_over_lines():
+    """The line behind `go`, in a batch, and where nothing is read any more."""
+    says(KINDS_HEAD + "kinds 1|mark 1 2|kinds 2|unmark 1 2|mark 1 2|kinds 2|kinds 3|kinds 2",
+         KINDS_HEARD + "round 4 0 0 2 0 1|no 4|none 6 0|no 14|round 3 1 0 2 0 1|round 4 0 0 2 0 1|none 8 0|round 4 0 0 2 0 1|")
+    for row in BAD_KINDS + ("kinds 0", "kinds 5", "kinds 9", "kinds 10", "kinds 171", "kinds 65535"):
+        number = 1 if row in BAD_KINDS else 16
+        says(KINDS_HEAD + row + "|unmark 1 2|%s|mark 0 3|mark 1 2" % row,
+             KINDS_HEARD + "no %d|none 5 1|no %d|no 4|round 3 1 0 2 0 1|" % (number, number))
+    for row in BAD_KINDS + ("kinds 0", "kinds 1", "kinds 2", "kinds 4", "kinds 5", "kinds 65535"):
+        says(KINDS_HEAD + "begin|%s|end|begin|mark 2|%s|mark 2|end|begin|unmark 9|%s|end|unmark 1 2" % (row, row, row),
+             KINDS_HEARD + "no 1 1|no 1 2|no 6 1|none 5 1|")
+        says(KINDS_HEAD + "begin|" + "mark 2 2|unmark 2 2|" * 32 + row + "|end|unmark 1 2", KINDS_HEARD + "no 1 65|none 5 1|")
+        says(KINDS_HEAD + "kinds 2|begin|mark 2|" + row, KINDS_HEARD + "round 4 0 0 2 0 1|")
+    says("game 3 3|go|kinds 2", "no 3|")
+    says("game 3 0|kinds 5|go|kinds 2", "no 16|")
+    says("game 257 0|kinds 2|go|kinds 1", "no 16|")
+    says("game 257 0|go|kinds 2|kinds 1|ways 257", "game 257 0 0|none 0 0|no 16|none 0 0|no 6|")
+    # its answer is one line, and the list that the box lends is long enough for every K
+    given, wanted = as_text(KINDS_HEAD + "kinds 1|kinds 2"), as_text(KINDS_HEARD + "round 4 0 0 2 0 1|none 6 0|")
+    assert bench_answer(given, 65536) == bench_answer(given, len(wanted)) == (wanted, 2 * len(wanted))
+    for line in (wanted[-9:], wanted[-27:-9]):
+        assert bench_answer(given, len(wanted) - 1) == (wanted[:-len(line)], 2 * (len(wanted) - len(line)) + 1)
+        wanted = wanted[:-len(line)]
+
+
+def some_step(rng, table, behind=False):
+    """A call of a session that goes over now and then, its lines, and the room. What none carries is often given to some state
+    next, so that there are rounds with a larger K too. Directly behind another K there is mostly a change alone."""
+    size, least = table.size, table.least_room
+    if behind and rng.random() < 0.6:
+        line, = random_lines(rng, table, 1)
+        return line, [line], least
+    dice, given = rng.random(), given_marks(rng, table)
+    if dice < 0.25:
+        kinds = rng.choice((1, 2, 3, 4) * 3 + (0, 5, 65535))
+        room = rng.choice((size * kinds,) * 4 + (max(size * kinds - 1, 0), least, least - 1, 600))
+        return ("kinds", kinds), [], room
+    if dice < 0.45 and given:
+        return ("batch", given), given, least
+    return *some_call(rng, table), rng.choice((least, least, least, least, 600, least - 1))
+
+
+def test_over():
+    """Random sessions that go over to each K from each, between changes, batches and questions. Behind it are many changes of
+    moves that the run on the new K had come to and that on the old one not, or the other way round."""
+    rng = random.Random(20)
+    seen = Counter()
+    for at in range(480):
+        t, others = Table(), []
+        (ring_load if at % 3 else random_load)(rng, t, 5, at % 4 + 1)
+        tally, earlier = Tally(t.moves), None
+        for _ in range(14):
+            call, lines, room = some_step(rng, t, earlier is not None)
+            old, told = t.kinds, told_of(t)
+            answer = in_step(t, others, call, room)
+            tally.heard(lines, answer)
+            tally.check(t)
+            word, verdict = call[0], answer[0]
+            if word == "kinds":
+                seen[answer if verdict == "no" else (old, t.kinds, verdict)] += 1
+            elif word in MOVE_WORDS and earlier and verdict != "no":
+                seen["spared", spared_by(earlier, *call), spared_by(told, *call)] += 1
+            earlier = told if word == "kinds" and verdict != "no" else None      # of the run on the K before
+    for old, new in itertools.product((1, 2, 3, 4), repeat=2):
+        assert seen[old, new, "none"] > 10 and (new > old or seen[old, new, "round"] > 10), seen
+    assert min(seen["no", 11], seen["no", 16]) > 100, seen
+    assert all(seen["spared", before, now] > 10 for before, now in itertools.product((True, False), repeat=2)), seen
+
+
+def test_over_texts():
+    """The same as lines. All behind another K, and its own answer, are those of a text that loads that table, whose `game` line
+    alone is more; and questions at every place change nothing."""
+    rng = random.Random(21)
+    seen = Counter()
+    for at in range(160):
+        t = Table()
+        first = (ring_load if at % 2 else random_load)(rng, t, 6, at % 4 + 1)
+        rows, calls = game_rows(t.size, t.start, carried_by(t), t.moves), []
+        said, loads = [answer_line(first)], [(rows, 0)]                  # of each load its lines, and how many calls stand before
+        for call, answer in some_calls(rng, t, 12, some_step):
+            calls.append(call)
+            said.append(answer_line(answer))
+            if call[0] == "kinds" and answer[0] != "no":
+                loads.append((game_rows(t.size, t.start, carried_by(t), t.moves), len(calls)))
+                seen[answer[0]] += 1
+        for load, count in loads:
+            (_, own), others = answered(load, calls[count:])
+            assert [own] + others == said[count:], (load, calls[count:])
+        questions_matter_not(rng, t.size, rows, calls)
+    assert min(seen["round"], seen["none"]) > 60, seen
+
+
+def test_over_numbers():
+    """States and moves at the limits of each K and beyond; every K with lists that are just long enough for it or for the old
+    one, and with shorter ones."""
+    sized = [(size, [(0, size - 1), (size - 1, 0)]) for size in (2, 128, 129, 170, 171, 256, 257, 512)]
+    moved = [(64, FULL_MOVES[:count]) for count in (512, 513, 682, 683, 1024, 1025, 2048)]
+    heard = Counter()
+    for (size, moves), old in itertools.product([(1, [])] + sized + moved, (1, 2, 3, 4)):
+        t = Table()
+        if t.load(*load_args(size, 0, of_kinds(old, *[[0, size - 1]] * old), moves), MOST_STATES)[0] == "no":
+            continue
+        for kinds in (0, 1, 2, 3, 4, 5, 65535):
+            least = size * kinds
+            for room in {0, max(least - 1, 0), least, size * old - 1, size * old}:
+                answer, _ = gone_over(again(t)[0] if room >= least else t, kinds, room)
+                heard[old, kinds, answer[1] if answer[0] == "no" else 0] += 1
+    for old, kinds in itertools.product((1, 2, 3, 4), repeat=2):
+        assert heard[old, kinds, 0] and heard[old, kinds, 11], heard
+    try:
+        Table().set_kinds(1, 600)
+        assert False, "another K without a session"
+    except RuntimeError:
+        pass
+
+
 def selftest():
     test_games()
     test_game_a_as_printed()
@@ -3138,6 +3650,10 @@ def selftest():
     test_kind_batches()
     test_kind_texts()
     test_kinds_textbook()
+    test_over_lines()
+    test_over()
+    test_over_texts()
+    test_over_numbers()
     print("ok")
 
 

@@ -7,8 +7,8 @@
     python3 script.py --replay < script               expected output of any script
     python3 script.py --stats SEED                    what the scripts contain
 
-KIND is games, edges, small, full, batches or kinds; known (games and edges as one script, one end) or drawn (small and full); or
-blocks (known, drawn, batches and kinds, one block each).
+KIND is games, edges, small, full, batches, kinds or over; known (games and edges as one script, one end) or drawn (small and
+full); or blocks (known, drawn, batches, kinds and over, one block each).
 """
 
 import itertools
@@ -19,8 +19,8 @@ from collections import Counter, namedtuple
 
 import reference
 from batches import KIND_NUMBERS, LENGTHS, NUMBERS, some_lines
-from reference import (MOST_KINDS, MOST_MOVES, MOST_STATES, MOVE_WORDS, Table, carried, flat, in_full, load_args, not_come_to,
-                       of_kinds, pairs, random_carried, random_kind, states_of)
+from reference import (MOST_KINDS, MOST_MOVES, MOST_STATES, MOVE_WORDS, Table, carried, flat, given_marks, in_full, load_args,
+                       not_come_to, of_kinds, pairs, random_carried, random_kind, states_of, too_many)
 
 LENT = 600
 BLOCK = 65536                                   # bytes of a block, padded with zeros, but for the last
@@ -31,7 +31,7 @@ CODES = {word: op for op, word in OPS.items()}
 ALREADY = {"add": 8, "cut": 10, "mark": 13, "unmark": 14}      # the number where it is so already
 # About each border of two words, and some other states.
 PROBES = [1, 15, 16, 31, 32, 62, 63, 64, 65, 127, 128, 191, 192, 255, 256, 319, 320, 383, 384, 447, 448, 510, 511]
-LIMITS = {"games": 30000, "edges": 33400, "small": 20000, "full": 20000, "batches": 64000, "kinds": 64000}   # bytes
+LIMITS = {"games": 30000, "edges": 33400, "small": 20000, "full": 20000, "batches": 64000, "kinds": 64000, "over": 64000}  # bytes
 
 
 # ------------------------------------------------------- expected output
@@ -54,14 +54,14 @@ def replay_block(block):
         if op == 7:
             yield from replied(table.ways(*take(1)))
             continue
-        answer, room = (read_load if op == 1 else read_batch if op == 6 else read_change)(table, op, take)
+        answer, room = READERS.get(op, read_change)(table, op, take)
         assert room <= LENT
         yield from told(answer, room)
     assert not any(numbers)
 
 
 def read_load(table, _, take):
-    """Each of these three makes the call that is read next: its answer and the room lent."""
+    """Each of these four makes the call that is read next: its answer and the room lent."""
     size, start, kinds, count = take(4)
     assert count <= MOST_KINDS
     parts = take(32 * count) + [0] * (32 * (MOST_KINDS - count))
@@ -81,6 +81,14 @@ def read_batch(table, _, take):
     assert count <= MOST_LINES
     lines = [take(3) for _ in range(count)]
     return table.batch([(OPS[op], *named) if op in OPS else None for op, *named in lines], room), room
+
+
+def read_kinds(table, _, take):
+    kinds, room = take(2)
+    return table.set_kinds(kinds, room), room
+
+
+READERS = {1: read_load, 6: read_batch, 8: read_kinds}         # the others are changes alone
 
 
 def replied(answer):
@@ -106,7 +114,8 @@ def told(answer, room):
 
 # ------------------------------------------------------- making of scripts
 
-# own: a self-move is named; place: what place_of says, or of a batch the count of its lines; kinds: K, 0 without a session
+# own: a self-move is named; place: what place_of says, of a batch the count of its lines, of another K the old and the new one;
+# kinds: K, 0 without a session
 Call = namedtuple("Call", "word own answer place kinds")
 
 
@@ -175,6 +184,16 @@ class Script:
         moves = [line[1:] for line in lines if line and line[0] in MOVE_WORDS]
         return self._said("batch", moves, self.table.batch(lines, room), want, len(lines))
 
+    def kinds(self, kinds, room=None, want=None):
+        """Another K. If no room is told, the list is as long as that K needs."""
+        assert self.table.loaded
+        room = min(self.table.size * kinds, LENT) if room is None else room
+        self.named = []
+        self.numbers += [8, kinds, room]
+        old = self.table.kinds
+        answer = self.table.set_kinds(kinds, room)
+        return self._said("kinds", [], answer, want, None if answer[0] == "no" else (old, kinds))
+
     def ways(self, *states, want=None):
         """Questions, one about each of these states; want: of each the two counts, or the number."""
         assert self.table.loaded
@@ -235,8 +254,17 @@ def worked(s, games):
                 assert s.batch(lines) == wanted, name
             elif word == "ways":
                 s.ways(*named, want=wanted[1] if wanted[0] == "no" else wanted[2:])
+            elif word == "kinds":
+                lent_less(s, *named)
+                assert s.kinds(*named) == wanted, name
             elif word != "line":
                 assert s.change(word, *named) == wanted, name
+
+
+def lent_less(s, kinds):
+    """Another K with a list that is one entry too short for it: refused, with 16 where it would be anyway."""
+    fits = not too_many(s.table.size, kinds, s.table.moves)
+    s.kinds(kinds, s.table.size * kinds - 1 if fits else 0, want=11 if fits else 16)
 
 
 def make_games(s, rng):
@@ -1085,7 +1113,15 @@ def named_kinds(s, kinds):
 
 
 def random_kinds(s, rng, limit):
-    """A session of up to 8 states, seldom more, and 1 to 4 kinds; often with a ring. Changes alone, batches and questions."""
+    every = kinds_load(s, rng)
+    for _ in range(rng.randint(10, 24)):
+        if s.size_in_bytes() + 450 > limit:     # the longest batch, two changes and questions
+            return
+        kinds_step(s, rng, every)
+
+
+def kinds_load(s, rng):
+    """A session of up to 8 states, seldom more, and 1 to 4 kinds; often with a ring. All moves that there can be."""
     kinds = rng.randint(1, MOST_KINDS)
     size = rng.choice((1, 2, 2, 3, 3, 4, 4, 5, 6, 7, 8, rng.randint(9, 40 // kinds + 9)))
     every = [(a, b) for a in range(size) for b in range(size)]
@@ -1094,23 +1130,26 @@ def random_kinds(s, rng, limit):
     moves = list(dict.fromkeys(ring + rng.sample(every, wanted)))
     rng.shuffle(moves)
     s.load(size, rng.randrange(size), random_carried(rng, size, kinds), flat(moves))
-    for _ in range(rng.randint(10, 24)):
-        if s.size_in_bytes() + 450 > limit:     # the longest batch, two changes and questions
-            return
-        some_question(s, rng, 0.3)
-        room = small_room(rng, s.table.least_room)
-        dice = rng.random()
-        if dice < 0.2:
-            some_batch(s, rng, room)
-        elif dice < 0.26:                       # any kind, of any state
-            s.change(rng.choice(("mark", "unmark")), rng.randint(0, size), rng.choice(NAMED_KINDS), room=room)
-        elif dice < 0.55:
-            some_switch(s, rng, rng.choice(list(s.table.run.met_after)) if rng.random() < 0.6 else rng.randrange(size), room)
-        elif dice > 0.8 and some_spared(s, rng, room, lambda _: rng.randrange(size)):
-            pass
-        else:
-            move = rng.choice(s.table.moves if s.table.moves and rng.random() < 0.5 else every)
-            s.change(s.move_words(move)[rng.random() < 0.08], *move, room=room)
+    return every
+
+
+def kinds_step(s, rng, every):
+    """A change alone or a batch, and often a question before it. every: all moves that there can be."""
+    size = s.table.size
+    some_question(s, rng, 0.3)
+    room = small_room(rng, s.table.least_room)
+    dice = rng.random()
+    if dice < 0.2:
+        some_batch(s, rng, room)
+    elif dice < 0.26:                           # any kind, of any state
+        s.change(rng.choice(("mark", "unmark")), rng.randint(0, size), rng.choice(NAMED_KINDS), room=room)
+    elif dice < 0.55:
+        some_switch(s, rng, rng.choice(list(s.table.run.met_after)) if rng.random() < 0.6 else rng.randrange(size), room)
+    elif dice > 0.8 and some_spared(s, rng, room, lambda _: rng.randrange(size)):
+        pass
+    else:
+        move = rng.choice(s.table.moves if s.table.moves and rng.random() < 0.5 else every)
+        s.change(s.move_words(move)[rng.random() < 0.08], *move, room=room)
 
 
 def some_batch(s, rng, room):
@@ -1120,9 +1159,114 @@ def some_batch(s, rng, room):
     s.batch(some_lines(rng, s.table, max(count, 1 if fault else 0), rng.random() < 0.45, fault), room)
 
 
+# ---------------------------------------------------------- another K
+
+EVERY_STEP = 1, 1, 2, 2, 3, 3, 4, 4, 1, 3, 1, 4, 2, 4, 3, 2, 1            # from each K to each, itself too, once
+
+
+def make_over(s, rng, limit):
+    # the tables worked by hand with as many moves as there may be are asked the same as those below, which have more states
+    worked(s, [game for game in reference.OVER_GAMES if not game[0].startswith("over-moves")])
+    for given in (True, False):
+        every_step(s, given)
+    for kinds in range(2, MOST_KINDS + 1):
+        over_full(s, rng, kinds)
+    while limit - s.size_in_bytes() > 1000:     # room for a load and a batch
+        random_over(s, rng, limit)
+
+
+def every_step(s, given):
+    """From each K to each, with lists that are too short for the new one, just long enough or longer, and with K's that there
+    are not. given: each kind that none carries is given to a state at once, so that there is a round."""
+    size = 3
+    s.load(size, 0, of_kinds(1, [0] if given else []), [0, 1, 1, 2, 2, 0], want="round" if given else "none")
+    for old, new in zip(EVERY_STEP, EVERY_STEP[1:]):
+        verdict = "round" if given and new <= old else "none"
+        for room in sorted({0, min(size * old, size * new - 1), size * new - 1}):
+            s.kinds(new, room, want=11)
+        for kinds in (0, 5, 65535):
+            s.kinds(kinds, (0, LENT)[new % 2], want=16)
+        s.batch([], want="round" if given else "none")          # all is as it was
+        s.kinds(new, (size * new, LENT)[old % 2], want=verdict)
+        s.mark(0, new + 1, want=4 if new < MOST_KINDS else 1)
+        s.mark(size, new, room=0, want=6)
+        if given and new > old:
+            s.batch([("mark", kind % size, kind) for kind in range(old + 1, new + 1)], size * new - 1, want=(11, 0))
+            s.batch([("mark", kind % size, kind) for kind in range(old + 1, new + 1)], want="round")
+            s.unmark(new % size, new, want="none")
+            s.mark(new % size, new, want="round")
+        s.ways(new % size, want=(1, 1))
+
+
+def over_full(s, rng, kinds):
+    """With one kind, one move too many for this K; then just as many as there may be. All states are on a ring."""
+    size, count = MOST_STATES // kinds, MOST_MOVES // kinds
+    least = size * kinds
+    ring = [(t, (t + 1) % size) for t in range(size)]
+    *moves, last = ring + distinct_moves(rng, size, count + 1 - size, ring)
+    given = [("mark", rng.randrange(size), kind) for kind in range(2, kinds + 1)]
+    s.load(size, 0, [0, rng.randrange(size)], flat(moves + [last]), want="round")
+    for room in (0, least - 1, least, LENT):
+        s.kinds(kinds, room, want=16)
+    s.change(*given[-1], want=4)
+    s.cut(*last)
+    for room in (0, size, least - 1):           # the second is long enough for the old K
+        s.kinds(kinds, room, want=11)
+    s.change(*given[-1], room=size, want=4)
+    s.kinds(kinds, least, want="none")
+    s.cut(*moves[size], room=least - 1, want=11)
+    s.add(*last, want=9)
+    s.batch(given, want="round")
+    s.kinds(kinds, LENT, want="round")
+    s.batch([("cut", *moves[-1]), ("add", *last), ("add", *moves[-1])], want=(9, 3))
+    s.kinds(kinds - 1, want="round")            # now there is room for more
+    s.add(*last, want="round")
+    s.ways(0, last[0])
+    s.kinds(kinds, want=16)
+    s.batch([("cut", *moves[-1]), ("add", *moves[-1])], want="round")
+    s.cut(*last, want="round")
+    s.kinds(kinds, want="none")                 # the last kind was dropped
+    s.change(*given[-1], want="round")
+    for count, quiet in ((64, True), (40, False)):
+        s.batch(some_lines(rng, s.table, count, quiet))
+        s.kinds(rng.randint(1, kinds))
+
+
+def random_over(s, rng, limit):
+    """A session as with kinds, which goes over now and then."""
+    every = kinds_load(s, rng)
+    for _ in range(rng.randint(12, 28)):
+        if s.size_in_bytes() + 480 > limit:     # the same, and another K with what follows it
+            return
+        (some_over if rng.random() < 0.3 else kinds_step)(s, rng, every)
+
+
+def some_over(s, rng, every):
+    """Another K, up, down or the same; some are refused. Behind it often a question, and then mostly marks of the kinds that none
+    carries, alone or in a batch; or a move that comes or goes, or a batch without a change."""
+    size = s.table.size
+    kinds = rng.choice((1, 2, 3, 4) * 4 + (0, 5, 65535))
+    room = rng.choice((size * kinds,) * 5 + (LENT, LENT, max(size * kinds - 1, 0), s.table.least_room, 0))
+    if s.kinds(kinds, min(room, LENT))[0] == "no":
+        return
+    some_question(s, rng, 0.3)
+    dice, given = rng.random(), given_marks(rng, s.table)
+    if given and dice < 0.3:
+        s.batch(given)
+    elif dice < 0.5:
+        for line in given:
+            s.change(*line)
+    elif dice < 0.8:
+        move = rng.choice(s.table.moves if s.table.moves and rng.random() < 0.5 else every)
+        s.change(s.move_words(move)[0], *move)
+    elif dice < 0.9:
+        s.batch([])
+
+
 MAKERS = {"games": make_games, "edges": make_edges, "small": make_small, "full": make_full, "batches": make_batches,
-          "kinds": make_kinds}
-PARTS = {"known": ("games", "edges"), "drawn": ("small", "full"), "batches": ("batches",), "kinds": ("kinds",)}   # of each block
+          "kinds": make_kinds, "over": make_over}
+PARTS = {"known": ("games", "edges"), "drawn": ("small", "full"), "batches": ("batches",), "kinds": ("kinds",),
+         "over": ("over",)}                     # of each block
 assert all(sum(LIMITS[name] for name in names) <= 64000 for names in PARTS.values())
 
 
@@ -1189,6 +1333,17 @@ def question_stats(calls):
         *(max((pair[side] for pair in told_counts), default=0) for side in (0, 1)), sum(pair == (0, 0) for pair in told_counts)))
 
 
+def over_stats(calls):
+    """Of another K too from which it is, and what stands behind it."""
+    pairs_of = [(call, after) for call, after in zip(calls, calls[1:]) if call.word == "kinds"]
+    counts("another K", [call.answer for call in calls if call.word == "kinds"])
+    steps = Counter(call.place for call in calls if call.word == "kinds" and call.place)
+    print("    from K to K", *["%d-%d: %d" % (*step, count) for step, count in sorted(steps.items())])
+    for what, taken in (("accepted", True), ("refused", False)):
+        behind = Counter(after.word for call, after in pairs_of if (call.place is not None) == taken)
+        print("    behind one that is %s" % what, dict(sorted(behind.items())))
+
+
 def stats(seed):
     for kind in MAKERS:
         s = make(seed, kind)
@@ -1201,6 +1356,7 @@ def stats(seed):
         question_stats(s.calls)
         looks("calls", every)
         looks("marks and unmarks", marks)
+        over_stats(s.calls)
         batch_stats([call for call in s.calls if call.word == "batch"])
         for word in ("add", "cut"):
             places = Counter(call.place for call in s.calls if call.word == word)
