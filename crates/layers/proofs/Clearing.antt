@@ -1,15 +1,12 @@
 -- Ticket 10: the packed marks where another count of kinds is in use. Bits are cleared one after the other, and those that stay are the marks that stay. Assumes nothing.
 use mathlib.Core.Path.{_≡_, refl, sym, ap, _∙_}
-use mathlib.Core.Logic.{_≢_}
 use mathlib.Core.Bool.{true, false}
 use mathlib.Core.List.{List}
 use Prim.Native.Nat.{ℕ, suc, _+_, _*_, _-_, _/_, _%_, _≤_, _<_, min}
 use native.Mathlib.Decide.{decLt}
-use native.Mathlib.Nat.{min-le-left, min-le-right, min-eq-left, min-eq-right, mul-le-mul-right}
+use native.Mathlib.Nat.{min-le-left, min-eq-left, min-eq-right, mul-le-mul-right}
 use native.Mathlib.Omega.{arith}
-use lib.ListN.{length, getD, List·getD-eq-default}
-use lib.Seq.{set-out}
-use borrow.Author.Count.{below-more}
+use lib.ListN.{length, List·getD-eq-default}
 use Rattle.plain.specs.Table.{accepts, bit, carriedBy, withoutMark}
 use Rattle.plain.specs.Machine.{upToKind}
 use Rattle.plain.specs.Layers.{copy, layerOf, stateOf}

@@ -1,5 +1,5 @@
 -- Document 02, tickets 7 and 10, for the lines of a text. proofs/Texts.antt proves it. Assumes nothing.
-use Prim.Native.Nat.{ℕ, _+_}
+use Prim.Native.Nat.{ℕ}
 use mathlib.Core.Path.{_≡_}
 use mathlib.Core.List.{List, [], _∷_, _++_, map}
 use lib.ListN.{length}

@@ -7,8 +7,8 @@ use native.Mathlib.Omega.{arith}
 use Rattle.plain.specs.Search.{verdict, count}
 use Rattle.plain.specs.Table.{Table, printedVerdict, final}
 use Rattle.plain.specs.Refusals.{Trial, accepted, refused}
-use Rattle.plain.specs.Machine.{Change, apply, changeTrial, applyAll, Update, single, batch, changesOf, applied, updateTrial, toKinds, kindsTrial, Command, update, setKinds, commandTrial, positionFor, commanded, keptBy, Answer, refusal, answer, tableOf, loadAnswer, after, Call, callFor, kindsCall, trialOf, callAnswer, answerTo, tableAfter, answers}
-use Rattle.plain.specs.Claims.{Arises, AllAccepted, CountsRight, totalled, loadFrom, AsFresh, AsLoaded, Reports, tableBehind, lastOf}
+use Rattle.plain.specs.Machine.{Change, apply, changeTrial, applyAll, Update, single, batch, changesOf, applied, updateTrial, toKinds, kindsTrial, Command, update, setKinds, commandTrial, positionFor, commanded, keptBy, Answer, refusal, answer, loadAnswer, after, Call, callFor, kindsCall, trialOf, callAnswer, answerTo, tableAfter, answers}
+use Rattle.plain.specs.Claims.{Arises, AllAccepted, CountsRight, totalled, AsFresh, AsLoaded, Reports, tableBehind, lastOf}
 use Rattle.plain.specs.Orders.{askedBy, changesAsked, IsUpdate, Switching, EachAccepted}
 use Rattle.plain.proofs.Tables.{valid}
 use Rattle.plain.proofs.Fresh.{fresh-table, fresh-answer}

@@ -11,7 +11,7 @@ use lib.ListN.{length, getD, length-map}
 use borrow.Author.Tests.{ltb-false, lt-leb}
 use Rattle.plain.specs.Lists.{anyBelow, elem}
 use Rattle.plain.specs.Table.{Table, bit, accepts, carriedBy}
-use Rattle.plain.specs.Refusals.{accepted, refused, badMarks, badKinds, shortRoom, loadTrial}
+use Rattle.plain.specs.Refusals.{accepted, refused, badMarks, shortRoom, loadTrial}
 use Rattle.plain.specs.Machine.{upToKind, toKinds, kindsTrial}
 use Rattle.plain.specs.Claims.{Arises, loadFrom}
 use Rattle.plain.proofs.Tests.{contra, or-neither, and-true, not-true}

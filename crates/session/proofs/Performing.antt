@@ -1,39 +1,36 @@
 -- The contract of a call, by what it asks for: changes, or another count of kinds. Assumes nothing.
 use mathlib.Core.Path.{_≡_, refl, sym, ap, subst, subst⁻¹, _∙_}
 use mathlib.Core.Bool.{Bool}
-use mathlib.Core.List.{List, _∷_}
-use Prim.Native.Nat.{ℕ, _*_, _-_, _≤_, min}
+use mathlib.Core.List.{List}
+use Prim.Native.Nat.{ℕ, _*_, _≤_, min}
 use native.Mathlib.Omega.{arith}
 use lib.Dec.{eqb}
 use lib.ListN.{length}
 use Rattle.plain.specs.Table.{Table}
-use Rattle.plain.specs.Refusals.{Trial, accepted, refused, roomCondition}
-use Rattle.plain.specs.Machine.{toKinds, kindsTrial, setKinds, trialOf, Answer as PlainAnswer, loadAnswer, answerTo, tableAfter, tableOf}
-use Rattle.plain.specs.Claims.{loadFrom}
+use Rattle.plain.specs.Refusals.{Trial, accepted, refused}
+use Rattle.plain.specs.Machine.{toKinds, kindsTrial, setKinds, trialOf, Answer as PlainAnswer, loadAnswer}
 use Rattle.plain.proofs.Trials.{held-first}
 use Rattle.plain.proofs.Tables.{valid}
 use Rattle.plain.proofs.NewKinds.{kinds-room, kinds-arises}
 use Rattle.plain.proofs.Calls.{table-accepted, kinds-answer}
-use Rattle.rows.specs.Change.{Rows}
 use Rattle.look.specs.Numbers.{plus}
 use Rattle.layers.specs.Packed.{ClearedFrom}
 use Rattle.table.specs.declared.Position.the-variants.{Alone}
 use Rattle.table.specs.Trials.{Arrays, kindsTrialIn}
-use Rattle.table.specs.Filing.{Stored, withWords}
+use Rattle.table.specs.Filing.{withWords}
 use Rattle.table.proofs.NewKinds.{kinds-trial-is, stored-kinds}
 use Rattle.batch.specs.declared.Update.{Update}
 use Rattle.batch.specs.declared.Command.{Command}
 use Rattle.batch.specs.declared.Command.the-variants as Command
 use Rattle.batch.specs.declared.BatchLine.{BatchLine}
 use Rattle.batch.specs.Batches.{numbersIn}
-use Rattle.verdict.specs.declared.Answer.the-variants.{Refused}
 use Rattle.verdict.specs.Answers.{refusing, Answered}
 use Rattle.verdict.proofs.Told.{never-refused}
 use Rattle.session.specs.declared.Session.{Session}
 use Rattle.session.specs.declared.Settled.{Settled}
 use Rattle.session.specs.declared.Verdict.{Verdict}
 use Rattle.session.specs.Model.{Records, arraysHeld, gameIn, sessionOf, isAlone, onlyLine, SettlesAfresh, UpdatedIn, KindsSet, Performed}
-use Rattle.session.specs.Promises.{Holds, updateOf, commandOf, callOf, refusedWithoutGame, Updates}
+use Rattle.session.specs.Promises.{Holds, updateOf, commandOf, callOf, Updates}
 use Rattle.session.proofs.Asking.{asked-so}
 use Rattle.session.proofs.Afresh.{afresh}
 use Rattle.session.proofs.Accepted.{oldOf, recordsHeld, refused-right, left-alone, call-right}

@@ -1,9 +1,8 @@
 -- Ticket 10: another count of kinds is tried on the arrays as on the plain table, and the arrays that it leaves hold the table with that count. Assumes nothing.
 use mathlib.Core.Path.{_≡_, sym, ap, _∙_}
 use mathlib.Core.List.{List, _∷_}
-use Prim.Native.Nat.{ℕ, _*_, _<_, min}
+use Prim.Native.Nat.{ℕ, _*_, min}
 use native.Mathlib.Omega.{arith}
-use lib.ListN.{length, getD}
 use borrow.Author.Tests.{ne-eqb}
 use Rattle.plain.specs.Table.{Table}
 use Rattle.plain.specs.Refusals.{accepted, firstHeld, badKinds, roomCondition}

@@ -10,7 +10,7 @@ use lib.ListN.{length}
 use borrow.Author.Tests.{eq-eqb, ne-eqb, lt-ltb, le-ltb}
 use Rattle.plain.specs.Lists.{any}
 use Rattle.plain.specs.Table.{byKind}
-use Rattle.plain.specs.Refusals.{Trial as PlainTrial, accepted, refused, firstHeld, badSize, badCount, badKinds, outside, shortRoom, roomCondition, pairs, repeated, loadTrial}
+use Rattle.plain.specs.Refusals.{Trial as PlainTrial, accepted, refused, firstHeld, badSize, badCount, outside, shortRoom, roomCondition, pairs, repeated, loadTrial}
 use Rattle.plain.proofs.Tests.{either, or-first, or-second, or-neither}
 use Rattle.plain.proofs.Trials.{unheld}
 use Rattle.table.specs.declared.Trial.{Trial}

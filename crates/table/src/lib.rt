@@ -2,7 +2,7 @@
 use rows::wide;
 ghost use mathlib.Core.Path.{_≡_};
 ghost use lib.ListN.{length};
-ghost use Prim.Native.Nat.{_≤_, _<_};
+ghost use Prim.Native.Nat.{_<_};
 ghost use Rattle.plain.specs.Lists.{any, anyBelow};
 ghost use Rattle.plain.specs.Table.{byKind};
 ghost use Rattle.plain.specs.Refusals.{firstHeld, badMarks, badKinds, outside, roomCondition, pairs};

@@ -1,6 +1,5 @@
 -- `clear_from` meets its contract: the bits from the first up to v are cleared. Assumes nothing.
 use Prim.Native.Nat.{_-_}
-use native.Mathlib.Omega.{arith}
 use denote.Ref.{now}
 use borrow.Author.Needs.{needs}
 use Rattle.layers.proofs.Clearing.{ClearedTo, cleared-none, cleared-one, cleared-all}
