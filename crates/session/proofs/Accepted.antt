@@ -35,8 +35,8 @@ use Rattle.search.proofs.Resumed.{resume-fits}
 use Rattle.table.specs.declared.Position.{Position}
 use Rattle.session.specs.declared.Session.{Session}
 use Rattle.session.specs.declared.Settled.{Settled}
-use Rattle.session.specs.declared.Resumption.{Resumption}
-use Rattle.session.specs.declared.Resumption.the-variants.{Nowhere, At}
+use Rattle.resumption.specs.declared.Resumption.{Resumption}
+use Rattle.resumption.specs.declared.Resumption.the-variants.{Nowhere, At}
 use Rattle.session.specs.declared.Verdict.{Verdict}
 use Rattle.verdict.specs.declared.Answer.{Answer}
 use Rattle.verdict.specs.declared.Answer.the-variants.{Refused}
@@ -44,14 +44,15 @@ use Rattle.table.specs.Trials.{Arrays}
 use Rattle.table.specs.Filing.{Stored}
 use Rattle.batch.specs.Batches.{linesIn, statesIn as namedIn, TriedIn, callTriedIn, positionAt}
 use Rattle.batch.proofs.Batches.{lines-other}
-use Rattle.session.specs.Model.{Records, recordsOf, recordsIn, arraysHeld, gameIn, statesIn, copiesUpAll, allPassedOver, namedMost, earliestOf, resumptionOf, backAt, Sought, verdictOf, sessionOf, Settles, UpdatedIn}
+use Rattle.resumption.specs.Model.{copiesUpAll, allPassedOver, namedMost, earliestOf, resumptionOf}
+use Rattle.session.specs.Model.{Records, recordsOf, recordsIn, arraysHeld, gameIn, statesIn, backAt, Sought, verdictOf, sessionOf, Settles, UpdatedIn}
 use Rattle.session.specs.Promises.{heightOf, Holds, callOf, withoutGame, refusedWithoutGame, Updates}
 use Rattle.verdict.proofs.Told.{told, never-refused}
 use Rattle.verdict.specs.Answers.{refusing, positionOf, shown, lowered, WalkOf, Answered, Tells}
 use Rattle.session.proofs.Sought.{matches, states-are, starts-at, Reached, reached}
 use Rattle.session.proofs.Asking.{Asks}
-use Rattle.session.proofs.FirstMet.{earliest-is}
-use Rattle.session.proofs.Lines.{resumption-nowhere, resumption-earliest}
+use Rattle.resumption.proofs.FirstMet.{earliest-is}
+use Rattle.resumption.proofs.Lines.{resumption-nowhere, resumption-earliest}
 use Rattle.session.proofs.Copied.{all-up, up-all, copies-few}
 use Rattle.session.proofs.Resuming.{all-inside, all-named, numbered-met, numbered-unmet, all-decided}
 

@@ -17,7 +17,7 @@ use Rattle.search.proofs.Ended.{rewound-spent}
 use Rattle.search.proofs.Resumed.{begin-fits}
 use Rattle.session.specs.declared.Verdict.{Verdict}
 use Rattle.session.specs.declared.Settled.{Settled}
-use Rattle.session.specs.declared.Resumption.{Resumption}
+use Rattle.resumption.specs.declared.Resumption.{Resumption}
 use Rattle.table.specs.Trials.{Arrays}
 use Rattle.table.specs.Filing.{Stored}
 use Rattle.session.specs.Model.{Records, recordsOf, gameIn, recordsIn, backAt, verdictOf, noVerdict, bound, sessionOf, Settles, freshFrom, SettlesAfresh}

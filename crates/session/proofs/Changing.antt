@@ -12,7 +12,7 @@ use Rattle.table.specs.declared.Trial.the-variants.{Accepted, Refused}
 use Rattle.table.specs.declared.Position.the-variants.{Alone}
 use Rattle.verdict.specs.declared.Answer.{Answer}
 use Rattle.verdict.specs.Answers.{refusing}
-use Rattle.session.specs.declared.Resumption.{Resumption}
+use Rattle.resumption.specs.declared.Resumption.{Resumption}
 use Rattle.session.specs.declared.Settled.{Settled}
 use Rattle.session.specs.declared.Verdict.{Verdict}
 use Rattle.rows.specs.Change.{Rows}
@@ -21,7 +21,8 @@ use Rattle.search.specs.Core.{gameOf}
 use Rattle.table.specs.Trials.{Arrays, Sized, kindsTrialIn}
 use Rattle.table.specs.Filing.{AttemptedKinds}
 use Rattle.batch.specs.Batches.{linesIn, TriedIn, callTriedIn, AttemptedCall}
-use Rattle.session.specs.Model.{Records, gameIn, resumptionOf, Settles, SettlesAfresh, UpdatedIn, KindsSet}
+use Rattle.resumption.specs.Model.{resumptionOf}
+use Rattle.session.specs.Model.{Records, gameIn, Settles, SettlesAfresh, UpdatedIn, KindsSet}
 use Rattle.table.proofs.Trying.{tried-accepted, tried-refused}
 use Rattle.batch.proofs.Batches.{tried-sized}
 

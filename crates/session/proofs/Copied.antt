@@ -25,7 +25,7 @@ use Rattle.plain.proofs.Demands.{target-below}
 use Rattle.plain.proofs.Unexplored.{home-named, plain-look, unmet-unexplored}
 use Rattle.look.specs.Numbers.{plus}
 use Rattle.table.proofs.Places.{same-test}
-use Rattle.session.specs.Model.{copiesUp, copiesUpAll}
+use Rattle.resumption.specs.Model.{copiesUp, copiesUpAll}
 
 -- ---- the copies, from the first layer upwards, are those of the papers
 

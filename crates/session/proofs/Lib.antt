@@ -1,9 +1,7 @@
 pub mod Sought
 pub mod Asking
-pub mod FirstMet
 pub mod Copied
 pub mod Resuming
-pub mod Lines
 pub mod Accepted
 pub mod Afresh
 pub mod Loaded

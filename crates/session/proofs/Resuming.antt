@@ -45,7 +45,9 @@ use Rattle.table.specs.Trials.{switching}
 use Rattle.table.specs.Filing.{namedBy}
 use Rattle.table.proofs.Places.{has-place, place-hit, place-miss, place-front, place-behind, same-test}
 use Rattle.session.specs.declared.Session.{Session}
-use Rattle.session.specs.Model.{arraysHeld, copiesUp, unexploredEdge, unexploredIn, copyPassedOver, passedOverIn, allPassedOver}
+use Rattle.resumption.specs.Model.{copiesUp, unexploredEdge, unexploredIn, copyPassedOver, passedOverIn, allPassedOver}
+use Rattle.resumption.proofs.Edges.{edge-off, edge-comes, edge-goes, named-one}
+use Rattle.session.specs.Model.{arraysHeld}
 use Rattle.session.specs.Promises.{heightOf, Holds}
 use Rattle.plain.specs.Claims.{AllAccepted}
 use Rattle.plain.proofs.OuterProbes.{looked-edge}
@@ -56,40 +58,6 @@ use Rattle.batch.proofs.Batches.{change-back}
 use Rattle.batch.specs.Batches.{opFor}
 use Rattle.verdict.specs.Answers.{WalkOf}
 use Rattle.session.proofs.Copied.{landed, cameTo, lands-low, home, copies-few, passed-by-copies, copies-up, up-copies, all-none}
-
--- ---- laws of the definitions
-
-module _ (copy from to : ℕ) (rows : Rows) (index walk : List ℕ) (tip : ℕ) where
-  abbrev place : ℕ
-  place = placeOf copy (entries tip 0 walk)
-
-  abbrev next : ℕ
-  next = getD walk (suc place) 0
-
-  abbrev target : ℕ
-  target = placeOf to (rowAt (rows .targets) (rows .starts) from)
-
-  pub edge-off : (on : Bool) → ltb place tip ≡ false → unexploredEdge on copy from to rows index walk tip ≡ false
-  unfolding unexploredEdge
-  edge-off on e = ap (λ (b : Bool). b && (on || ltb (getD index next 0) target)) e
-
-  pub edge-comes : ltb place tip ≡ true → unexploredEdge true copy from to rows index walk tip ≡ true
-  unfolding unexploredEdge
-  edge-comes e = ap (λ (b : Bool). b && (true || ltb (getD index next 0) target)) e
-
-  pub edge-goes : ltb place tip ≡ true → unexploredEdge false copy from to rows index walk tip ≡ ltb (getD index next 0) target
-  unfolding unexploredEdge
-  edge-goes e = ap (λ (b : Bool). b && (false || ltb (getD index next 0) target)) e
-
--- a change as it is switched: an edge, or a mark
-pub switched-edge : (on : Bool) (x : Subject) (copy from to : ℕ) (rows : Rows) (index walk : List ℕ) (tip : ℕ) → x ≡ Subject.Edge from to
-    → unexploredIn (switching on x) copy rows index walk tip ≡ unexploredEdge on copy from to rows index walk tip
-switched-edge true x copy from to rows index walk tip e = ap (λ (y : Subject). unexploredIn (switching true y) copy rows index walk tip) e
-switched-edge false x copy from to rows index walk tip e = ap (λ (y : Subject). unexploredIn (switching false y) copy rows index walk tip) e
-
-pub switched-mark : (on : Bool) (x : Subject) (copy state kind : ℕ) (rows : Rows) (index walk : List ℕ) (tip : ℕ) → x ≡ Subject.Mark state kind → unexploredIn (switching on x) copy rows index walk tip ≡ false
-switched-mark true x copy state kind rows index walk tip e = ap (λ (y : Subject). unexploredIn (switching true y) copy rows index walk tip) e
-switched-mark false x copy state kind rows index walk tip e = ap (λ (y : Subject). unexploredIn (switching false y) copy rows index walk tip) e
 
 -- ---- the walk, and the states that have not finished
 
@@ -273,14 +241,6 @@ module _ (t : Table) (v : Valid t) (r : Notes) (rows : Rows) (index walk : List 
       by-path false e = edge-off x from to rows index walk tip false (placed-open ∙ e) ∙ sym (ap not (finished-looked (searched t) (rows-once t v) (budget t) x goal met e (i e)))
 
 -- ---- of a session
-
--- the state that a change names is one
-pub named-one : (c : Change) → named c ≡ namedBy (opFor c) ∷ []
-unfolding named
-named-one (add e) = refl
-named-one (cut e) = refl
-named-one (mark s kind) = refl
-named-one (unmark s kind) = refl
 
 -- a state that an accepted change names is one of the game
 named-inside : (c : Change) (t : Table) (room : ℕ) → changeTrial c t room ≡ accepted → namedBy (opFor c) < t .size

@@ -30,8 +30,8 @@ use Rattle.plain.proofs.Limits.{limits, small, budget-bound}
 use Rattle.search.proofs.Resumed.{at-run, archived}
 use Rattle.search.proofs.Ended.{run-kept}
 use Rattle.session.specs.declared.Verdict.{Verdict}
-use Rattle.session.specs.declared.Resumption.{Resumption}
-use Rattle.session.specs.declared.Resumption.the-variants.{Nowhere, At}
+use Rattle.resumption.specs.declared.Resumption.{Resumption}
+use Rattle.resumption.specs.declared.Resumption.the-variants.{Nowhere, At}
 use Rattle.session.specs.Model.{Records, gameIn, statesIn, recordsIn, isFound, verdictOf, bound, backAt, Sought}
 use Rattle.session.specs.Promises.{heightOf}
 use Rattle.table.specs.Trials.{Arrays}

@@ -1,17 +1,12 @@
 -- What the inner functions of the session do, over the lists that its arrays hold. Cited by their contracts alone. Assumes nothing.
-use Prim.Native.Nat.{ℕ, zero, suc, _*_, _-_, _%_, min}
+use Prim.Native.Nat.{ℕ, _*_, _-_, _%_, min}
 use mathlib.Core.Path.{_≡_}
-use mathlib.Core.Bool.{Bool, true, false, cond, _&&_, _||_}
-use mathlib.Core.List.{List, [], _∷_, _++_}
-use lib.Dec.{eqb, ltb}
-use lib.ListN.{length, getD, set, take, replicate}
+use mathlib.Core.Bool.{Bool, true, false, cond}
+use mathlib.Core.List.{List}
+use lib.ListN.{length, set, replicate}
 use Rattle.plain.specs.Lists.{all}
 use Rattle.plain.specs.Refusals.{accepted, refused}
-use Rattle.plain.specs.Machine.{BatchLine as PlainLine, makes, other}
-use Rattle.rows.specs.Rows.{entries, rowAt, placeOf}
 use Rattle.rows.specs.Change.{Rows}
-use Rattle.table.specs.declared.Op.{Op}
-use Rattle.table.specs.declared.Op.the-variants.{Add, Cut, Mark, Unmark}
 use Rattle.batch.specs.declared.Update.{Update}
 use Rattle.batch.specs.declared.Update.the-variants as Update
 use Rattle.batch.specs.declared.Command.{Command}
@@ -19,20 +14,19 @@ use Rattle.batch.specs.declared.Command.the-variants as Command
 use Rattle.batch.specs.declared.BatchLine.{BatchLine}
 use Rattle.table.specs.declared.Position.the-variants as Position
 use Rattle.table.specs.Trials.{Arrays, arraysOf, kindsTrialIn}
-use Rattle.table.specs.Filing.{namedBy}
-use Rattle.batch.specs.Batches.{lineFor, lineTo, linesIn, numbersIn, statesIn as namedIn, opFor, positionAt, callTriedIn}
-use Rattle.look.specs.Numbers.{noNumber, plus}
+use Rattle.batch.specs.Batches.{lineFor, lineTo, linesIn, numbersIn, positionAt, callTriedIn}
+use Rattle.look.specs.Numbers.{noNumber}
 use Rattle.layers.specs.Layout.{layered}
 use Rattle.layers.specs.Packed.{ClearedFrom}
 use Rattle.search.specs.declared.Phase.{Phase}
 use Rattle.search.specs.declared.Phase.the-variants.{Outer, Nested, Exhausted, Found}
 use Rattle.search.specs.declared.Walker.{Walker}
 use Rattle.search.specs.Core.{Game, gameOf, Core, Result, Ran, rewound}
-use Rattle.session.specs.declared.Resumption.{Resumption}
-use Rattle.session.specs.declared.Resumption.the-variants.{Nowhere, At}
+use Rattle.resumption.specs.declared.Resumption.{Resumption}
+use Rattle.resumption.specs.declared.Resumption.the-variants.{Nowhere, At}
+use Rattle.resumption.specs.Model.{resumptionOf}
 use Rattle.session.specs.declared.Verdict.{Verdict}
 use Rattle.session.specs.declared.Settled.{Settled}
-use Rattle.session.specs.declared.First.{First}
 use Rattle.session.specs.declared.Session.{Session}
 use Rattle.verdict.specs.Answers.{refusing, lowered, Tells}
 
@@ -82,15 +76,6 @@ gameIn size kinds b = gameOf (b .rows .targets) (layered size (kinds - 1) (b .ro
 abbrev pub statesIn : ℕ → ℕ → ℕ
 statesIn size kinds = size * kinds % 65536
 
--- the copies of a state, one in each of so many layers, and those of several states
-unfoldable pub copiesUp : ℕ → ℕ → ℕ → List ℕ
-copiesUp size zero v = []
-copiesUp size (suc n) v = v ∷ copiesUp size n (plus v size)
-
-unfoldable pub copiesUpAll : ℕ → ℕ → List ℕ → List ℕ
-copiesUpAll size kinds [] = []
-copiesUpAll size kinds (s ∷ ss) = copiesUp size kinds s ++ copiesUpAll size kinds ss
-
 -- the session that has no game: all is 0
 abbrev pub noGame : Session
 noGame = record {
@@ -121,55 +106,6 @@ isAlone Update.Batch = false
 abbrev pub onlyLine : Update → BatchLine
 onlyLine (Update.Change op) = lineTo op
 onlyLine Update.Batch = lineFor 0 0 0
-
--- Had the search not come to an edge that comes or goes, in the layer of one copy of the state that it leaves? Below the place of the tip stand, on the walk, the states that have not finished their outer moves. The state
--- behind each of them was discovered through the last of its edges that was taken: an edge that goes has to stand behind that one.
-unfoldable pub unexploredEdge : Bool → ℕ → ℕ → ℕ → Rows → List ℕ → List ℕ → ℕ → Bool
-unexploredEdge on copy from to rows index walk tip =
-    let i = placeOf copy (entries tip 0 walk) in
-    ltb i tip && (on || ltb (getD index (getD walk (suc i) 0) 0) (placeOf to (rowAt (rows .targets) (rows .starts) from)))
-
--- of a change
-abbrev pub unexploredIn : Op → ℕ → Rows → List ℕ → List ℕ → ℕ → Bool
-unexploredIn (Add from to) copy rows index walk tip = unexploredEdge true copy from to rows index walk tip
-unexploredIn (Cut from to) copy rows index walk tip = unexploredEdge false copy from to rows index walk tip
-unexploredIn (Mark state kind) copy rows index walk tip = false
-unexploredIn (Unmark state kind) copy rows index walk tip = false
-
--- Had the search not come to what a change alters, in the layer of one copy of the state that it names: was the copy never discovered, or the edge there not come to? The tip is the
--- last state of the open path, which is so many states high.
-abbrev pub copyPassedOver : Op → ℕ → Rows → List ℕ → List ℕ → List ℕ → ℕ → Bool
-copyPassedOver op copy rows number index walk height = eqb (getD number copy 0) noNumber || unexploredIn op copy rows index walk (height - 1)
-
--- in every layer; a line that makes no change is passed over
-abbrev pub passedOverIn : PlainLine → ℕ → ℕ → Rows → List ℕ → List ℕ → List ℕ → ℕ → Bool
-passedOverIn (makes c) size kinds rows number index walk height = all (λ copy. copyPassedOver (opFor c) copy rows number index walk height) (copiesUp size kinds (namedBy (opFor c)))
-passedOverIn other size kinds rows number index walk height = true
-
-abbrev pub allPassedOver : List PlainLine → ℕ → ℕ → Rows → List ℕ → List ℕ → List ℕ → ℕ → Bool
-allPassedOver xs size kinds rows number index walk height = all (λ x. passedOverIn x size kinds rows number index walk height) xs
-
--- the most states that a batch names
-abbrev pub namedMost : ℕ
-namedMost = 64
-
--- the copy with the least discovery number of some, where the least so far is that of another
-unfoldable pub firstOf : First → List ℕ → List ℕ → First
-firstOf first [] number = first
-firstOf first (v ∷ vs) number = firstOf (cond (ltb (getD number v 0) (first .number)) (record { number = getD number v 0; copy = v }) first) vs number
-
--- nowhere where none is discovered
-abbrev pub takenUpAt : First → Resumption
-takenUpAt first = cond (eqb (first .number) noNumber) Nowhere (At (first .copy))
-
-abbrev pub earliestOf : List ℕ → List ℕ → Resumption
-earliestOf copies number = takenUpAt (firstOf (record { number = noNumber; copy = 0 }) copies number)
-
--- Where a search is taken up for the lines of a call, given as numbers: nowhere where all are passed over, else where the first copy of the states that they name was
--- discovered.
-unfoldable pub resumptionOf : ℕ → ℕ → List ℕ → Rows → List ℕ → List ℕ → List ℕ → ℕ → Resumption
-resumptionOf size kinds ns rows number index walk height =
-    cond (allPassedOver (linesIn ns) size kinds rows number index walk height) Nowhere (earliestOf (copiesUpAll size kinds (take namedMost (namedIn ns))) number)
 
 -- has the search found a cycle?
 abbrev pub isFound : Phase → Bool

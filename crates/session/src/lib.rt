@@ -4,23 +4,23 @@ use batch::Command;
 use batch::Update;
 use question::Question;
 use question::Reply;
+use resumption::Resumption;
 use table::Position;
-use table::Subject;
 use table::Trial;
 use verdict::Answer;
 ghost use mathlib.Core.Path.{_≡_};
-ghost use Prim.Native.Nat.{_+_, _-_, _≤_};
-ghost use lib.ListN.{length, take};
+ghost use Prim.Native.Nat.{_+_, _-_};
+ghost use lib.ListN.{length};
 ghost use Rattle.rows.specs.Rows.{Tabled};
 ghost use Rattle.rows.specs.Change.{rowsOf};
 ghost use Rattle.look.specs.Numbers.{plus};
 ghost use Rattle.plain.specs.Table.{byKind};
 ghost use Rattle.layers.specs.Layout.{layered};
 ghost use Rattle.search.specs.Core.{gameOf, Lengths};
-ghost use Rattle.table.specs.Trials.{arraysOf, opOf};
+ghost use Rattle.table.specs.Trials.{arraysOf};
 ghost use Rattle.question.specs.Replies.{questionOf};
-ghost use Rattle.batch.specs.Batches.{switchIn, lineIn, linesIn, statesIn as namedIn, numbersIn};
-ghost use Rattle.session.specs.Model.{unexploredEdge, copyPassedOver, passedOverIn, allPassedOver, namedMost, copiesUp, copiesUpAll, firstOf, earliestOf, statesIn, resumptionOf, isFound, verdictOf, noVerdict, recordsOf, Sought, isAlone, onlyLine, noGame, Settles, SettlesAfresh, UpdatedIn, KindsSet, Performed};
+ghost use Rattle.batch.specs.Batches.{numbersIn};
+ghost use Rattle.session.specs.Model.{statesIn, isFound, verdictOf, noVerdict, recordsOf, Sought, isAlone, onlyLine, noGame, Settles, SettlesAfresh, UpdatedIn, KindsSet, Performed};
 ghost use Rattle.session.specs.Promises.{commandOf, Loads, Updates, Replies};
 
 // What a search has come to: the lengths of stem and walk (0: no walk), the height of the open path, and the probes.
@@ -37,12 +37,6 @@ struct Settled {
     answer: Answer,
     verdict: Verdict,
     kinds: u16,
-}
-
-// Where a search is taken up: nowhere, since it had not come to what a change alters, or where the state was discovered that the change names.
-enum Resumption {
-    Nowhere,
-    At(u16),
 }
 
 // stem and length are those of the last walk (0: none), height that of the open path at the search's end, total counts its probes.
@@ -78,240 +72,8 @@ pub struct Outcome {
     pub session: Session,
 }
 
-// The most states that a batch names.
-const NAMED: usize = 64;
-
 // 2 × 2,048 + 3 × 512 + 2: no search takes more steps, and a phase of it is one step or more.
 const PHASES: u16 = 5634;
-
-// Had the search not come to an edge that comes or goes, in the layer of one copy of the state that it leaves? The states below the place of the tip have not finished their outer moves: an edge that comes stands
-// behind those taken. The state behind each of them on the walk was discovered through the last one taken: an edge that goes has to stand further on.
-fn is_unexplored(
-    on: bool,
-    copy: u16,
-    from: u16,
-    to: u16,
-    targets: &[u16; 2048],
-    starts: &[u16; 513],
-    index: &[u16; 512],
-    walk: &[u16; 512],
-    tip: u16,
-) -> bool
-    requires { ⌜ Tabled (now targets) (now starts) × (length (now index) ≡ 512) × (length (now walk) ≡ 512) ⌝ }
-    ensures { λ r. ⌜ r ≡ unexploredEdge on copy from to (rowsOf (now (targets .entry)) (now (starts .entry))) (now (index .entry)) (now (walk .entry)) tip ⌝ }
-{
-    let i = look::find(walk, tip, copy);
-    if tip <= i {
-        return false;
-    }
-    if on {
-        return true;
-    }
-    let next = look::get(walk, i + 1);
-    look::get(index, next) < rows::place(targets, starts, from, to)
-}
-
-// Had the search not come to what a line changes, in the layer of one copy: has it never met the copy, or not come to the edge there?
-fn is_copy_passed_over(
-    line: BatchLine,
-    copy: u16,
-    targets: &[u16; 2048],
-    starts: &[u16; 513],
-    number: &[u16; 512],
-    index: &[u16; 512],
-    walk: &[u16; 512],
-    height: u16,
-) -> bool
-    requires { ⌜ Tabled (now targets) (now starts) × (length (now number) ≡ 512) × (length (now index) ≡ 512) × (length (now walk) ≡ 512) ⌝ }
-    ensures { λ r. ⌜ r ≡ copyPassedOver (opOf (switchIn line)) copy (rowsOf (now (targets .entry)) (now (starts .entry))) (now (number .entry)) (now (index .entry)) (now (walk .entry)) height ⌝ }
-{
-    if look::get(number, copy) == look::NO_NUMBER {
-        return true;
-    }
-    let switch = batch::switch_in(line);
-    let subject = switch.subject;
-    if let Subject::Edge { from, to } = subject {
-        let tip = look::down(height);
-        return is_unexplored(switch.on, copy, from, to, targets, starts, index, walk, tip);
-    }
-    false
-}
-
-// The same in every layer. A line that makes no change is passed over: its batch is refused.
-fn is_passed_over(
-    line: BatchLine,
-    size: u16,
-    kinds: u16,
-    targets: &[u16; 2048],
-    starts: &[u16; 513],
-    number: &[u16; 512],
-    index: &[u16; 512],
-    walk: &[u16; 512],
-    height: u16,
-) -> bool
-    requires { ⌜ Tabled (now targets) (now starts) × (length (now number) ≡ 512) × (length (now index) ≡ 512) × (length (now walk) ≡ 512) ⌝ }
-    ensures { λ r. ⌜ r ≡ passedOverIn (lineIn line) size kinds (rowsOf (now (targets .entry)) (now (starts .entry))) (now (number .entry)) (now (index .entry)) (now (walk .entry)) height ⌝ }
-{
-    if !batch::is_change(line) {
-        return true;
-    }
-    let mut copy = batch::named_by(line);
-    let mut left = kinds;
-    while 0 < left {
-        if !is_copy_passed_over(line, copy, targets, starts, number, index, walk, height) {
-            return false;
-        }
-        copy = look::plus(copy, size);
-        left -= 1;
-    }
-    true
-}
-
-// Are all lines of a call passed over? It is asked before they are tried, while the rows are those that the search has read.
-fn all_passed_over(
-    alone: bool,
-    only: BatchLine,
-    lines: &[u16],
-    size: u16,
-    kinds: u16,
-    targets: &[u16; 2048],
-    starts: &[u16; 513],
-    number: &[u16; 512],
-    index: &[u16; 512],
-    walk: &[u16; 512],
-    height: u16,
-) -> bool
-    requires { ⌜ Tabled (now targets) (now starts) × (length (now number) ≡ 512) × (length (now index) ≡ 512) × (length (now walk) ≡ 512) ⌝ }
-    ensures { λ r. ⌜ r ≡ allPassedOver (linesIn (numbersIn alone only (now (lines .entry)))) size kinds (rowsOf (now (targets .entry)) (now (starts .entry))) (now (number .entry)) (now (index .entry)) (now (walk .entry)) height ⌝ }
-{
-    let end = batch::lines_end(alone, lines);
-    let mut at: usize = 0;
-    while at < end {
-        let line = batch::line_at(alone, only, lines, at);
-        if !is_passed_over(
-            line,
-            size,
-            kinds,
-            targets,
-            starts,
-            number,
-            index,
-            walk,
-            height,
-        ) {
-            return false;
-        }
-        at += batch::LINE;
-    }
-    true
-}
-
-// The states that the lines of a call name, as many as a batch may name, at the head of a list: how many they are.
-fn name_states(alone: bool, only: BatchLine, lines: &[u16], states: &mut [u16; NAMED]) -> usize
-    requires { ⌜ length (now states) ≡ namedMost ⌝ }
-    ensures { λ r. ⌜ (r ≤ namedMost) × (length (now (states .exit)) ≡ namedMost) × (take r (now (states .exit)) ≡ take namedMost (namedIn (numbersIn alone only (now (lines .entry))))) ⌝ }
-{
-    let end = batch::lines_end(alone, lines);
-    let mut at: usize = 0;
-    let mut n: usize = 0;
-    while at < end {
-        if n == NAMED {
-            return n;
-        }
-        let line = batch::line_at(alone, only, lines, at);
-        states[n] = batch::named_by(line);
-        n += 1;
-        at += batch::LINE;
-    }
-    n
-}
-
-// The earliest of some copies and of those before them: its discovery number and the copy. Before any has been discovered the number is none.
-struct First {
-    number: u16,
-    copy: u16,
-}
-
-// The copies of a state, one in each layer, behind those before it.
-fn earlier(first: First, state: u16, size: u16, kinds: u16, number: &[u16; 512]) -> First
-    requires { ⌜ length (now number) ≡ 512 ⌝ }
-    ensures { λ r. ⌜ r ≡ firstOf first (copiesUp size kinds state) (now (number .entry)) ⌝ }
-{
-    let mut least = first.number;
-    let mut earliest = first.copy;
-    let mut copy = state;
-    let mut left = kinds;
-    while 0 < left {
-        let n = look::get(number, copy);
-        if n < least {
-            least = n;
-            earliest = copy;
-        }
-        copy = look::plus(copy, size);
-        left -= 1;
-    }
-    First {
-        number: least,
-        copy: earliest,
-    }
-}
-
-// Where the search is taken up that first discovers a copy of one of some states: the earliest of them, or nowhere, since it discovered none.
-fn earliest(states: &[u16], size: u16, kinds: u16, number: &[u16; 512]) -> Resumption
-    requires { ⌜ length (now number) ≡ 512 ⌝ }
-    ensures { λ r. ⌜ r ≡ earliestOf (copiesUpAll size kinds (now (states .entry))) (now (number .entry)) ⌝ }
-{
-    let mut first = First {
-        number: look::NO_NUMBER,
-        copy: 0,
-    };
-    let mut i: usize = 0;
-    while i < states.len() {
-        first = earlier(first, states[i], size, kinds, number);
-        i += 1;
-    }
-    if first.number == look::NO_NUMBER {
-        return Resumption::Nowhere;
-    }
-    Resumption::At(first.copy)
-}
-
-// Where the search is taken up for a call.
-fn where_to_resume(
-    alone: bool,
-    only: BatchLine,
-    lines: &[u16],
-    size: u16,
-    kinds: u16,
-    targets: &[u16; 2048],
-    starts: &[u16; 513],
-    number: &[u16; 512],
-    index: &[u16; 512],
-    walk: &[u16; 512],
-    height: u16,
-) -> Resumption
-    requires { ⌜ Tabled (now targets) (now starts) × (length (now number) ≡ 512) × (length (now index) ≡ 512) × (length (now walk) ≡ 512) ⌝ }
-    ensures { λ r. ⌜ r ≡ resumptionOf size kinds (numbersIn alone only (now (lines .entry))) (rowsOf (now (targets .entry)) (now (starts .entry))) (now (number .entry)) (now (index .entry)) (now (walk .entry)) height ⌝ }
-{
-    if all_passed_over(
-        alone,
-        only,
-        lines,
-        size,
-        kinds,
-        targets,
-        starts,
-        number,
-        index,
-        walk,
-        height,
-    ) {
-        return Resumption::Nowhere;
-    }
-    let mut states: [u16; NAMED] = [0; NAMED];
-    let n = name_states(alone, only, lines, &mut states);
-    earliest(&states[..n], size, kinds, number)
-}
 
 // Has the search found a cycle?
 fn is_found(phase: search::Phase) -> bool
@@ -644,7 +406,7 @@ fn update_in(
     requires { ⌜ Tabled (now targets) (now starts) × (length (now indegree) ≡ 512) × Lengths (now number) (now parent) (now index) (now probes) (now stamp) (now walk) ⌝ }
     ensures { λ r. ⌜ UpdatedIn alone (numbersIn alone only (now (lines .entry))) size kinds start old (arraysOf (now (targets .entry)) (now (starts .entry)) (now (words .entry)) (now (indegree .entry))) (recordsOf (now (number .entry)) (now (parent .entry)) (now (index .entry)) (now (probes .entry)) (now (stamp .entry)) (now (walk .entry))) (now (lent .entry)) r (arraysOf (now (targets .exit)) (now (starts .exit)) (now (words .exit)) (now (indegree .exit))) (recordsOf (now (number .exit)) (now (parent .exit)) (now (index .exit)) (now (probes .exit)) (now (stamp .exit)) (now (walk .exit))) (now (lent .exit)) ⌝ }
 {
-    let from = where_to_resume(
+    let from = resumption::where_to_resume(
         alone,
         only,
         lines,

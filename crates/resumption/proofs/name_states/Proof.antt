@@ -8,9 +8,9 @@ use lib.ListN.{length}
 use borrow.Author.Needs.{needs}
 use Rattle.batch.specs.Batches.{numbersIn, endIn}
 use Rattle.batch.proofs.Batches.{numbers-length}
-use Rattle.session.proofs.Lines.{Named, named-begun, named-on, named-all, named-full}
-use Rattle.session.proofs.name_states.Statement.{statement}
-use Rattle.session.proofs.name_states.Tie as tie
+use Rattle.resumption.proofs.Lines.{Named, named-begun, named-on, named-all, named-full}
+use Rattle.resumption.proofs.name_states.Statement.{statement}
+use Rattle.resumption.proofs.name_states.Tie as tie
 
 abbrev Inv-loop : tie.InvT-loop
 Inv-loop alone only lines states₀ end at₀ n₀ states at n = Named (numbersIn alone only lines) states at n

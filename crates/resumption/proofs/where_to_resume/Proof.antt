@@ -6,10 +6,10 @@ use native.Mathlib.Omega.{arith}
 use denote.Ref.{now}
 use lib.Seq.{length-take-le}
 use borrow.Author.Needs.{needs}
-use Rattle.session.specs.Model.{copiesUpAll, earliestOf}
-use Rattle.session.proofs.Lines.{resumption-nowhere, resumption-earliest}
-use Rattle.session.proofs.where_to_resume.Statement.{statement}
-use Rattle.session.proofs.where_to_resume.Tie as tie
+use Rattle.resumption.specs.Model.{copiesUpAll, earliestOf}
+use Rattle.resumption.proofs.Lines.{resumption-nowhere, resumption-earliest}
+use Rattle.resumption.proofs.where_to_resume.Statement.{statement}
+use Rattle.resumption.proofs.where_to_resume.Tie as tie
 
 all-passed-over-requires : tie.Need-all-passed-over-requires
 all-passed-over-requires c κs = search needs

@@ -4,10 +4,10 @@ use Prim.Native.Nat.{ℕ}
 use denote.Ref.{now}
 use borrow.Author.Needs.{needs}
 use Rattle.rows.specs.Change.{rowsOf}
-use Rattle.session.specs.Model.{unexploredEdge}
-use Rattle.session.proofs.Lines.{copy-unmet, copy-edge, copy-mark}
-use Rattle.session.proofs.is_copy_passed_over.Statement.{statement}
-use Rattle.session.proofs.is_copy_passed_over.Tie as tie
+use Rattle.resumption.specs.Model.{unexploredEdge}
+use Rattle.resumption.proofs.Lines.{copy-unmet, copy-edge, copy-mark}
+use Rattle.resumption.proofs.is_copy_passed_over.Statement.{statement}
+use Rattle.resumption.proofs.is_copy_passed_over.Tie as tie
 
 get-requires : tie.Need-get-requires
 get-requires c κs = search needs

@@ -11,9 +11,9 @@ use borrow.Author.Tests.{eq-eqb, ne-eqb, lt-ltb, le-ltb, ltb-true, ltb-false, eq
 use Rattle.plain.specs.Lists.{In}
 use Rattle.plain.proofs.Tests.{either, same, in-nil, in-head, in-tail, in-cases}
 use Rattle.look.specs.Numbers.{noNumber}
-use Rattle.session.specs.declared.Resumption.the-variants.{Nowhere, At}
-use Rattle.session.specs.declared.First.{First}
-use Rattle.session.specs.Model.{firstOf, takenUpAt, earliestOf}
+use Rattle.resumption.specs.declared.Resumption.the-variants.{Nowhere, At}
+use Rattle.resumption.specs.declared.First.{First}
+use Rattle.resumption.specs.Model.{firstOf, takenUpAt, earliestOf}
 
 -- ---- laws of the definition
 

@@ -12,10 +12,10 @@ use Rattle.rows.specs.Change.{rowsOf}
 use Rattle.batch.specs.declared.BatchLine.{BatchLine}
 use Rattle.batch.specs.Batches.{isChange, switchIn}
 use Rattle.table.specs.Trials.{opOf}
-use Rattle.session.specs.Model.{copiesUp, copyPassedOver}
-use Rattle.session.proofs.Lines.{passed-other, passed-copies, copies-stop, copies-on, copies-end}
-use Rattle.session.proofs.is_passed_over.Statement.{statement}
-use Rattle.session.proofs.is_passed_over.Tie as tie
+use Rattle.resumption.specs.Model.{copiesUp, copyPassedOver}
+use Rattle.resumption.proofs.Lines.{passed-other, passed-copies, copies-stop, copies-on, copies-end}
+use Rattle.resumption.proofs.is_passed_over.Statement.{statement}
+use Rattle.resumption.proofs.is_passed_over.Tie as tie
 
 -- is the line passed over in the layer of a copy?
 abbrev at-copy : BatchLine → List ℕ → List ℕ → List ℕ → List ℕ → List ℕ → ℕ → ℕ → Bool

@@ -19,9 +19,9 @@ use Rattle.table.specs.Trials.{opOf}
 use Rattle.table.specs.Filing.{namedBy}
 use Rattle.batch.specs.Batches.{lineIn, isChange, switchIn, linesIn, statesIn, headLine, opFor}
 use Rattle.batch.proofs.Batches.{Making, change-line, other-line, lines-next, lines-end}
-use Rattle.session.specs.declared.Resumption.the-variants.{Nowhere}
-use Rattle.session.specs.Model.{copiesUp, copiesUpAll, unexploredEdge, unexploredIn, copyPassedOver, passedOverIn, allPassedOver, namedMost, earliestOf, resumptionOf}
-use Rattle.session.proofs.Resuming.{named-one, switched-edge, switched-mark}
+use Rattle.resumption.specs.declared.Resumption.the-variants.{Nowhere}
+use Rattle.resumption.specs.Model.{copiesUp, copiesUpAll, unexploredEdge, unexploredIn, copyPassedOver, passedOverIn, allPassedOver, namedMost, earliestOf, resumptionOf}
+use Rattle.resumption.proofs.Edges.{named-one, switched-edge, switched-mark}
 
 -- ---- one line
 

@@ -10,10 +10,10 @@ use borrow.Author.Tests.{not-true, not-false}
 use Rattle.rows.specs.Change.{rowsOf}
 use Rattle.batch.specs.Batches.{linesIn, numbersIn, endIn}
 use Rattle.batch.proofs.Batches.{numbers-length}
-use Rattle.session.specs.Model.{allPassedOver}
-use Rattle.session.proofs.Lines.{passed-end, passed-stop, passed-on}
-use Rattle.session.proofs.all_passed_over.Statement.{statement}
-use Rattle.session.proofs.all_passed_over.Tie as tie
+use Rattle.resumption.specs.Model.{allPassedOver}
+use Rattle.resumption.proofs.Lines.{passed-end, passed-stop, passed-on}
+use Rattle.resumption.proofs.all_passed_over.Statement.{statement}
+use Rattle.resumption.proofs.all_passed_over.Tie as tie
 
 abbrev Inv-loop : tie.InvT-loop
 Inv-loop alone only lines size kinds targets starts number index walk height end at₀ at =

@@ -11,10 +11,10 @@ use borrow.Author.Tests.{lt-ltb, le-ltb}
 use borrow.Author.Needs.{needs}
 use Rattle.rows.specs.Rows.{entries, placeOf}
 use Rattle.rows.specs.Change.{rowsOf}
-use Rattle.session.specs.Model.{unexploredEdge}
-use Rattle.session.proofs.Resuming.{edge-off, edge-comes, edge-goes}
-use Rattle.session.proofs.is_unexplored.Statement.{statement}
-use Rattle.session.proofs.is_unexplored.Tie as tie
+use Rattle.resumption.specs.Model.{unexploredEdge}
+use Rattle.resumption.proofs.Edges.{edge-off, edge-comes, edge-goes}
+use Rattle.resumption.proofs.is_unexplored.Statement.{statement}
+use Rattle.resumption.proofs.is_unexplored.Tie as tie
 
 find-requires : tie.Need-find-requires
 find-requires c κs = search needs

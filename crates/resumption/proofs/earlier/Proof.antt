@@ -7,12 +7,12 @@ use native.Mathlib.Omega.{arith}
 use denote.Ref.{now}
 use borrow.Author.Needs.{needs}
 use Rattle.look.specs.Numbers.{plus}
-use Rattle.session.specs.declared.First.{First}
-use Rattle.session.specs.Model.{copiesUp, firstOf}
-use Rattle.session.proofs.Lines.{copies-next}
-use Rattle.session.proofs.FirstMet.{turn-less, turn-stays}
-use Rattle.session.proofs.earlier.Statement.{statement}
-use Rattle.session.proofs.earlier.Tie as tie
+use Rattle.resumption.specs.declared.First.{First}
+use Rattle.resumption.specs.Model.{copiesUp, firstOf}
+use Rattle.resumption.proofs.Lines.{copies-next}
+use Rattle.resumption.proofs.FirstMet.{turn-less, turn-stays}
+use Rattle.resumption.proofs.earlier.Statement.{statement}
+use Rattle.resumption.proofs.earlier.Tie as tie
 
 abbrev found : ℕ → ℕ → First
 found least earliest = record { number = least; copy = earliest }

@@ -8,11 +8,11 @@ use lib.ListN.{length, getD, drop, drop-of-length-le}
 use lib.Seq.{drop-cons}
 use borrow.Author.Needs.{needs}
 use Rattle.look.specs.Numbers.{noNumber}
-use Rattle.session.specs.declared.First.{First}
-use Rattle.session.specs.Model.{copiesUp, copiesUpAll, firstOf, takenUpAt}
-use Rattle.session.proofs.FirstMet.{first-append, taken-none, taken-at}
-use Rattle.session.proofs.earliest.Statement.{statement}
-use Rattle.session.proofs.earliest.Tie as tie
+use Rattle.resumption.specs.declared.First.{First}
+use Rattle.resumption.specs.Model.{copiesUp, copiesUpAll, firstOf, takenUpAt}
+use Rattle.resumption.proofs.FirstMet.{first-append, taken-none, taken-at}
+use Rattle.resumption.proofs.earliest.Statement.{statement}
+use Rattle.resumption.proofs.earliest.Tie as tie
 
 -- the first of all copies of the states, behind one that is found
 abbrev among : ℕ → ℕ → List ℕ → First → List ℕ → First
