@@ -38,10 +38,6 @@ use Rattle.rows.proofs.Entries.{entries-front}
 use Rattle.look.specs.Numbers.{noNumber}
 use Rattle.search.specs.Archive.{notesOf}
 use Rattle.plain.proofs.Walks.{states-length}
-use Rattle.table.specs.declared.Op.the-variants.{Mark}
-use Rattle.table.specs.declared.Subject.{Subject}
-use Rattle.table.specs.declared.Subject.the-variants as Subject
-use Rattle.table.specs.Trials.{switching}
 use Rattle.table.specs.Filing.{namedBy}
 use Rattle.table.proofs.Places.{has-place, place-hit, place-miss, place-front, place-behind, same-test}
 use Rattle.session.specs.declared.Session.{Session}

@@ -1,4 +1,3 @@
-pub mod Texts
 pub mod Records
 pub mod Truth
 pub mod Marks

@@ -1,4 +1,3 @@
 pub mod Text
-pub mod Texts
 pub mod Truth
 pub mod Model

@@ -13,8 +13,8 @@ use Rattle.line.specs.Numbers.{all, isDigit, valueFrom, value, leadingZero, isN
 use Rattle.line.specs.Words.{isWord}
 use Rattle.line.specs.Records.{sameBytes, words, wordIn, wordOf, isKind, fieldsFit, worded, fromFields, recordOf}
 use Rattle.answer.specs.Rendering.{digitsIn, decimal, fieldOf, fieldsOf as printedFields, lineOf, render}
 use Rattle.watch.specs.Text.{atFirst, beforeGo, behindGame, requestOf, afterGo, inBatch, step, printed, wholeLines, counted, outputOf, output}
-use Rattle.watch.specs.Texts.{Dialogue, dialogue, games}
+use Rattle.dialogues.specs.Texts.{Dialogue, dialogue, games}
 
 -- one sentence for all games
 pub games-printed : map (λ (x : Dialogue). output (bytes (x .sent))) games ≡ map (λ (x : Dialogue). map bytes (x .written)) games
