@@ -51,6 +51,7 @@ use Rattle.verdict.proofs.Told.{told, never-refused}
 use Rattle.verdict.specs.Answers.{refusing, positionOf, shown, lowered, WalkOf, Answered, Tells}
 use Rattle.session.proofs.Sought.{matches, states-are, starts-at, Reached, reached}
 use Rattle.session.proofs.Asking.{Asks}
+use Rattle.session.proofs.Changing.{same-number, not-both}
 use Rattle.resumption.proofs.FirstMet.{earliest-is}
 use Rattle.resumption.proofs.Lines.{resumption-nowhere, resumption-earliest}
 use Rattle.session.proofs.Copied.{all-up, up-all, copies-few}
@@ -360,10 +361,7 @@ module _ (u : PlainUpdate) (alone : Bool) (ns : List ℕ) (q : Asks u alone (lin
   call-refused : (n : ℕ) → tried .trial ≡ refused n → Updates (update u) s lent (record { answer = refusing n (positionAt alone (tried .position)); session = s }) lent
   unfolding trialOf
   call-refused n e = refused-right (update u) s lent n (positionAt alone (tried .position)) (λ t h. trial-is t h ∙ e) position-is
-      (λ z. let w = none-is z in ap (λ (k : ℕ). refusing k (positionAt alone (tried .position))) (refused-same (sym e ∙ w .0)) ∙ w .1)
-    where
-      refused-same : {x y : ℕ} → refused x ≡ refused y → x ≡ y
-      refused-same z = cc
+      (λ z. let w = none-is z in ap (λ (k : ℕ). refusing k (positionAt alone (tried .position))) (same-number (sym e ∙ w .0)) ∙ w .1)
 
   call-accepted : (lent′ : List ℕ) (b : Arrays) (a : Records) (r : Settled) → tried .trial ≡ accepted → b ≡ tried .arrays
       → Settles (s .size) (s .kinds) (gameIn (s .size) (s .kinds) b) (s .start) (takenUp ns s) (oldOf s) (recordsHeld s) lent r a lent′
@@ -375,7 +373,7 @@ module _ (u : PlainUpdate) (alone : Bool) (ns : List ℕ) (q : Asks u alone (lin
     holds = λ t h. subst⁻¹ (λ (x : Table). Holds (next u ns s b a (r .verdict) (w .sought) t h (length lent) (is t h) (lines t h) (stored t h)) x)
         (table-accepted (callOf (update u) lent) t (is t h)) (next-holds u ns s b a (r .verdict) (w .sought) t h (length lent) (is t h) (lines t h) (stored t h));
     refused = λ m z. absurd (never-refused (r .verdict .spent) (r .verdict .kept) (r .verdict .stem) (r .verdict .length) m (sym (w .tells .answer-is) ∙ z));
-    no-game = λ z. absurd (refused-not (sym (none-is z .0) ∙ e));
+    no-game = λ z. absurd (not-both (sym (none-is z .0) ∙ e));
   }
     where
       is : (t : Table) → Holds s t → updateTrial u t (length lent) ≡ accepted
@@ -386,9 +384,6 @@ module _ (u : PlainUpdate) (alone : Bool) (ns : List ℕ) (q : Asks u alone (lin
 
       stored : (t : Table) (h : Holds s t) → Stored (applied u t) b
       stored t h = subst⁻¹ (Stored (applied u t)) new (stored-is t h (is t h))
-
-      refused-not : {n : ℕ} → refused n ≡ accepted → ⊥
-      refused-not z = let k : _≡_ {A = ℕ} 0 1 = cc in omega arith
 
   -- the contract of a call, from what it leaves in the arrays
   pub call-right : (lent′ : List ℕ) (b : Arrays) (a : Records) (r : Settled) (total : ℕ) → s .total ≤ 65535 → total ≡ plus (r .verdict .kept) (r .verdict .spent)

@@ -26,10 +26,11 @@ use Rattle.session.specs.Model.{Records, gameIn, Settles, SettlesAfresh,
 use Rattle.table.proofs.Trying.{tried-accepted, tried-refused}
 use Rattle.batch.proofs.Batches.{tried-sized}
 
-same-number : {m n : ℕ} → refused m ≡ refused n → m ≡ n
+-- refusals with their numbers
+pub same-number : {m n : ℕ} → refused m ≡ refused n → m ≡ n
 same-number e = cc
 
-not-both : {n : ℕ} → refused n ≡ accepted → ⊥
+pub not-both : {n : ℕ} → refused n ≡ accepted → ⊥
 not-both e = let z : _≡_ {A = ℕ} 0 1 = cc in omega arith
 
 module _ (alone : Bool) (ns : List ℕ) (size kinds start : ℕ) (old : Verdict) (b : Arrays) (a : Records) (lent : List ℕ) where

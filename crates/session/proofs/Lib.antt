@@ -2,9 +2,9 @@ pub mod Sought
 pub mod Asking
 pub mod Copied
 pub mod Resuming
+pub mod Changing
 pub mod Accepted
 pub mod Afresh
 pub mod Loaded
-pub mod Changing
 pub mod Performing
 pub mod Demand3

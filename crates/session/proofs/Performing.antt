@@ -3,7 +3,6 @@ use mathlib.Core.Path.{_≡_, refl, sym, ap, subst, subst⁻¹, _∙_}
 use mathlib.Core.Bool.{Bool}
 use mathlib.Core.List.{List}
 use Prim.Native.Nat.{ℕ, _*_, _≤_, min}
-use native.Mathlib.Omega.{arith}
 use lib.Dec.{eqb}
 use lib.ListN.{length}
 use Rattle.plain.specs.Table.{Table}
@@ -32,6 +31,7 @@ use Rattle.session.specs.declared.Verdict.{Verdict}
 use Rattle.session.specs.Model.{Records, arraysHeld, gameIn, sessionOf, isAlone, onlyLine, SettlesAfresh, UpdatedIn, KindsSet, Performed}
 use Rattle.session.specs.Promises.{Holds, updateOf, commandOf, callOf, Updates}
 use Rattle.session.proofs.Asking.{asked-so}
+use Rattle.session.proofs.Changing.{same-number, not-both}
 use Rattle.session.proofs.Afresh.{afresh}
 use Rattle.session.proofs.Accepted.{oldOf, recordsHeld, refused-right, left-alone, call-right}
 
@@ -52,10 +52,7 @@ module _ (k : ℕ) (s : Session) (lent : List ℕ) where
 
   kinds-refused : (n : ℕ) → tried ≡ refused n → Updates (setKinds k) s lent (record { answer = refusing n Alone; session = s }) lent
   unfolding trialOf
-  kinds-refused n e = refused-right (setKinds k) s lent n Alone (λ t h. trial-is t h ∙ e) (λ t h. refl) (λ z. ap (λ (m : ℕ). refusing m Alone) (refused-same (sym e ∙ none-is z)))
-    where
-      refused-same : {x y : ℕ} → refused x ≡ refused y → x ≡ y
-      refused-same z = cc
+  kinds-refused n e = refused-right (setKinds k) s lent n Alone (λ t h. trial-is t h ∙ e) (λ t h. refl) (λ z. ap (λ (m : ℕ). refusing m Alone) (same-number (sym e ∙ none-is z)))
 
   -- accepted: the marks that stay, and a search from the start
   module _ (words : List ℕ) (a : Records) (r : Settled) (lent′ : List ℕ) (sized : length (s .walk) ≡ 512) (e : tried ≡ accepted) (cleared : ClearedFrom (min (s .kinds) k * s .size) (s .words) words)
@@ -82,11 +79,8 @@ module _ (k : ℕ) (s : Session) (lent : List ℕ) where
       answers = λ t h. subst⁻¹ (λ (x : PlainAnswer). Answered x lent (r .answer) lent′) (kinds-answer k t (length lent) (trial-is t h ∙ e)) (held-answered t h .1);
       holds = λ t h. subst⁻¹ (λ (x : Table). Holds next x) (table-accepted (callOf (setKinds k) lent) t (trial-is t h ∙ e)) (held-answered t h .0);
       refused = λ m z. absurd (never-refused (r .verdict .spent) (r .verdict .kept) (r .verdict .stem) (r .verdict .length) m (sym (settles .tells .answer-is) ∙ z));
-      no-game = λ z. absurd (refused-not (sym (none-is z) ∙ e));
+      no-game = λ z. absurd (not-both (sym (none-is z) ∙ e));
     }
-      where
-        refused-not : {n : ℕ} → refused n ≡ accepted → ⊥
-        refused-not z = let y : _≡_ {A = ℕ} 0 1 = cc in omega arith
 
   -- the contract, from what it leaves in the arrays
   kinds-right : (lent′ words : List ℕ) (a : Records) (r : Settled) (total : ℕ) → length (s .walk) ≡ 512 → s .total ≤ 65535 → total ≡ plus (r .verdict .kept) (r .verdict .spent)
