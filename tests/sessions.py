@@ -21,8 +21,9 @@ from common import ROOT, STORED, as_lines, difference, fail, game_a
 from batches import KIND_NUMBERS, LENGTHS, NUMBERS, some_lines
 from reference import (BATCH_GAMES, CHANGES, FIELDS, GAMES, INSIDE, KIND_GAMES, MARK_GAMES, MOST_KINDS, MOST_MOVES, MOST_STATES,
                        MOVE_WORDS, OUTSIDE, OVER_GAMES, SELF_GAMES, UNREACHED_GAMES, WAYS_GAMES, WITH_KIND, Table, answer_text,
-                       bench_answer, called, carried, carried_by, change_lines, game_rows, given_marks, in_full, load_args, load_lines,
-                       made, of_kinds, plain_search, random_kind, read_line, records, rows_of, states_of, too_many, up_to_go)
+                       bench_answer, called, carried, carried_by, change_lines, game_rows, given_marks, in_full, load_args,
+                       load_lines, made, of_kinds, plain_search, random_kind, read_line, records, rows_of, states_of, too_many,
+                       up_to_go)
 
 
 # ------------------------------------------------------------ one text
@@ -694,11 +695,11 @@ def over_game(rng, size, left_out):
     return Text(size, text.start, text.pays, list(text.moves)) if left_out else text
 
 
-def other_kinds(rng, session, least=0):
-    """Another K or the same again, seldom one that there never is, none below this. Behind it lines that show what became of the
-    session: marks of the kinds that none carries, alone or as a batch, so that there are rounds again; or a move of the walk, a mark
-    of any kind, a batch, a question."""
-    session.send("kinds", rng.choice([most for most in (1, 2, 3, 4) * 4 + (0, 5, 65535) if most >= least]))
+def other_kinds(rng, session, among=(1, 2, 3, 4) * 4 + (0, 5, 65535)):
+    """Another K or the same again, one of these; such as there never are among them. Behind it lines that show what became of the
+    session: marks of the kinds that none carries, alone or as a batch, so that there are rounds again; or a move of the walk, a
+    mark of any kind, a batch, a question."""
+    session.send("kinds", rng.choice(among))
     given = given_marks(rng, session.table)
     if given and rng.random() < 0.5:
         for call in given if rng.random() < 0.4 else [("batch", given)]:
@@ -840,8 +841,8 @@ def as_left(data):
 
 
 def reloaded(data):
-    """Of each `kinds` line that a session takes: K before and behind it, how many lines the session has been answered by then, and a
-    text that loads the table as it stands and goes on as the session does."""
+    """Of each `kinds` line that a session takes: K before and behind it, how many lines have been answered by then, and a text that
+    loads the table as it stands and goes on as the session does."""
     lines, rest, table = common.lines_of(data), iter(records(data)), Table()
     said = len(list(load_lines(rest, table)))
     for line in rest if table.loaded else ():
@@ -1000,11 +1001,12 @@ def over_limit(kinds):
     cut, and none above it. Then changes there, and each K below, from which this one is taken again."""
     size, newest = MOST_STATES // kinds, limit_moves(kinds, 1)[-1]
     text = Text(size, 0, [0, size - 1], limit_moves(kinds, kinds > 1))
-    text.rows += ["kinds %d" % kinds, "mark 0 %d" % kinds, "cut %d %d" % newest, "kinds %d" % (kinds + 1), "kinds %d" % kinds, "begin"]
+    this, above, mark = "kinds %d" % kinds, "kinds %d" % (kinds + 1), "mark 0 %d" % kinds
+    text.rows += [this, mark, "cut %d %d" % newest, above, this, "begin"]
     text.rows += ["mark %d %d" % (s, kind) for kind in range(2, kinds + 1) for s in (0, size - 1)]
-    text.rows += ["end", "kinds %d" % (kinds + 1), *limit_rows(kinds)]
+    text.rows += ["end", above, *limit_rows(kinds)]
     for below in range(kinds - 1, 0, -1):
-        text.rows += ["kinds %d" % below, "kinds %d" % kinds, "mark 0 %d" % kinds, "ways 0"]
+        text.rows += ["kinds %d" % below, this, mark, "ways 0"]
     return text.data()
 
 
@@ -1086,8 +1088,8 @@ BLOCK = 65536                                  # bytes that it reads at a time, 
 # for what moves-2049, self-move-2049 and kinds-line-2049 ask. random-stems asks on a walk of 6 states what random-stems-512 asks
 # on one of 487, and random-batches on 8 states what random-batches-512 asks. kinds-moves-513 is a shorter text for what
 # kinds-moves-683 and kinds-moves-1025 ask, kinds-full-4 for what kinds-full-2 asks, over-moves-4 for what over-moves-2 and
-# over-moves-3 ask; and the games kinds-full and kinds-walk stand for the texts at the limits of each K, over-moves and over-walk for
-# those that go over to it there.
+# over-moves-3 ask; and the games kinds-full and kinds-walk stand for the texts at the limits of each K, over-moves and over-walk
+# for those that go over to it there.
 TOO_LONG = {"random-full", "random-chain", "moves-2048", "moves-2049", "self-move-2049", "random-stems-512", "random-batches-512",
             "kinds-line-2049", "kinds-moves-683", "kinds-moves-1025", "kinds-full-2", *(name for name, _ in kind_limits()),
             "over-moves-2", "over-moves-3", *(name for name, _ in over_limits())}
