@@ -132,7 +132,7 @@ def in_parts(program, parts):
 
 def compare_in_parts(program, texts, model, rng):
     """Each of these texts, named, in parts of three sorts."""
-    def single_bytes(text):                    # with pauses up to where `kinds` may stand, since the program has first to start
+    def single_bytes(text):                    # with pauses up to a load's `kinds`, since the program has first to start
         return ((text[i:i + 1], 0.001 * (i < 24)) for i in range(len(text)))
 
     def random_places(text):

@@ -4,12 +4,14 @@
     tests/sessions.py SEED KIND     one random session, to standard output
     tests/sessions.py --write       the stored sessions and their results, by the reference
     tests/sessions.py --check       whether the stored files are those that --write makes, and the reference answers the
-                                    games of crates/watch/specs/Texts.antt as they are proved
+                                    games of crates/*/specs/Texts.antt as they are proved
 
 The same seed and kind give the same bytes.
 """
 
 import ast
+import functools
+import operator
 import random
 import re
 import sys
@@ -18,9 +20,10 @@ import common
 from common import ROOT, STORED, as_lines, difference, fail, game_a
 from batches import KIND_NUMBERS, LENGTHS, NUMBERS, some_lines
 from reference import (BATCH_GAMES, CHANGES, FIELDS, GAMES, INSIDE, KIND_GAMES, MARK_GAMES, MOST_KINDS, MOST_MOVES, MOST_STATES,
-                       MOVE_WORDS, OUTSIDE, SELF_GAMES, UNREACHED_GAMES, WAYS_GAMES, WITH_KIND, Table, answer_text, bench_answer,
-                       carried, game_rows, in_full, load_args, made, of_kinds, plain_search, random_kind, read_line, records,
-                       rows_of, states_of, up_to_go)
+                       MOVE_WORDS, OUTSIDE, OVER_GAMES, SELF_GAMES, UNREACHED_GAMES, WAYS_GAMES, WITH_KIND, Table, answer_text,
+                       bench_answer, called, carried, carried_by, change_lines, game_rows, given_marks, in_full, load_args,
+                       load_lines, made, of_kinds, plain_search, random_kind, read_line, records, rows_of, states_of, too_many,
+                       up_to_go)
 
 
 # ------------------------------------------------------------ one text
@@ -76,6 +79,13 @@ class Text:
     def turn(self, state):
         """The state's pay comes or goes."""
         (self.unmark if state in self.pays else self.mark)(state)
+
+    def set_kinds(self, kinds):
+        """Another K, or the same again. Where it is taken, the marks of kinds above it are gone."""
+        self.rows += rows_of(("kinds", kinds))
+        if not too_many(self.size, kinds, self.moves):
+            self.written = self.kinds = kinds
+            self.marks = {(s, kind): None for s, kind in self.marks if kind <= kinds}
 
     def ways(self, state):
         """A question; it changes nothing."""
@@ -186,7 +196,7 @@ def distorted(line):
 def hostile_lines():
     right = [b"game\t2\t0", b"pay\t1", b"move\t0\t1", b"go", b"add\t0\t1", b"cut\t0\t1", b"mark\t0", b"unmark\t1",
              b"end", b"begin"]
-    lines = [b"", b" ", b"\t", b"\t\t", b"\t\t\t", b"\r", b"\0", b"\xff\xfe", b"x", b"game", b"kinds\t1",
+    lines = [b"", b" ", b"\t", b"\t\t", b"\t\t\t", b"\r", b"\0", b"\xff\xfe", b"x", b"game", b"kinds",
              b"why", b"g", b"ad", b"begi", b"beginn", b"en", b"ends", b"endbegin", b"begin\tend", b"addd\t0\t1",
              b"add\t0\t1add\t0\t1", b"-", b"#", b"\xef\xbb\xbfgo"]
     lines += [one for line in right for one in distorted(line)]
@@ -217,8 +227,7 @@ BEHIND = [b"go\n"] * 4 + [b"", b"cut\t0\t0\nend\n"]
 BEFORE_GO = 4                                  # how many of these are places before `go`
 ENDING = b"ways\t0\nadd\t0\t1\nunmark\t1\nways\t1\ncut\t0\t1"
 KIND_HOSTILE = kind_lines()
-KIND_NO_CHANGE = [line for line in KIND_HOSTILE if read_line(line, INSIDE) is None]
-KIND_NO_CALL = [line for line in KIND_HOSTILE if read_line(line, OUTSIDE) is None]
+KIND_NO_CHANGE = [line for line in KIND_HOSTILE if read_line(line, INSIDE) is None]      # outside a batch some are another K
 TWO_KINDS = b"game\t2\t0\nkinds\t2\n"
 KIND_STAGES = [b"game\t2\t0\n", TWO_KINDS, TWO_KINDS + b"pay\t1\t2\n", TWO_KINDS + b"pay\t1\t2\nmove\t1\t0\n",
                TWO_KINDS + b"pay\t1\t2\nmove\t1\t0\ngo\n", TWO_KINDS + b"pay\t1\t2\nmove\t1\t0\ngo\nbegin\nadd\t0\t0\n"]
@@ -403,6 +412,11 @@ class Beside:
             lines = call[1] if call[0] == "batch" else [call]
             self.named = [state for line in lines if isinstance(line, tuple) for state in states_of(*line)]
 
+    def write(self, line):
+        """A line that is no change: another K, or else it gets 1."""
+        read = read_line(line, {b"kinds"})
+        self.send(*("kinds", *read[1]) if read else ("line", line))
+
     def ask(self, rng, hub):
         """A question: about a state that the last change or batch names, about the hub or any, or about one outside."""
         dice, size = rng.random(), self.table.size
@@ -415,6 +429,11 @@ class Beside:
         self.send("ways", state)
 
 
+def with_moves(text, more, count):
+    """The game with these moves too, and so many in all."""
+    return Text(text.size, text.start, text.carried(), list(dict.fromkeys([*text.moves, *more]))[:count])
+
+
 def batch_game(rng, size):
     """A game for batches: with a line of states to one that pays, or any. Of the largest some are full, or nearly."""
     if size < 4 or rng.random() < 0.25:
@@ -422,8 +441,7 @@ def batch_game(rng, size):
         return Text(size, rng.randrange(size), [rng.randrange(size)], some_moves(rng, size, wanted))
     text, _ = stem_game(rng, size)
     if size == MOST_STATES and rng.random() < 0.6:
-        moves = dict.fromkeys([*text.moves, *some_moves(rng, size, MOST_MOVES)])
-        text = Text(size, text.start, list(text.pays), list(moves)[:MOST_MOVES - rng.choice((0, 0, 1, 5))])
+        text = with_moves(text, some_moves(rng, size, MOST_MOVES), MOST_MOVES - rng.choice((0, 0, 1, 5)))
     return text
 
 
@@ -623,9 +641,32 @@ def refused_kinds(rng):
     return as_bytes(rows)
 
 
+def kind_question(rng, session):
+    session.ask(rng, session.table.start)
+
+
+def kind_line(rng, session):
+    """A line or a batch of a session with kinds; seldom another K."""
+    dice = rng.random()
+    if dice < 0.1:
+        kind_batch(rng, session)
+    elif dice < 0.16:
+        kind_question(rng, session)
+    elif dice < 0.19:
+        session.write(rng.choice(KIND_NO_CHANGE))
+    elif dice < 0.25:
+        any_kind(rng, session)
+    elif dice < 0.5:
+        kind_turned(rng, session)
+    elif dice < 0.75:
+        on_walk(rng, session)
+    else:
+        line_alone(rng, session)
+
+
 def kinds(rng, size=None, count=None, most=None):
-    """1 to 4 kinds, K written, and changes of all sorts with batches, questions, refused and unreadable lines between them; or a
-    load that is mostly refused. size, most: that of the game and K, or drawn."""
+    """1 to 4 kinds, K written, and changes of all sorts with batches, questions, refused and unreadable lines between them, seldom
+    another K; or a load that is mostly refused. size, most: that of the game and K, or drawn."""
     if not size and rng.random() < 0.12:
         return refused_kinds(rng)
     most = most or rng.randint(1, MOST_KINDS)
@@ -634,28 +675,54 @@ def kinds(rng, size=None, count=None, most=None):
     sizes = [rng.randint(*one) for one in ranges]
     session = Beside(kind_game(rng, size or rng.choice(sizes), most))
     for _ in range(count or rng.randint(8, 28)):
-        dice = rng.random()
-        if dice < 0.1:
-            kind_batch(rng, session)
-        elif dice < 0.16:
-            session.ask(rng, session.table.start)
-        elif dice < 0.19:
-            session.send("line", rng.choice(KIND_NO_CALL))
-        elif dice < 0.25:
-            any_kind(rng, session)
-        elif dice < 0.5:
-            kind_turned(rng, session)
-        elif dice < 0.75:
-            on_walk(rng, session)
-        else:
-            line_alone(rng, session)
+        kind_line(rng, session)
     return session.text.data() + (unended(rng, session.table) if rng.random() < 0.1 else b"")
 
 
+def over_game(rng, size, left_out):
+    """A game with 1 to 4 kinds; of those with one, half leave the line out, or all do. The larger ones have as many states as there
+    may be with this K or one above it, or one more, and most of them as many moves, or one more."""
+    first = 1 if left_out else rng.randint(1, min(MOST_KINDS, MOST_STATES // (size or 1)))
+    limit = rng.randint(first, MOST_KINDS)
+    largest = min(MOST_STATES // limit + rng.choice((0, 1)), MOST_STATES // first)
+    ranges = (1, 1), (2, 4), (3, 8), (3, 8), (6, 12), (13, 64), (46, 64), (largest, largest), (largest, largest)
+    size = size or rng.choice([rng.randint(*one) for one in ranges])
+    text = kind_game(rng, size, first)
+    if size >= 46 and rng.random() < 0.6:
+        most = min(MOST_MOVES // limit + rng.choice((0, 0, 1)), MOST_MOVES // first)
+        text = with_moves(text, some_moves(rng, size, most), most)
+    left_out = left_out or first == 1 and rng.random() < 0.5
+    return Text(size, text.start, text.pays, list(text.moves)) if left_out else text
+
+
+def other_kinds(rng, session, among=(1, 2, 3, 4) * 4 + (0, 5, 65535)):
+    """Another K or the same again, one of these; such as there never are among them. Behind it lines that show what became of the
+    session: marks of the kinds that none carries, alone or as a batch, so that there are rounds again; or a move of the walk, a
+    mark of any kind, a batch, a question."""
+    session.send("kinds", rng.choice(among))
+    given = given_marks(rng, session.table)
+    if given and rng.random() < 0.5:
+        for call in given if rng.random() < 0.4 else [("batch", given)]:
+            session.send(*call)
+    else:
+        rng.choice((on_walk, on_walk, any_kind, kind_batch, kind_question, kind_line))(rng, session)
+
+
+def over(rng, size=None, count=None, left_out=False):
+    """A session that goes over to another K now and then, at any place among lines and batches as those with kinds have them. Some
+    end without their last newline, or inside a batch. left_out: it has one kind at first, and no line for it."""
+    session = Beside(over_game(rng, size, left_out))
+    for _ in range(count or rng.randint(8, 24)):
+        (other_kinds if rng.random() < 0.3 else kind_line)(rng, session)
+    text = session.text.data()
+    return text[:-1] if rng.random() < 0.2 else text + (unended(rng, session.table) if rng.random() < 0.1 else b"")
+
+
 def twins(rng):
-    """A random text with one kind and no line for it; the same with `kinds 1` behind `game`; and this with the kind written in
-    each line that may have one. All three are answered alike."""
-    first, *rest = lines = common.lines_of(rng.choice((small, small, mid, stems, batches, questions, refused, many))(rng))
+    """A random text with one kind at first and no line for it; the same with `kinds 1` behind `game`; and this with kind 1 written
+    where it is left out. All three are answered alike."""
+    makers = small, small, mid, stems, batches, questions, refused, many, functools.partial(over, left_out=True)
+    first, *rest = lines = common.lines_of(rng.choice(makers)(rng))
     written = [first, b"kinds\t1\n"]
     return [b"".join(rows) for rows in (lines, written + rest, written + [with_kind(line) for line in rest])]
 
@@ -711,7 +778,7 @@ def refused(rng):
 
 def ended(rng):
     """A session that ends anywhere: before `go`, within a line, without the last newline."""
-    text = rng.choice((small, hostile, refused, batches, questions, kinds))(rng)
+    text = rng.choice((small, hostile, refused, batches, questions, kinds, over))(rng)
     return text[:rng.randrange(len(text))]
 
 
@@ -736,7 +803,7 @@ def many(rng):
 
 
 KINDS = {make.__name__: make for make in (small, mid, full, chain, stems, batches, questions, hostile, refused, ended, many,
-                                          kinds)}
+                                          kinds, over)}
 
 
 def session(seed, kind):
@@ -757,16 +824,33 @@ def accepted(seed, counts):
 
 
 def as_left(data):
-    """The game that the changes of a session lead to, those of a batch taken one by one, as a text that loads it."""
+    """The game that a session's changes and other K's lead to, those of a batch taken one by one, as a text that loads it."""
     lines = [line for line in (read_line(line, FIELDS) for line in records(data)) if line]
     (_, (size, start)), go = lines[0], lines.index((b"go", []))
     text = Text(size, start, of_kinds(next((args[0] for word, args in lines[:go] if word == b"kinds"), None)),
                 [tuple(args) for word, args in lines[:go] if word == b"move"])
     for _, args in (line for line in lines[:go] if line[0] == b"pay"):
         text.mark(*args)
-    for word, args in ((word.decode(), args) for word, args in lines[go + 1:] if word in CHANGES):
-        getattr(text, word)(*[tuple(args)] if word in MOVE_WORDS else args)
+    inside = False
+    for word, args in lines[go + 1:]:
+        inside = word != b"end" if inside else word == b"begin"
+        if word in (CHANGES if inside else CHANGES | {b"kinds"}):
+            word = word.decode()
+            called(text, word, *[tuple(args)] if word in MOVE_WORDS else args)
     return Text(size, start, text.carried(), list(text.moves)).data()
+
+
+def reloaded(data):
+    """Of each `kinds` line that a session takes: K before and behind it, how many lines have been answered by then, and a text that
+    loads the table as it stands and goes on as the session does."""
+    lines, rest, table = common.lines_of(data), iter(records(data)), Table()
+    said = len(list(load_lines(rest, table)))
+    for line in rest if table.loaded else ():
+        before, answers = table.kinds, list(change_lines(line, rest, table))
+        if read_line(line, {b"kinds"}) and not answers[0].startswith(b"no\t"):
+            load = as_bytes(game_rows(table.size, table.start, carried_by(table), table.moves))
+            yield (before, table.kinds), said, load + b"".join(lines[len(lines) - operator.length_hint(rest):])
+        said += len(answers)
 
 
 # ------------------------------------------------------- stored sessions
@@ -837,18 +921,29 @@ def stored_questions():
     yield "random-questions", session(733, "questions")
 
 
-def at_limit(kinds, states=0, moves=0):
-    """As many states and moves as there may be with so many kinds, or so many more: a ring through all states, and moves that
-    lead on from each to the next but one, and so on. Then changes where there is room for one move and for none."""
+def limit_moves(kinds, more=0):
+    """As many moves as there may be with so many kinds, or so many more: a ring through as many states as there may be, and moves
+    that lead on from each to the next but one, and so on."""
+    size = MOST_STATES // kinds
+    return [(s, (s + far) % size) for far in range(1, 6) for s in range(size)][:MOST_MOVES // kinds + more]
+
+
+def limit_rows(kinds):
+    """Changes of such a table, where there is room for one move and for none."""
     size = MOST_STATES // kinds
     last = size - 1
-    every = [(s, (s + far) % size) for far in range(1, 6) for s in range(size)][:MOST_MOVES // kinds + moves]
-    text = Text(size + states, 0, of_kinds(kinds, *[[0, last]] * kinds), every)
-    away, back = ("%s %d %d" % (word, *every[-1]) for word in ("cut", "add"))
-    text.rows += ["add 0 0", "add 0 1", "cut 0 0", away, "add 0 0", back, "cut 0 1", "add 0 1", back,
-                  "begin", "cut 0 0", back, "add 0 0", "end", "begin", "cut 0 0", back, "end", "add 0 0",
-                  "unmark 0 %d" % kinds, "mark 0 %d" % kinds, "unmark 0", "mark %d %d" % (size, kinds), "ways 0",
-                  "ways %d" % size, "cut %d 0" % last, "mark 0", "unmark %d %d" % (last, kinds)]
+    away, back = ("%s %d %d" % (word, *limit_moves(kinds)[-1]) for word in ("cut", "add"))
+    return ["add 0 0", "add 0 1", "cut 0 0", away, "add 0 0", back, "cut 0 1", "add 0 1", back,
+            "begin", "cut 0 0", back, "add 0 0", "end", "begin", "cut 0 0", back, "end", "add 0 0",
+            "unmark 0 %d" % kinds, "mark 0 %d" % kinds, "unmark 0", "mark %d %d" % (size, kinds), "ways 0",
+            "ways %d" % size, "cut %d 0" % last, "mark 0", "unmark %d %d" % (last, kinds)]
+
+
+def at_limit(kinds, states=0, moves=0):
+    """As many states and moves as there may be with so many kinds, or so many more; and changes."""
+    size = MOST_STATES // kinds
+    text = Text(size + states, 0, of_kinds(kinds, *[[0, size - 1]] * kinds), limit_moves(kinds, moves))
+    text.rows += limit_rows(kinds)
     return text.data()
 
 
@@ -869,7 +964,7 @@ def deep_layers(kinds, turned=False):
     return Text(size, 0, of_kinds(kinds, *[[0]] * kinds), moves[::-1] if turned else moves)
 
 
-# Texts in which `kinds` stands out of place, or is refused for what stands before or behind it.
+# Texts in which `kinds` stands out of place or behind `go`, or is refused for what stands before or behind it.
 KIND_TEXTS = {
     "before-game": ["kinds 2", "game 2 0", "go"],
     "behind-pay": ["game 2 0", "pay 0", "kinds 2", "go"],
@@ -901,15 +996,37 @@ def stored_kinds():
         yield "kinds-random-%d-%d" % (most, size), kinds(random.Random(seed), size, count, most)
 
 
-def stored():
-    """Name and text of each stored session."""
-    for game in GAMES:
-        yield "game-" + game[0].lower(), known(game)
-    for game in SELF_GAMES + MARK_GAMES + UNREACHED_GAMES:
+def over_limit(kinds):
+    """As many states as there may be with this K, but one kind, and one move too many if there can be: this K is taken when that is
+    cut, and none above it. Then changes there, and each K below, from which this one is taken again."""
+    size, newest = MOST_STATES // kinds, limit_moves(kinds, 1)[-1]
+    text = Text(size, 0, [0, size - 1], limit_moves(kinds, kinds > 1))
+    this, above, mark = "kinds %d" % kinds, "kinds %d" % (kinds + 1), "mark 0 %d" % kinds
+    text.rows += [this, mark, "cut %d %d" % newest, above, this, "begin"]
+    text.rows += ["mark %d %d" % (s, kind) for kind in range(2, kinds + 1) for s in (0, size - 1)]
+    text.rows += ["end", above, *limit_rows(kinds)]
+    for below in range(kinds - 1, 0, -1):
+        text.rows += ["kinds %d" % below, this, mark, "ways 0"]
+    return text.data()
+
+
+def over_limits():
+    """Name and text of sessions that go over to each K at its limits."""
+    for most in range(1, MOST_KINDS + 1):
+        yield "over-limit-%d" % most, over_limit(most)
+
+
+def stored_over():
+    """The same of those that go over to another K."""
+    for game in OVER_GAMES:
         yield game[0], known(game)
-    yield from stored_batches()
-    yield from stored_questions()
-    yield from stored_kinds()
+    yield from over_limits()
+    for size, count, seed in ((3, 48, 212), (5, 48, 176), (8, 48, 17), (64, 16, 101), (128, 16, 7), (171, 16, 79)):
+        yield "over-random-%d" % size, over(random.Random(seed), size, count)
+
+
+def stored_edges():
+    """The same at the limits of states, moves and marks, and with loads that are refused."""
     yield "states-512", as_lines(["game 512 0", "pay 511", "move 0 511", "go", "add 511 0", "add 512 0", "cut 511 0"])
     yield "states-513", as_lines(["game 513 0", "pay 511", "move 0 511", "go", "add 511 0"])
     yield "start-511", as_lines(["game 512 511", "pay 511", "move 511 0", "move 0 511", "go", "cut 0 511", "add 0 511",
@@ -943,6 +1060,19 @@ def stored():
     yield "refused-8", as_lines(["game 2 1", "move 0 1", "move 1 0", "move 0 1", "go", "add 0 1"])
     yield "self-move-twice", as_lines(["game 2 1", "move 0 0", "move 1 0", "move 0 0", "go", "add 0 1"])
     yield "ends-before-go", as_lines(["game 513 600", "pay 511", "move 0 0", "move 0 0"])
+
+
+def stored():
+    """Name and text of each stored session."""
+    for game in GAMES:
+        yield "game-" + game[0].lower(), known(game)
+    for game in SELF_GAMES + MARK_GAMES + UNREACHED_GAMES:
+        yield game[0], known(game)
+    yield from stored_batches()
+    yield from stored_questions()
+    yield from stored_kinds()
+    yield from stored_over()
+    yield from stored_edges()
     yield "random-small", session(752, "small")
     yield "random-mid", session(668, "mid")
     yield "random-mid-changes", session(247, "mid")
@@ -954,19 +1084,23 @@ def stored():
 
 SEPARATOR = b"\x1e"                            # parts the texts that crates/texts is run on
 BLOCK = 65536                                  # bytes that it reads at a time, and answers before the next
-# Four blocks are enough. What moves-2048 asks is asked in self-move-2048 and in batch-full too. same-move-2049 is a shorter text
+# Five blocks are enough. What moves-2048 asks is asked in self-move-2048 and in batch-full too. same-move-2049 is a shorter text
 # for what moves-2049, self-move-2049 and kinds-line-2049 ask. random-stems asks on a walk of 6 states what random-stems-512 asks
 # on one of 487, and random-batches on 8 states what random-batches-512 asks. kinds-moves-513 is a shorter text for what
-# kinds-moves-683 and kinds-moves-1025 ask, kinds-full-4 for what kinds-full-2 asks; and the games kinds-full and kinds-walk
-# stand for the texts at the limits of each K.
+# kinds-moves-683 and kinds-moves-1025 ask, kinds-full-4 for what kinds-full-2 asks, over-moves-4 for what over-moves-2 and
+# over-moves-3 ask; and the games kinds-full and kinds-walk stand for the texts at the limits of each K, over-moves and over-walk
+# for those that go over to it there.
 TOO_LONG = {"random-full", "random-chain", "moves-2048", "moves-2049", "self-move-2049", "random-stems-512", "random-batches-512",
-            "kinds-line-2049", "kinds-moves-683", "kinds-moves-1025", "kinds-full-2", *(name for name, _ in kind_limits())}
+            "kinds-line-2049", "kinds-moves-683", "kinds-moves-1025", "kinds-full-2", *(name for name, _ in kind_limits()),
+            "over-moves-2", "over-moves-3", *(name for name, _ in over_limits())}
 SECOND = {"random-mid-changes", "self-moves-512", "marks-all-of-512", "random-batches"}
 THIRD = {"batch-hostile-lines", "random-questions"}
 
 
 def block_of(name):
     """The place of the block that a text stands in."""
+    if name.startswith("over-"):
+        return 4
     if name.startswith("kinds-"):
         return 3
     if name in THIRD or name.startswith("ways-"):
@@ -976,7 +1110,7 @@ def block_of(name):
 
 def blocks():
     """The texts of each block. One that is no line to read fills up each but the last."""
-    parted = [[text for name, text in stored() if name not in TOO_LONG and block_of(name) == at] for at in range(4)]
+    parted = [[text for name, text in stored() if name not in TOO_LONG and block_of(name) == at] for at in range(5)]
     left = [BLOCK - len(SEPARATOR.join(texts + [b""])) for texts in parted]
     if min(left) <= 32:
         fail("the texts do not fit into their blocks")
@@ -1012,10 +1146,10 @@ def stored_files():
 
 
 def proved_games():
-    """Text and answers of each game whose answers crates/watch proves, as its table has them."""
-    table = (ROOT / "crates/watch/specs/Texts.antt").read_text()
-    rows = re.findall(r'dialogue ("[^"]*")\s*\(((?:[^"()]|"[^"]*")*)\)', table)
-    if len(rows) != table.count('dialogue "'):
+    """Text and answers of each game whose answers are proved, as the table of that crate has them."""
+    tables = "".join(path.read_text() for path in ROOT.glob("crates/*/specs/Texts.antt"))
+    rows = re.findall(r'dialogue ("[^"]*")\s*\(((?:[^"()]|"[^"]*")*)\)', tables)
+    if not rows or len(rows) != tables.count('dialogue "'):
         fail("a row of the proved games cannot be read")
     for sent, written in rows:
         yield [b"".join(ast.literal_eval(s).encode() for s in re.findall(r'"[^"]*"', part)) for part in (sent, written)]
@@ -1032,7 +1166,7 @@ def check():
         fail("the reference does not answer Game A as document 01 does")
     for sent, written in proved_games():
         if answer_text(sent) != written:
-            fail("the reference does not answer a game as crates/watch proves it", *difference(written, answer_text(sent)))
+            fail("the reference does not answer a game as it is proved", *difference(written, answer_text(sent)))
     wrong = [p for p, content in files.items() if not p.exists() or p.read_bytes() != content]
     wrong += [p for p in STORED.iterdir() if p not in files]
     if wrong:
