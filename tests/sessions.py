@@ -695,6 +695,13 @@ def over_game(rng, size, left_out):
     return Text(size, text.start, text.pays, list(text.moves)) if left_out else text
 
 
+def over_batch(rng, session):
+    """A batch with the line for another K somewhere in it, where it is no change."""
+    lines = batch_of(rng, session.table)
+    lines.insert(rng.randint(0, len(lines)), "kinds %d" % rng.randint(0, MOST_KINDS + 1))
+    session.send("batch", lines)
+
+
 def other_kinds(rng, session, among=(1, 2, 3, 4) * 4 + (0, 5, 65535)):
     """Another K or the same again, one of these; such as there never are among them. Behind it lines that show what became of the
     session: marks of the kinds that none carries, alone or as a batch, so that there are rounds again; or a move of the walk, a
@@ -705,7 +712,7 @@ def other_kinds(rng, session, among=(1, 2, 3, 4) * 4 + (0, 5, 65535)):
         for call in given if rng.random() < 0.4 else [("batch", given)]:
             session.send(*call)
     else:
-        rng.choice((on_walk, on_walk, any_kind, kind_batch, kind_question, kind_line))(rng, session)
+        rng.choice((on_walk, on_walk, on_walk, any_kind, kind_batch, over_batch, kind_question, kind_line))(rng, session)
 
 
 def over(rng, size=None, count=None, left_out=False):
@@ -1021,7 +1028,7 @@ def stored_over():
     for game in OVER_GAMES:
         yield game[0], known(game)
     yield from over_limits()
-    for size, count, seed in ((3, 48, 212), (5, 48, 176), (8, 48, 17), (64, 16, 101), (128, 16, 7), (171, 16, 79)):
+    for size, count, seed in ((3, 48, 98), (5, 48, 156), (8, 48, 149), (64, 16, 39), (128, 16, 89), (171, 16, 55)):
         yield "over-random-%d" % size, over(random.Random(seed), size, count)
 
 
