@@ -9,7 +9,7 @@ use Rattle.plain.specs.Search.{Verdict, none, lasso, unfinished, verdict
 use Rattle.plain.specs.Table.{Table, printedVerdict, final}
 use Rattle.plain.specs.Refusals.{Trial, accepted, refused, firstHeld, beyond, Load, loadTrial}
 use Rattle.plain.specs.Machine.{answer, Command, commanded, tableOf, loadAnswer, callAnswer, Call, trialOf, answerTo, tableAfter, Line, gameLine, answerLine}
-use Rattle.plain.specs.Questions.{Question, ways, questionTrial, questionReply, replyTo, replyLine}
+use Rattle.plain.specs.Questions.{Question, ways, short, questionTrial, questionReply, replyTo, replyLine}
 use Rattle.plain.specs.Claims.{Arises, loaded, reportOf, ReportRight, CountsRight, LineTrue, LineCounted}
 use Rattle.plain.proofs.Trials.{never-handed}
 use Rattle.plain.proofs.Demands.{report-right}
@@ -70,9 +70,10 @@ call-told c t l a e = by-trial (trialOf c t) refl e
     }
 
 -- of every question
-pub reply-told : (q : Question) (t : Table) → LineTrue (replyLine (replyTo q t)) t
+pub reply-told : (q : Question) (t : Table) → ((b : ℕ) → LineTrue (replyLine (replyTo (short b) t)) t) → LineTrue (replyLine (replyTo q t)) t
 unfolding elem replyTo questionTrial questionReply replyLine
-reply-told (ways s) t = by-trial (firstHeld ((6, beyond (t .size) s) ∷ [])) refl
+reply-told (short b) t h = h b
+reply-told (ways s) t h = by-trial (firstHeld ((6, beyond (t .size) s) ∷ [])) refl
   where
     by-trial : (x : Trial) → firstHeld ((6, beyond (t .size) s) ∷ []) ≡ x → LineTrue (replyLine (questionReply x (ways s) t)) t
     by-trial accepted k = (refl, refl)

@@ -11,13 +11,15 @@ use lib.ListN.{length, getD, set, length-append, length-set, List·getD-eq-defau
 use lib.Seq.{set-out, getD-set-same, getD-set-other}
 use borrow.Author.Tests.{eqb-false}
 use Rattle.plain.specs.Lists.{any, all}
-use Rattle.plain.specs.Search.{Edge, Config, begin, probesOf, meets, finished, run, until, verdict, count}
+use Rattle.plain.specs.Search.{Edge, Config, begin, probesOf, meets, finished, run, until, Verdict, none, lasso, unfinished, verdict, count}
+use Rattle.plain.specs.Cycles.{Kinded}
 use Rattle.plain.specs.Table.{Table, accepts, withMark, withoutMark, carriedBy, row, gameOf, searched, copiesIn, printedVerdict, budget, final, firstMeeting}
 use Rattle.plain.specs.Layers.{copiesOf, stateAt, layers}
 use Rattle.plain.specs.Refusals.{Trial, accepted, refused, firstHeld, present, outside, beyond, badKinds, full, roomCondition}
 use Rattle.plain.specs.Machine.{Change, add, cut, mark, unmark, named, inKind, apply, conditions, misnamed, changeTrial, BatchLine, makes, other, lineConditions, BatchTrial, changesIn, applyAll, linesTrial, batchTrial, Update, single, batch, applied, namedBy, updateTrial, atLine, positionIn, unexplored, passedOver, keepsAll, kept, upToKind, toKinds, kindsTrial, Command, update, setKinds, commandTrial, positionFor, commanded, keptBy, refusal, answer, Call, trialOf, answerTo, tableAfter, answers}
 use Rattle.plain.specs.Claims.{tableBehind}
-use Rattle.plain.specs.Questions.{Question, ways, degrees, questionTrial, questionReply, replyTo}
+use Rattle.plain.specs.Shortest.{roots, hunt}
+use Rattle.plain.specs.Questions.{Question, ways, short, degrees, questionTrial, huntIn, lengthsFor, shortReply, questionReply, replyTo}
 use Rattle.plain.specs.Orders.{SameView, OnlyRows}
 use Rattle.plain.proofs.Tests.{contra, either, not-true, same, self, filter-short}
 use Rattle.plain.proofs.Words.{accepts-marked, accepts-marked-other, accepts-unmarked, accepts-unmarked-other}
@@ -471,14 +473,24 @@ same-behind (c ∷ cs) w = same-behind cs (same-call c w .same-view)
 
 -- a question
 pub same-reply : (q : Question) {t u : Table} → SameView t u → replyTo q t ≡ replyTo q u
-unfolding replyTo questionTrial questionReply
+unfolding replyTo questionTrial questionReply huntIn shortReply
 same-reply q {t} {u} w = ap (λ (x : Trial). questionReply x q t) (trials q) ∙ replies (questionTrial q u) q
   where
     trials : (q : Question) → questionTrial q t ≡ questionTrial q u
     trials (ways s) = ap (λ (n : ℕ). firstHeld ((6, beyond n s) ∷ [])) (w .same-size)
+    trials (short b) = ap (λ (k : ℕ). firstHeld ((17, ltb 1 k) ∷ [])) (w .same-kinds)
+
+    hunts : (b present : ℕ) → huntIn t b present ≡ huntIn u b present
+    hunts b present = ap (λ (a : Kinded). hunt (a .graph) b (roots (a .graph) (a .size)) present 1 0) (same-game t u w)
+
+    shorts : (v : Verdict) (b : ℕ) → shortReply v b t ≡ shortReply v b u
+    shorts none b = refl
+    shorts (lasso stem cycle) b = ap (lengthsFor (length cycle)) (hunts b (length cycle))
+    shorts unfinished b = refl
 
     replies : (x : Trial) (q : Question) → questionReply x q t ≡ questionReply x q u
     replies accepted (ways s) = λ i. degrees s (same-out (t .edges) (u .edges) s (w .same-row s) i) (same-in (t .edges) (u .edges) s (w .same-row) i)
+    replies accepted (short b) = shorts (verdict (final t)) b ∙ ap (λ (c : Config). shortReply (verdict c) b u) (same-final t u w)
     replies (refused n) q = refl
 
 -- THE LEMMA

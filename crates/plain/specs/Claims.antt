@@ -1,5 +1,5 @@
 -- What is promised of the plain answers: demand 2, and what "kept" means (demand 3). proofs/Demands.antt proves it. Assumes nothing.
-use Prim.Native.Nat.{ℕ, _+_, _*_, _≤_}
+use Prim.Native.Nat.{ℕ, _+_, _*_, _≤_, _<_}
 use mathlib.Core.Path.{_≡_}
 use mathlib.Core.Logic.{_≢_}
 use mathlib.Core.Bool.{Bool, true, false}
@@ -8,11 +8,12 @@ use lib.Dec.{leb}
 use lib.ListN.{length, take, drop}
 use Rattle.plain.specs.Lists.{any, filter, Once}
 use Rattle.plain.specs.Search.{Edge, Verdict, none, lasso, unfinished, verdict, count, taken}
-use Rattle.plain.specs.Cycles.{FreeRound, FullRound, FullLoop, FullLasso}
+use Rattle.plain.specs.Cycles.{FreeRound, FullRound, roundLength, FullLoop, FullLasso}
 use Rattle.plain.specs.Table.{Table, graphOf, gameOf, searched, copiesIn, printed, printedVerdict, plainEdge, final, firstMeeting}
 use Rattle.plain.specs.Refusals.{accepted, refused, flat, full, Load, loadTrial, sameEdge}
-use Rattle.plain.specs.Machine.{Change, apply, changeTrial, BatchLine, makes, changesIn, Update, applied, namedBy, atLine, keepsAll, keptPart, toKinds, Command, update, setKinds, Answer, refusal, answer, tableOf, loadAnswer, Call, callFor, batchCall, kindsCall, trialOf, answerTo, tableAfter, answers, Line, gameLine, roundLine, noneLine, noLine, waysLine}
-use Rattle.plain.specs.Questions.{outDegree, inDegree}
+use Rattle.plain.specs.Machine.{Change, apply, changeTrial, BatchLine, makes, changesIn, Update, applied, namedBy, atLine, keepsAll, keptPart, toKinds, Command, update, setKinds, Answer, refusal, answer, tableOf, loadAnswer, Call, callFor, batchCall, kindsCall, trialOf, answerTo, tableAfter, answers, Line, gameLine, roundLine, noneLine, noLine, waysLine, shortLine, noRoundLine}
+use Rattle.plain.specs.Shortest.{roots, foundAt, leftAt}
+use Rattle.plain.specs.Questions.{outDegree, inDegree, short, noReply, shortest, noRound, huntIn, replyTo}
 
 -- the tables that a session can hold: those that a load accepts, and those to which accepted changes lead. A load accepts those of another count of kinds too (proofs/NewKinds.antt).
 pub data Arises : Table → Type 0 where
@@ -132,14 +133,24 @@ pub record AsOne (c : Change) (t : Table) (room : ℕ) : Type 0 where
   pub same-answer : trialOf (callFor room c) t ≡ accepted → answerTo (batchCall room (makes c ∷ [])) t ≡ answerTo (callFor room c) t
   pub same-table : tableAfter (batchCall room (makes c ∷ [])) t ≡ tableAfter (callFor room c) t
 
+-- Document 02, ticket 11, of the two lengths of a line `short`: the first is that of a free round of the table; no free round of the table is shorter than the second, whatever was
+-- searched; so the first is never below the second.
+pub record LengthsTrue (t : Table) (best least : ℕ) : Type 0 where
+  pub round : FullRound (gameOf t)
+  pub best-is : roundLength (gameOf t) round ≡ best
+  pub none-shorter : (f : FullRound (gameOf t)) → least ≤ roundLength (gameOf t) f
+  pub ordered : least ≤ best
+
 -- What a line says of the table that is then present is true. Of a `no` line: "refusal 7 no longer occurs" (document 02, ticket 1). Of a `ways` line: the counts "equal a count over
--- the present moves" (ticket 8).
+-- the present moves" (ticket 8). Of a `none` that stands alone: no free round can be reached (ticket 11).
 abbrev pub LineTrue : Line → Table → Type 0
 LineTrue (gameLine size moves paying) t = Unit {0}
 LineTrue (roundLine spent kept stem cycle walk) t = ReportRight (round stem cycle walk) t
 LineTrue (noneLine spent kept) t = ReportRight clear t
 LineTrue (noLine r) t = r .number ≢ 7
 LineTrue (waysLine s leaving entering) t = (leaving ≡ outDegree (t .edges) s) × (entering ≡ inDegree (t .edges) s)
+LineTrue (shortLine best least) t = LengthsTrue t best least
+LineTrue noRoundLine t = FullRound (gameOf t) → ⊥
 
 -- a line that does not say "none"
 abbrev pub NotNone : Line → Type 0
@@ -148,6 +159,8 @@ NotNone (roundLine spent kept stem cycle walk) = Unit {0}
 NotNone (noneLine spent kept) = ⊥
 NotNone (noLine r) = Unit {0}
 NotNone (waysLine s leaving entering) = Unit {0}
+NotNone (shortLine best least) = Unit {0}
+NotNone noRoundLine = ⊥
 
 -- Document 02, ticket 1, "The trade counts such a repeat as a round": where a paying state with a move to itself can be reached, which carries every kind in use, the line does not say "none".
 abbrev pub LoopTold : Line → Table → Type 0
@@ -160,6 +173,8 @@ LineCounted (roundLine spent kept stem cycle walk) c t = CountsRight c t spent k
 LineCounted (noneLine spent kept) c t = CountsRight c t spent kept
 LineCounted (noLine r) c t = Unit {0}
 LineCounted (waysLine s leaving entering) c t = Unit {0}
+LineCounted (shortLine best least) c t = Unit {0}
+LineCounted noRoundLine c t = Unit {0}
 
 -- "a number is handed back when its condition holds and no earlier one that is tried there does, and only then": cs are the conditions, in the
 -- order tried, each with its number
@@ -186,3 +201,24 @@ pub record OldResults (t : Table) : Type 0 where
 -- and no load is refused with 16
 abbrev pub Never16 : Type 0
 Never16 = (l : Load) (room : ℕ) → l .kinds ≡ 1 → loadTrial l room ≢ refused 16
+
+-- ---- ticket 11
+
+-- Document 02, ticket 11, of a table and every budget.
+pub record ShortRight (t : Table) : Type 0 where
+  -- "17, K is above 1"
+  pub several-kinds : (b : ℕ) → 1 < t .kinds → replyTo (short b) t ≡ noReply 17
+  -- "With no round the line is `none` alone, for every B.", and with a round it is not
+  pub none-if : (b : ℕ) → t .kinds ≡ 1 → (FullRound (gameOf t) → ⊥) → replyTo (short b) t ≡ noRound
+  pub none-only : (b : ℕ) → replyTo (short b) t ≡ noRound → FullRound (gameOf t) → ⊥
+  -- "Found within B, both are the shortest length.", over all free rounds of the table
+  pub found : (b l : ℕ) (stem cycle : List ℕ) → t .kinds ≡ 1 → verdict (final t) ≡ lasso stem cycle → huntIn t b (length cycle) ≡ foundAt l
+      → (replyTo (short b) t ≡ shortest l l) × LengthsTrue t l l
+  -- "Otherwise the first is the present walk's round length", and no free round is shorter than the second
+  pub otherwise : (b l : ℕ) (stem cycle : List ℕ) → t .kinds ≡ 1 → verdict (final t) ≡ lasso stem cycle → huntIn t b (length cycle) ≡ leftAt l
+      → (replyTo (short b) t ≡ shortest (length cycle) l) × LengthsTrue t (length cycle) l
+  -- "On one unchanged table a larger B never gives a longer round or a smaller second number."
+  pub more-looks : (b c best least best′ least′ : ℕ) → b ≤ c → replyTo (short b) t ≡ shortest best least → replyTo (short c) t ≡ shortest best′ least′ → (best′ ≤ best) × (least ≤ least′)
+  -- For which tables the shortest is always found: where the length of a free round, times the reachable paying states, times the moves, is within B.
+  pub enough : (b : ℕ) (f : FullRound (gameOf t)) → t .kinds ≡ 1 → roundLength (gameOf t) f * (length (roots (graphOf t) (t .size)) * length (t .edges)) ≤ b
+      → (l : ℕ) × (replyTo (short b) t ≡ shortest l l) × LengthsTrue t l l

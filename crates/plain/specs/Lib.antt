@@ -5,6 +5,7 @@ pub mod Unexplored
 pub mod Cycles
 pub mod Layers
 pub mod Table
+pub mod Shortest
 pub mod Refusals
 pub mod Machine
 pub mod Questions

@@ -306,6 +306,9 @@ pub data Line : Type 0 where
   noLine : Refusal → Line
   -- document 02, ticket 8: the state, the count of moves that leave it, the count that enter it
   waysLine : ℕ → ℕ → ℕ → Line
+  -- ticket 11: "the length of the best round known, and the smallest length not ruled out"; or, "With no round the line is `none` alone"
+  shortLine : ℕ → ℕ → Line
+  noRoundLine : Line
 
 unfoldable pub answerLine : Answer → List Line
 answerLine (refusal r) = noLine r ∷ []
