@@ -1,2 +1,3 @@
 pub mod Counting
 pub mod Scans
+pub mod Sets

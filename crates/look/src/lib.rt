@@ -1,7 +1,8 @@
-// How the search reads a row: numbers of 16 bits, arrays of them, the one function that hands out a target and counts, and the scan of a row.
+// How a search reads a row: numbers of 16 bits, arrays of them, sets of states, the one function that hands out a target and counts, and the scan of a row.
 // Every function is safe for any contents of the arrays.
 use rows::wide;
 ghost use mathlib.Core.Path.{_≡_};
+ghost use mathlib.Core.Bool.{true};
 ghost use Prim.Native.Nat.{_+_, _*_, _-_, _%_, _<_};
 ghost use lib.ListN.{length, getD, set, replicate};
 ghost use Rattle.rows.specs.Rows.{entries, placeOf};
@@ -130,6 +131,26 @@ pub fn fill(a: &mut [u16; 512], x: u16)
     while i < STATES {
         a[i] = x;
         i += 1;
+    }
+}
+
+// Is the state in the set? One of 512 or above counts as in every set.
+pub fn contains(states: &[bool; 512], v: u16) -> bool
+    requires { ⌜ length (now states) ≡ 512 ⌝ }
+    ensures { λ r. ⌜ r ≡ getD (now (states .entry)) v true ⌝ }
+{
+    let i = wide(v);
+    if i < STATES { states[i] } else { true }
+}
+
+// Puts the state into the set.
+pub fn insert(states: &mut [bool; 512], v: u16)
+    requires { ⌜ length (now states) ≡ 512 ⌝ }
+    ensures { λ r. ⌜ now (states .exit) ≡ set (now (states .entry)) v true ⌝ }
+{
+    let i = wide(v);
+    if i < STATES {
+        states[i] = true;
     }
 }
 

@@ -25,8 +25,9 @@ use Rattle.look.specs.Scan.{Layout}
 use Rattle.look.proofs.Counting.{up-more}
 use Rattle.textbook.specs.declared.Finding.{Finding}
 use Rattle.textbook.specs.declared.Finding.the-variants.{Clear, Round}
-use Rattle.textbook.specs.Search.{Board, boardOf, Reads, conf, under, Reached, Members, Shows, Going, Stopped, Ends}
-use Rattle.textbook.proofs.Sets.{members-insert}
+use Rattle.textbook.specs.Search.{Board, boardOf, Reads, conf, under, Reached, Shows, Going, Stopped, Ends}
+use Rattle.look.specs.Sets.{Members}
+use Rattle.look.proofs.Sets.{members-insert}
 
 -- the search's own set, and the states that are in it
 abbrev pub own : Bool → Board → List Bool

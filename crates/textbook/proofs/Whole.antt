@@ -30,7 +30,7 @@ use Rattle.verdict.proofs.Loads.{room-enough, load-accepted}
 use Rattle.textbook.specs.declared.Finding.{Finding}
 use Rattle.textbook.specs.declared.Finding.the-variants.{Clear, Round}
 use Rattle.textbook.specs.Search.{stemIn, lengthIn, Board, boardOf, ReadsAll, Reached, Ends, Begun}
-use Rattle.textbook.proofs.Sets.{members-none}
+use Rattle.look.proofs.Sets.{members-none}
 
 -- ---- the end of the plain search
 

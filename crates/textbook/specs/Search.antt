@@ -11,6 +11,7 @@ use Rattle.plain.specs.Search.{Graph, Edge, Frame, frame, Config, outer, nested
 use Rattle.plain.specs.Limits.{Limits}
 use Rattle.plain.specs.Table.{accepts}
 use Rattle.look.specs.Scan.{Layout, rowLaid}
+use Rattle.look.specs.Sets.{Members}
 use Rattle.textbook.specs.declared.Finding.{Finding}
 use Rattle.textbook.specs.declared.Finding.the-variants.{Clear, Round}
 
@@ -88,10 +89,6 @@ under true p = p
 -- the plain search comes to c
 abbrev pub Reached : Graph → Config → Type 0
 Reached g c = (n : ℕ) × (run g n ≡ c)
-
--- the set has the states of the list
-abbrev pub Members : List Bool → List ℕ → Type 0
-Members states xs = (x : ℕ) → x < 512 → getD states x true ≡ elem x xs
 
 -- the board shows it
 pub record Shows (nesting : Bool) (B : Board) (p q : List Frame) (d k : List ℕ) (l : List Edge) : Type 0 where

@@ -50,26 +50,6 @@ fn length_of(r: Finding) -> u16
     }
 }
 
-// Is the state in the set? One of 512 or above counts as in every set.
-fn contains(states: &[bool; 512], v: u16) -> bool
-    requires { ⌜ length (now states) ≡ 512 ⌝ }
-    ensures { λ r. ⌜ r ≡ getD (now (states .entry)) v true ⌝ }
-{
-    let i = wide(v);
-    if i < look::STATES { states[i] } else { true }
-}
-
-// Puts the state into the set.
-fn insert(states: &mut [bool; 512], v: u16)
-    requires { ⌜ length (now states) ≡ 512 ⌝ }
-    ensures { λ r. ⌜ now (states .exit) ≡ set (now (states .entry)) v true ⌝ }
-{
-    let i = wide(v);
-    if i < look::STATES {
-        states[i] = true;
-    }
-}
-
 // The state at which a target lies, raised by the base of its row.
 fn lift(target: u16, base: usize) -> u16
     requires { ⌜ base < 65536 ⌝ }
@@ -97,7 +77,7 @@ fn visit(
     requires { ⌜ Laid (now targets) (now begins) (now ends) (now bases) × (length (now met) ≡ 512) × Sized (now marked) (now walk) ⌝ }
     ensures { λ r. ⌜ Visits (ReadsAll (now (targets .entry)) (layoutOf (now (begins .entry)) (now (ends .entry)) (now (bases .entry))) size (now (words .entry))) false v 0 place (boardOf (now (met .entry)) (now (marked .entry)) (now (walk .entry)) (now (spent .entry))) (boardOf (now (met .exit)) (now (marked .exit)) (now (walk .exit)) (now (spent .exit))) r ⌝ }
 {
-    insert(met, v);
+    look::insert(met, v);
     look::put(walk, place, v);
     let height = look::up(place);
     let r = explore(
@@ -161,7 +141,7 @@ fn explore(
     let mut e: usize = 0;
     while e < count {
         let t = lift(look::look(targets, spent, from + e), base);
-        if !contains(met, t) {
+        if !look::contains(met, t) {
             let r = visit(
                 targets,
                 begins,
@@ -202,7 +182,7 @@ fn nested_visit(
     requires { ⌜ Laid (now targets) (now begins) (now ends) (now bases) × Sized (now marked) (now walk) ⌝ }
     ensures { λ r. ⌜ ((met : List Bool) → Visits (Reads (now (targets .entry)) (layoutOf (now (begins .entry)) (now (ends .entry)) (now (bases .entry)))) true v height place (boardOf met (now (marked .entry)) (now (walk .entry)) (now (spent .entry))) (boardOf met (now (marked .exit)) (now (walk .exit)) (now (spent .exit))) r) ⌝ }
 {
-    insert(marked, v);
+    look::insert(marked, v);
     look::put(walk, place, v);
     let next = look::up(place);
     nested_explore(
@@ -249,7 +229,7 @@ fn nested_explore(
                 length: place,
             };
         }
-        if !contains(marked, t) {
+        if !look::contains(marked, t) {
             let r = nested_visit(
                 targets,
                 begins,

@@ -12,7 +12,7 @@ use borrow.Author.Tests.{eq-eqb, ne-eqb}
 use Rattle.plain.specs.Search.{Verdict, none, lasso, unfinished, verdict}
 use Rattle.plain.specs.Table.{Table, printed, printedVerdict, final}
 use Rattle.plain.specs.Layers.{stateOf}
-use Rattle.plain.specs.Machine.{alone, Refusal as PlainRefusal, Answer as PlainAnswer, answer, numbered, written, Line, gameLine, roundLine, noneLine, noLine, waysLine, answerLine}
+use Rattle.plain.specs.Machine.{alone, Refusal as PlainRefusal, Answer as PlainAnswer, answer, numbered, written, Line, gameLine, roundLine, noneLine, noLine, waysLine, shortLine, noRoundLine, answerLine}
 use Rattle.plain.proofs.Answers.{first-line}
 use Rattle.plain.proofs.Tables.{Valid}
 use Rattle.plain.proofs.Demands.{verdict-right}
@@ -108,6 +108,8 @@ told-refusal (roundLine spent kept stem cycle walk) = numbered 0
 told-refusal (noneLine spent kept) = numbered 0
 told-refusal (noLine r) = r
 told-refusal (waysLine s leaving entering) = numbered 0
+told-refusal (shortLine best least) = numbered 0
+told-refusal noRoundLine = numbered 0
 
 position-alone : (p : Position) → positionOf p ≡ alone → p ≡ Position.Alone
 position-alone Position.Alone e = refl

@@ -28,8 +28,8 @@ use Rattle.textbook.specs.Search.{boardOf, ReadsAll}
 use Rattle.textbook.proofs.Sets.{left, left-visit, left-explore}
 use Rattle.textbook.proofs.Steps.{Entered}
 use Rattle.textbook.proofs.Turns.{Turns, edge-there, edge-target, kept-entered, begins, ends, renamed, passed, went-on, stopped, pays-below, pays-beyond, visits-outer, visits-round, visits-paying}
-use Rattle.textbook.proofs.contains.Reads as contains-reads
-use Rattle.textbook.proofs.insert.Reads as insert-reads
+use Rattle.look.proofs.contains.Reads as contains-reads
+use Rattle.look.proofs.insert.Reads as insert-reads
 use Rattle.textbook.proofs.is_round.Reads as is-round-reads
 use Rattle.textbook.proofs.lift.Reads as lift-reads
 use Rattle.textbook.proofs.nested_visit.Reads as nested-visit-reads

@@ -25,8 +25,8 @@ use Rattle.textbook.specs.Search.{boardOf, Reads}
 use Rattle.textbook.proofs.Sets.{left, left-visit, left-explore}
 use Rattle.textbook.proofs.Steps.{Entered}
 use Rattle.textbook.proofs.Turns.{Turns, edge-there, edge-target, kept-entered, begins, ends, renamed, closed, passed, went-on, stopped, visits-nested}
-use Rattle.textbook.proofs.contains.Reads as contains-reads
-use Rattle.textbook.proofs.insert.Reads as insert-reads
+use Rattle.look.proofs.contains.Reads as contains-reads
+use Rattle.look.proofs.insert.Reads as insert-reads
 use Rattle.textbook.proofs.is_round.Reads as is-round-reads
 use Rattle.textbook.proofs.lift.Reads as lift-reads
 use Rattle.textbook.proofs.nested_explore.Reads as nested-explore

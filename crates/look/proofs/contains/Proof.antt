@@ -6,9 +6,9 @@ use native.Mathlib.Omega.{arith}
 use denote.Ref.{now}
 use lib.ListN.{getD, List·getD-eq-default}
 use borrow.Author.Needs.{needs}
-use Rattle.textbook.proofs.Sets.{getD-within}
-use Rattle.textbook.proofs.contains.Statement.{statement}
-use Rattle.textbook.proofs.contains.Tie as tie
+use Rattle.look.proofs.Sets.{getD-within}
+use Rattle.look.proofs.contains.Statement.{statement}
+use Rattle.look.proofs.contains.Tie as tie
 
 wide-requires : tie.Need-wide-requires
 wide-requires c κs = search needs

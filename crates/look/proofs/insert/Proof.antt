@@ -7,8 +7,8 @@ use denote.Ref.{now}
 use lib.ListN.{set}
 use lib.Seq.{set-out}
 use borrow.Author.Needs.{needs}
-use Rattle.textbook.proofs.insert.Statement.{statement}
-use Rattle.textbook.proofs.insert.Tie as tie
+use Rattle.look.proofs.insert.Statement.{statement}
+use Rattle.look.proofs.insert.Tie as tie
 
 wide-requires : tie.Need-wide-requires
 wide-requires c κs = search needs
