@@ -1,9 +1,9 @@
 // The shortest round within a budget of looks: breadth-first searches for the lengths 1, 2 and so on. Every function is safe, and ends, for any contents of the arrays.
 use rows::wide;
 ghost use mathlib.Core.Path.{_≡_};
-ghost use mathlib.Core.Bool.{false};
-ghost use lib.ListN.{length, replicate};
-ghost use Rattle.plain.specs.Table.{Table};
+ghost use mathlib.Core.Bool.{true, false, _&&_};
+ghost use lib.ListN.{length, getD, replicate};
+ghost use Rattle.plain.specs.Table.{Table, accepts};
 ghost use Rattle.rows.specs.Rows.{Tabled};
 ghost use Rattle.shortest.specs.Model.{goesOn, boardOf, Sized, Notes, LooksThrough, LooksLevel, Searches, TriesLength, TriesLengths, FindsRoots, Shortens};
 
@@ -190,26 +190,16 @@ fn try_length(
     count: u16,
     spent: &mut u16,
     budget: u16,
-    length: u16,
+    len: u16,
 ) -> Sweep
     requires { ⌜ Tabled (now targets) (now starts) × (length (now queue) ≡ 512) × (length (now roots) ≡ 512) ⌝ }
-    ensures { λ r. ⌜ TriesLength (now (targets .entry)) (now (starts .entry)) (now (roots .entry)) count budget length (now (spent .entry)) (now (queue .exit)) (now (spent .exit)) r ⌝ }
+    ensures { λ r. ⌜ TriesLength (now (targets .entry)) (now (starts .entry)) (now (roots .entry)) count budget len (now (spent .entry)) (now (queue .exit)) (now (spent .exit)) r ⌝ }
 {
     let mut i: u16 = 0;
     while i < count {
         let s = look::get(roots, i);
         let mut seen: [bool; 512] = [false; 512];
-        let r = search(
-            targets,
-            starts,
-            queue,
-            &mut seen,
-            spent,
-            budget,
-            s,
-            s,
-            length,
-        );
+        let r = search(targets, starts, queue, &mut seen, spent, budget, s, s, len);
         let sweep = r.sweep;
         if !goes_on(sweep) {
             return sweep;
