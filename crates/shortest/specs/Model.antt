@@ -1,7 +1,7 @@
 -- What the functions of the searches for a short round do, against the plain definitions: the arrays stand for the states that a plain search has seen. Cited by contracts. Assumes nothing.
 use Prim.Native.Nat.{ℕ, suc, _≤_, _<_}
 use mathlib.Core.Path.{_≡_}
-use mathlib.Core.Bool.{Bool, true, false}
+use mathlib.Core.Bool.{Bool, true, false, _&&_}
 use mathlib.Core.List.{List, [], _∷_}
 use lib.ListN.{length, getD, drop}
 use Rattle.plain.specs.Lists.{In, Once, Begins}
@@ -22,6 +22,10 @@ abbrev pub goesOn : Sweep → Bool
 goesOn Through = true
 goesOn Back = false
 goesOn Stopped = false
+
+-- is the state in the set, and accepting?
+abbrev pub rootIn : List ℕ → List Bool → ℕ → Bool
+rootIn words seen s = getD seen s true && accepts words s
 
 -- what a search writes on: the queue, the set of the states seen, and the count of looks
 pub record Board : Type 0 where

@@ -1,11 +1,11 @@
 // The shortest round within a budget of looks: breadth-first searches for the lengths 1, 2 and so on. Every function is safe, and ends, for any contents of the arrays.
 use rows::wide;
 ghost use mathlib.Core.Path.{_≡_};
-ghost use mathlib.Core.Bool.{true, false, _&&_};
-ghost use lib.ListN.{length, getD, replicate};
-ghost use Rattle.plain.specs.Table.{Table, accepts};
+ghost use mathlib.Core.Bool.{false};
+ghost use lib.ListN.{length, replicate};
+ghost use Rattle.plain.specs.Table.{Table};
 ghost use Rattle.rows.specs.Rows.{Tabled};
-ghost use Rattle.shortest.specs.Model.{goesOn, boardOf, Sized, Notes, LooksThrough, LooksLevel, Searches, TriesLength, TriesLengths, FindsRoots, Shortens};
+ghost use Rattle.shortest.specs.Model.{goesOn, rootIn, boardOf, Sized, Notes, LooksThrough, LooksLevel, Searches, TriesLength, TriesLengths, FindsRoots, Shortens};
 
 // What looks at some edges have come to: all were looked at, one came back, or the budget does not allow the next.
 enum Sweep {
@@ -259,6 +259,17 @@ fn try_lengths(
     }
 }
 
+// Is the state accepting, and was it seen?
+fn is_root(words: &[u64; 8], seen: &[bool; 512], s: u16) -> bool
+    requires { ⌜ length (now seen) ≡ 512 ⌝ }
+    ensures { λ r. ⌜ r ≡ rootIn (now (words .entry)) (now (seen .entry)) s ⌝ }
+{
+    if look::contains(seen, s) {
+        return marks::accepts_in(words, wide(s));
+    }
+    false
+}
+
 // The accepting states that can be reached, in rising order, and how many they are. The looks by which they are found are counted for no one.
 fn find_roots(
     targets: &[u16; 2048],
@@ -295,14 +306,6 @@ fn find_roots(
         s += 1;
     }
     count
-}
-
-// Is the state accepting, and was it seen?
-fn is_root(words: &[u64; 8], seen: &[bool; 512], s: u16) -> bool {
-    if look::contains(seen, s) {
-        return marks::accepts_in(words, wide(s));
-    }
-    false
 }
 
 // What is known of the shortest round within a budget of looks, where the present round has so many moves.

@@ -1,36 +1,38 @@
+-- `note` meets its contract, on each of its ways. Assumes nothing.
+use mathlib.Core.Path.{_∙_, sym}
+use denote.Ref.{now}
+use Rattle.shortest.proofs.Standing.{notes-again, notes-new}
 use borrow.Author.Needs.{needs}
 use Rattle.shortest.proofs.note.Statement.{statement}
 use Rattle.shortest.proofs.note.Tie as tie
-use Rattle.shortest.proofs.note.Reads as reads
-use Rattle.shortest.proofs.note.Lts as lts
-use Rattle.look.proofs.contains.Reads as contains-reads
-use Rattle.look.proofs.further.Reads as further-reads
-use Rattle.look.proofs.insert.Reads as insert-reads
-use Rattle.look.proofs.put.Reads as put-reads
 
--- src/lib.rt:51:8
 contains-requires : tie.Need-contains-requires
-contains-requires c κs = search needs
+contains-requires c κs = c .before .pre .seen-size
 
--- src/lib.rt:52:9
 returns : tie.Need-returns
-returns c = ?
+returns c =
+    let k = c .before in
+    let a = k .before .before in
+    notes-again (now (a .args .queue)) (now (a .args .seen)) (a .args .tail) (a .args .t) (a .pre) (sym (c .if1 .taken) ∙ k .contains .ensures)
 
--- src/lib.rt:54:5
 insert-requires : tie.Need-insert-requires
-insert-requires c κs = search needs
+insert-requires c κs = c .before .before .before .before .pre .seen-size
 
--- src/lib.rt:55:5
 put-requires : tie.Need-put-requires
-put-requires c κs = search needs
+put-requires c κs = c .before .before .before .before .before .before .pre .queue-size
 
--- src/lib.rt:56:5
 further-requires : tie.Need-further-requires
-further-requires c κs = search needs
+further-requires c κs = tt
 
--- src/lib.rt:47:1
 returns-2 : tie.Need-returns-2
-returns-2 c = ?
+returns-2 c =
+    let p = c .before in
+    let n = p .before .before in
+    let e = n .before .before in
+    let k = e .before in
+    let a = k .before .before in
+    notes-new (now (a .args .queue)) (now (a .args .seen)) (a .args .tail) (a .args .t) (a .pre) _ _ _ (p .put .ensures) (n .insert .ensures) (c .further .ensures)
+    (sym (e .if1 .left) ∙ k .contains .ensures)
 
 pub note-spec : {M : Type 1} → statement M
 note-spec =
