@@ -1,3 +1,5 @@
 pub mod Standing
 pub mod Looking
 pub mod Levels
+pub mod Searching
+pub mod Trying

@@ -23,9 +23,9 @@ goesOn Through = true
 goesOn Back = false
 goesOn Stopped = false
 
--- is the state in the set, and accepting?
+-- is the state accepting, and in the set?
 abbrev pub rootIn : List ℕ → List Bool → ℕ → Bool
-rootIn words seen s = getD seen s true && accepts words s
+rootIn words seen s = accepts words s && getD seen s true
 
 -- what a search writes on: the queue, the set of the states seen, and the count of looks
 pub record Board : Type 0 where
@@ -98,6 +98,11 @@ pub record TriesLength (targets starts roots : List ℕ) (count budget l spent :
 abbrev pub lengthsOf : ℕ → Hunt → Lengths
 lengthsOf present (foundAt l) = record { best = l; least = l }
 lengthsOf present (leftAt l) = record { best = present; least = l }
+
+abbrev pub lengthsAt : Sweep → ℕ → ℕ → Lengths
+lengthsAt Through l present = record { best = present; least = l }
+lengthsAt Back l present = record { best = l; least = l }
+lengthsAt Stopped l present = record { best = present; least = l }
 
 abbrev pub TriesLengths : List ℕ → List ℕ → List ℕ → ℕ → ℕ → ℕ → Lengths → Type 0
 TriesLengths targets starts roots count budget present r =

@@ -5,7 +5,7 @@ ghost use mathlib.Core.Bool.{false};
 ghost use lib.ListN.{length, replicate};
 ghost use Rattle.plain.specs.Table.{Table};
 ghost use Rattle.rows.specs.Rows.{Tabled};
-ghost use Rattle.shortest.specs.Model.{goesOn, rootIn, boardOf, Sized, Notes, LooksThrough, LooksLevel, Searches, TriesLength, TriesLengths, FindsRoots, Shortens};
+ghost use Rattle.shortest.specs.Model.{goesOn, rootIn, boardOf, Sized, Notes, LooksThrough, LooksLevel, Searches, TriesLength, lengthsAt, TriesLengths, FindsRoots, Shortens};
 
 // What looks at some edges have come to: all were looked at, one came back, or the budget does not allow the next.
 enum Sweep {
@@ -209,6 +209,26 @@ fn try_length(
     Sweep::Through
 }
 
+// The two lengths where the searches end at a length: by a round of it, or without one.
+fn lengths_at(r: Sweep, length: u16, present: u16) -> Lengths
+    ensures { λ n. ⌜ n ≡ lengthsAt r length present ⌝ }
+{
+    match r {
+        Sweep::Through => Lengths {
+            best: present,
+            least: length,
+        },
+        Sweep::Back => Lengths {
+            best: length,
+            least: length,
+        },
+        Sweep::Stopped => Lengths {
+            best: present,
+            least: length,
+        },
+    }
+}
+
 // Tries the lengths 1, 2 and so on, none longer than the present round's.
 fn try_lengths(
     targets: &[u16; 2048],
@@ -236,20 +256,8 @@ fn try_lengths(
             budget,
             length,
         );
-        match r {
-            Sweep::Through => {}
-            Sweep::Back => {
-                return Lengths {
-                    best: length,
-                    least: length,
-                };
-            }
-            Sweep::Stopped => {
-                return Lengths {
-                    best: present,
-                    least: length,
-                };
-            }
+        if !goes_on(r) {
+            return lengths_at(r, length, present);
         }
         ruled_out = length;
     }
@@ -264,8 +272,8 @@ fn is_root(words: &[u64; 8], seen: &[bool; 512], s: u16) -> bool
     requires { ⌜ length (now seen) ≡ 512 ⌝ }
     ensures { λ r. ⌜ r ≡ rootIn (now (words .entry)) (now (seen .entry)) s ⌝ }
 {
-    if look::contains(seen, s) {
-        return marks::accepts_in(words, wide(s));
+    if marks::accepts_in(words, wide(s)) {
+        return look::contains(seen, s);
     }
     false
 }
