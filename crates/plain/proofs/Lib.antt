@@ -38,5 +38,6 @@ pub mod OneByOne
 pub mod Degrees
 pub mod Views
 pub mod Orders
+pub mod ShortBudget
 pub mod Answers
 pub mod Loops
