@@ -38,6 +38,7 @@ pub mod OneByOne
 pub mod Degrees
 pub mod Views
 pub mod Orders
+pub mod ShortLooks
 pub mod ShortBudget
 pub mod Answers
 pub mod Loops
