@@ -1,7 +1,7 @@
 -- More looks go further on the same way; and for which budgets a table's hunt for its shortest round always ends. Assumes nothing.
 use mathlib.Core.Path.{_≡_, refl, sym, ap, _∙_}
 use mathlib.Core.Logic.{_≢_, _⊎_, ⊎-elim}
-use mathlib.Core.Bool.{true, false}
+use mathlib.Core.Bool.{Bool, true, false}
 use mathlib.Core.List.{List, [], _∷_, _++_}
 use Prim.Native.Nat.{ℕ, zero, suc, _+_, _*_, _≤_, _<_}
 use native.Mathlib.Nat.{mul-le-mul-left}
@@ -122,3 +122,70 @@ hunt-shorter g b rs (suc k) (suc k′) l n m h f = ⊎-elim
     (λ e. hunt-found g b rs k′ l n e ∙ sym (hunt-found g b rs k l n e) ∙ f)
     (λ e. absurd (left-found _ (hunt-left g b rs k l n e) f)))
     (attempt-cases (attempt g b l rs n))
+
+-- ---- of a table
+
+two-lengths : {a b c d : ℕ} → shortest a b ≡ shortest c d → (a ≡ c) × (b ≡ d)
+two-lengths e = ((cc), (cc))
+
+lengths-more : (present : ℕ) (p q : Hunt) (best least best′ least′ : ℕ) → Further p q → Ends present 1 q → lengthsFor present p ≡ shortest best least → lengthsFor present q ≡ shortest best′ least′
+    → (best′ ≤ best) × (least ≤ least′)
+unfolding lengthsFor
+lengths-more present (foundAt m) q best least best′ least′ f e x y =
+    let z : shortest m m ≡ shortest best′ least′ = rw f at y in
+    let v = two-lengths x in
+    let w = two-lengths z in
+    (omega arith, omega arith)
+lengths-more present (leftAt m) (foundAt m′) best least best′ least′ f e x y = let v = two-lengths x in let w = two-lengths y in (omega arith, omega arith)
+lengths-more present (leftAt m) (leftAt m′) best least best′ least′ f e x y = let v = two-lengths x in let w = two-lengths y in (omega arith, omega arith)
+
+-- "On one unchanged table a larger B never gives a longer round or a smaller second number."
+pub more-looks : (t : Table) (b c best least best′ least′ : ℕ) → b ≤ c → replyTo (short b) t ≡ shortest best least → replyTo (short c) t ≡ shortest best′ least′ → (best′ ≤ best) × (least ≤ least′)
+unfolding replyTo questionTrial questionReply shortReply huntIn
+more-looks t b c best least best′ least′ more = by-trial (questionTrial (short b) t)
+  where
+    refusal-apart : {n : ℕ} → noReply n ≡ shortest best least → ⊥
+    refusal-apart e = let z : _≡_ {A = ℕ} 0 1 = cc in omega arith
+
+    none-apart : noRound ≡ shortest best least → ⊥
+    none-apart e = let z : _≡_ {A = ℕ} 0 1 = cc in omega arith
+
+    by-verdict : (v : Verdict) → shortReply v b t ≡ shortest best least → shortReply v c t ≡ shortest best′ least′ → (best′ ≤ best) × (least ≤ least′)
+    by-verdict none x y = absurd (none-apart x)
+    by-verdict (lasso stem cycle) x y =
+        let rs = roots (graphOf t) (t .size) in
+        let k = length cycle in
+        lengths-more k (huntIn t b k) (huntIn t c k) best least best′ least′ (hunt-more (graphOf t) b c more rs k 1 0) (hunt-least (graphOf t) c rs k 1 0) x y
+    by-verdict unfinished x y = absurd (none-apart x)
+
+    by-trial : (r : Trial) → questionReply r (short b) t ≡ shortest best least → questionReply r (short c) t ≡ shortest best′ least′ → (best′ ≤ best) × (least ≤ least′)
+    by-trial accepted x y = by-verdict (verdict (final t)) x y
+    by-trial (refused n) x y = absurd (refusal-apart x)
+
+in-below : (x n : ℕ) → In x (below n) → x < n
+unfolding below
+in-below x zero i = absurd (in-nil x i)
+in-below x (suc n) i = ⊎-elim (λ j. omega (arith, in-below x n j)) (λ j. omega (arith, in-one x n j)) (in-append x (below n) (n ∷ []) i)
+
+filter-in : (p : ℕ → Bool) (x : ℕ) (xs : List ℕ) → In x (filter p xs) → In x xs
+unfolding filter
+filter-in p x [] i = i
+filter-in p x (y ∷ ys) i = ⊎-elim
+    (λ e. ⊎-elim (λ z. rw z (in-head y ys)) (λ j. in-tail x y ys (filter-in p x ys j)) (in-cases x y (filter p ys) (rw (filter-yes p y ys e) at i)))
+    (λ e. in-tail x y ys (filter-in p x ys (rw (filter-no p y ys e) at i))) (either (p y))
+
+pub roots-among : (g : Graph) (size : ℕ) → Among (upto size) (roots g size)
+unfolding roots
+roots-among g size x i = upto-in x size (in-below x size (filter-in _ x (below size) i))
+
+-- Where the budget has, for each of k lengths and each state that is searched from, a look at each move, the hunt finds a round or rules all k lengths out.
+pub hunt-ends : (t : Table) → Valid t → (b k : ℕ) → k * (length (roots (graphOf t) (t .size)) * length (t .edges)) ≤ b
+    → ((m : ℕ) × (huntIn t b k ≡ foundAt m)) ⊎ (huntIn t b k ≡ leftAt (suc k))
+unfolding huntIn
+hunt-ends t v b k h =
+    let g = graphOf t in
+    let us = upto (t .size) in
+    let p = length (roots g (t .size)) in
+    let few = mul-le-mul-left k (mul-le-mul-left p (total-le (t .edges) us (once-upto (t .size)))) in
+    let z : 1 + k ≡ suc k = omega arith in
+    rw (← z) (hunt-within g us (λ x y i j. upto-in y (t .size) (target-below t v x y j)) b (roots g (t .size)) k 1 0 (roots-among g (t .size)) (omega arith))
