@@ -19,7 +19,7 @@ use Rattle.plain.proofs.Tests.{either, in-nil, in-head, in-tail, in-cas
 use Rattle.plain.proofs.Upto.{upto, upto-in, once-upto}
 use Rattle.plain.proofs.Tables.{Valid}
 use Rattle.plain.proofs.Demands.{total-le, target-below}
-use Rattle.plain.proofs.ShortLooks.{sweep-stop, sweep-back, sweep-on, sweep-cases, through-stopped, back-stopped, levels-on, levels-back, levels-stop, attempt-on, attempt-back, attempt-stop, attempt-cases, ruled-ran, succeeded-ran, hunt-on, hunt-found, hunt-left, Among, moves, hunt-within}
+use Rattle.plain.proofs.ShortLooks.{sweep-stop, sweep-back, sweep-on, sweep-cases, through-stopped, back-stopped, levels-on, levels-back, levels-stop, attempt-on, attempt-back, attempt-stop, attempt-cases, ruled-ran, succeeded-ran, hunt-on, hunt-found, hunt-left, Among, hunt-within}
 
 -- ---- more looks
 

@@ -173,6 +173,18 @@ module _ (us : List ℕ) where
       let now = noted-once t seen o i (j t (in-head t ts)) in
       sweep-once b s ts (noted t seen) (suc n) seen′ m (now .0) (now .1) (λ x k. j x (in-tail x t ts k)) (sweep-next b s t ts seen n seen′ m h)
 
+  -- Where a search stands: its level is the newest part of what it has seen, and the states before it are those that were swept.
+  pub record Stands (old level seen : List ℕ) : Type 0 where
+    pub newest : seen ≡ old ++ level
+    pub once : Once seen
+    pub among : Among seen
+
+  pub stands-begin : (a : ℕ) → In a us → Stands [] (a ∷ []) (a ∷ [])
+  stands-begin a i = record { newest = refl; once = (out-nil a, tt); among = λ x j. rw (in-one x a j) i }
+
+  pub stands-level : (old level seen : List ℕ) → Stands old level seen → Among level
+  stands-level old level seen v x i = v .among x (rw (v .newest) (in-right x old level i))
+
 -- ---- one search
 
 -- a search that goes through has swept its first level, and goes on behind it
@@ -185,18 +197,11 @@ levels-next g b l s level seen n last k h = ⊎-elim
     (λ e. absurd (through-stopped _ h (levels-stop g b l s level seen n e))))
     (sweep-cases (sweep b s (targetsOf g level) seen n))
 
--- moves stay in us
-module _ (g : Graph) (us : List ℕ) (stays : (x y : ℕ) → In x us → In y (g .successors x) → In y us) where
-  -- how many moves the states of us have
-  abbrev pub moves : ℕ
-  moves = left (λ x. length (g .successors x)) [] us
+-- how many moves the states of a list have
+abbrev pub movesOf : Graph → List ℕ → ℕ
+movesOf g us = left (λ x. length (g .successors x)) [] us
 
-  pub targets-among : (xs : List ℕ) → Among us xs → Among us (targetsOf g xs)
-  unfolding targetsOf
-  targets-among [] i y j = absurd (in-nil y j)
-  targets-among (x ∷ xs) i y j =
-      ⊎-elim (stays x y (i x (in-head x xs))) (targets-among xs (λ z k. i z (in-tail z x xs k)) y) (in-append y (g .successors x) (targetsOf g xs) j)
-
+module _ (g : Graph) (us : List ℕ) where
   targets-append : (xs ys : List ℕ) → length (targetsOf g (xs ++ ys)) ≡ length (targetsOf g xs) + length (targetsOf g ys)
   unfolding targetsOf
   targets-append [] ys = omega arith
@@ -204,7 +209,7 @@ module _ (g : Graph) (us : List ℕ) (stays : (x y : ℕ) → In x us → In y (
       omega (arith, length-append (g .successors x) (targetsOf g (xs ++ ys)), length-append (g .successors x) (targetsOf g xs), targets-append xs ys)
 
   -- different states of us have no more moves than us
-  pub targets-few : (xs : List ℕ) → Once xs → Among us xs → left (λ x. length (g .successors x)) xs us + length (targetsOf g xs) ≤ moves
+  pub targets-few : (xs : List ℕ) → Once xs → Among us xs → left (λ x. length (g .successors x)) xs us + length (targetsOf g xs) ≤ movesOf g us
   unfolding targetsOf
   targets-few [] o i = omega arith
   targets-few (x ∷ xs) o i = omega (
@@ -214,30 +219,11 @@ module _ (g : Graph) (us : List ℕ) (stays : (x y : ℕ) → In x us → In y (
     targets-few xs (o .1) (λ y j. i y (in-tail y x xs j)),
   )
 
-  -- Where a search stands: its level is the newest part of what it has seen, and the states before it are those that were swept.
-  pub record Stands (old level seen : List ℕ) : Type 0 where
-    pub newest : seen ≡ old ++ level
-    pub once : Once seen
-    pub among : Among us seen
-
-  pub stands-begin : (a : ℕ) → In a us → Stands [] (a ∷ []) (a ∷ [])
-  stands-begin a i = record { newest = refl; once = (out-nil a, tt); among = λ x j. rw (in-one x a j) i }
-
-  pub stands-level : (old level seen : List ℕ) → Stands old level seen → Among us level
-  stands-level old level seen v x i = v .among x (rw (v .newest) (in-right x old level i))
-
-  -- a sweep that goes through leads to the next level
-  pub stands-next : (b s : ℕ) (old level seen : List ℕ) (n : ℕ) (seen′ : List ℕ) (m : ℕ) → Stands old level seen → sweep b s (targetsOf g level) seen n ≡ through seen′ m
-      → Stands seen (drop (length seen) seen′) seen′
-  stands-next b s old level seen n seen′ m v h =
-      let w = sweep-once us b s (targetsOf g level) seen n seen′ m (v .once) (v .among) (targets-among level (stands-level old level seen v)) h in
-      record { newest = sweep-level b s (targetsOf g level) seen n seen′ m h; once = w .0; among = w .1 }
-
   -- the moves of what was swept, with those of the level, are no more than those of us
-  stands-count : (old level seen : List ℕ) → Stands old level seen → length (targetsOf g seen) ≡ length (targetsOf g old) + length (targetsOf g level)
+  stands-count : (old level seen : List ℕ) → Stands us old level seen → length (targetsOf g seen) ≡ length (targetsOf g old) + length (targetsOf g level)
   stands-count old level seen v = ap (λ (xs : List ℕ). length (targetsOf g xs)) (v .newest) ∙ targets-append old level
 
-  stands-few : (old level seen : List ℕ) → Stands old level seen → length (targetsOf g old) + length (targetsOf g level) ≤ moves
+  stands-few : (old level seen : List ℕ) → Stands us old level seen → length (targetsOf g old) + length (targetsOf g level) ≤ movesOf g us
   stands-few old level seen v = omega (arith, targets-few seen (v .once) (v .among), stands-count old level seen v)
 
   -- What a search that goes through has seen and counted, from wherever it stands.
@@ -245,79 +231,94 @@ module _ (g : Graph) (us : List ℕ) (stays : (x y : ℕ) → In x us → In y (
     once : Once last
     among : Among us last
     more : n ≤ k
-    few : k + length (targetsOf g old) ≤ n + moves
+    few : k + length (targetsOf g old) ≤ n + movesOf g us
 
-  went : (b l s : ℕ) (old level seen : List ℕ) (n : ℕ) (last : List ℕ) (k : ℕ) → Stands old level seen → levels g b l s level seen n ≡ through last k → Went old n last k
+-- moves stay in us
+module _ (g : Graph) (us : List ℕ) (stays : (x y : ℕ) → In x us → In y (g .successors x) → In y us) where
+  pub targets-among : (xs : List ℕ) → Among us xs → Among us (targetsOf g xs)
+  unfolding targetsOf
+  targets-among [] i y j = absurd (in-nil y j)
+  targets-among (x ∷ xs) i y j =
+      ⊎-elim (stays x y (i x (in-head x xs))) (targets-among xs (λ z k. i z (in-tail z x xs k)) y) (in-append y (g .successors x) (targetsOf g xs) j)
+
+  -- a sweep that goes through leads to the next level
+  pub stands-next : (b s : ℕ) (old level seen : List ℕ) (n : ℕ) (seen′ : List ℕ) (m : ℕ) → Stands us old level seen → sweep b s (targetsOf g level) seen n ≡ through seen′ m
+      → Stands us seen (drop (length seen) seen′) seen′
+  stands-next b s old level seen n seen′ m v h =
+      let w = sweep-once us b s (targetsOf g level) seen n seen′ m (v .once) (v .among) (targets-among level (stands-level us old level seen v)) h in
+      record { newest = sweep-level b s (targetsOf g level) seen n seen′ m h; once = w .0; among = w .1 }
+
+  went : (b l s : ℕ) (old level seen : List ℕ) (n : ℕ) (last : List ℕ) (k : ℕ) → Stands us old level seen → levels g b l s level seen n ≡ through last k → Went g us old n last k
   unfolding levels
   went b zero s old level seen n last k v h =
       let e = same-through h in
-      record { once = rw (← e .0) (v .once); among = rw (← e .0) (v .among); more = omega arith; few = omega (arith, stands-few old level seen v) }
+      record { once = rw (← e .0) (v .once); among = rw (← e .0) (v .among); more = omega arith; few = omega (arith, stands-few g us old level seen v) }
   went b (suc l) s old level seen n last k v h =
       let (seen′, m, e, f) = levels-next g b l s level seen n last k h in
       let w = went b l s seen (drop (length seen) seen′) seen′ m last k (stands-next b s old level seen n seen′ m v e) f in
       let c = sweep-count b s (targetsOf g level) seen n seen′ m e in
-      record { once = w .once; among = w .among; more = omega arith; few = omega (arith, stands-count old level seen v) }
+      record { once = w .once; among = w .among; more = omega arith; few = omega (arith, stands-count g us old level seen v) }
 
-  never-stopped : (b l s : ℕ) (old level seen : List ℕ) (n : ℕ) → Stands old level seen → n + moves ≤ b + length (targetsOf g old) → levels g b l s level seen n ≢ stopped
+  never-stopped : (b l s : ℕ) (old level seen : List ℕ) (n : ℕ) → Stands us old level seen → n + movesOf g us ≤ b + length (targetsOf g old) → levels g b l s level seen n ≢ stopped
   unfolding levels
   never-stopped b zero s old level seen n v h z = through-stopped _ refl z
   never-stopped b (suc l) s old level seen n v h z = ⊎-elim
       (λ r. never-stopped b l s seen (drop (length seen) (r .0)) (r .0) (r .1) (stands-next b s old level seen n (r .0) (r .1) v (r .2))
-      (omega (arith, sweep-count b s (targetsOf g level) seen n (r .0) (r .1) (r .2), stands-count old level seen v))
+      (omega (arith, sweep-count b s (targetsOf g level) seen n (r .0) (r .1) (r .2), stands-count g us old level seen v))
       (sym (levels-on g b l s level seen n (r .0) (r .1) (r .2)) ∙ z))
       (⊎-elim
       (λ e. back-stopped _ (levels-back g b l s level seen n e) z)
-      (λ e. sweep-within b s (targetsOf g level) seen n (omega (arith, stands-few old level seen v)) e))
+      (λ e. sweep-within b s (targetsOf g level) seen n (omega (arith, stands-few g us old level seen v)) e))
       (sweep-cases (sweep b s (targetsOf g level) seen n))
 
   -- A search from a state of us, over any number of levels: what it has seen, its looks, and the budget that is enough.
   module _ (b l s a n : ℕ) (begins : In a us) where
     pub levels-once : (seen : List ℕ) (m : ℕ) → levels g b l s (a ∷ []) (a ∷ []) n ≡ through seen m → Once seen × Among us seen
-    levels-once seen m h = let w = went b l s [] (a ∷ []) (a ∷ []) n seen m (stands-begin a begins) h in (w .once, w .among)
+    levels-once seen m h = let w = went b l s [] (a ∷ []) (a ∷ []) n seen m (stands-begin us a begins) h in (w .once, w .among)
 
-    pub levels-count : (seen : List ℕ) (m : ℕ) → levels g b l s (a ∷ []) (a ∷ []) n ≡ through seen m → (n ≤ m) × (m ≤ n + moves)
-    levels-count seen m h = let w = went b l s [] (a ∷ []) (a ∷ []) n seen m (stands-begin a begins) h in (w .more, omega arith)
+    pub levels-count : (seen : List ℕ) (m : ℕ) → levels g b l s (a ∷ []) (a ∷ []) n ≡ through seen m → (n ≤ m) × (m ≤ n + movesOf g us)
+    levels-count seen m h = let w = went b l s [] (a ∷ []) (a ∷ []) n seen m (stands-begin us a begins) h in (w .more, omega arith)
 
-    pub levels-within : n + moves ≤ b → levels g b l s (a ∷ []) (a ∷ []) n ≢ stopped
-    levels-within h = never-stopped b l s [] (a ∷ []) (a ∷ []) n (stands-begin a begins) (omega arith)
+    pub levels-within : n + movesOf g us ≤ b → levels g b l s (a ∷ []) (a ∷ []) n ≢ stopped
+    levels-within h = never-stopped b l s [] (a ∷ []) (a ∷ []) n (stands-begin us a begins) (omega arith)
 
   -- ---- one length, and all lengths
 
   -- all searches for a length: for each state of rs, the moves of us
-  pub attempt-count : (b l : ℕ) (rs : List ℕ) (n m : ℕ) → Among us rs → attempt g b l rs n ≡ ruledOut m → (n ≤ m) × (m ≤ n + length rs * moves)
+  pub attempt-count : (b l : ℕ) (rs : List ℕ) (n m : ℕ) → Among us rs → attempt g b l rs n ≡ ruledOut m → (n ≤ m) × (m ≤ n + length rs * movesOf g us)
   unfolding attempt
   attempt-count b l [] n m i h = let z : n ≡ m = cc in (omega arith, omega arith)
   attempt-count b l (s ∷ ss) n m i h = ⊎-elim
       (λ r. let c = levels-count b l s s n (i s (in-head s ss)) (r .0) (r .1) (r .2) in
       let d = attempt-count b l ss (r .1) m (λ x j. i x (in-tail x s ss j)) (sym (attempt-on g b l s ss n (r .0) (r .1) (r .2)) ∙ h) in
-      (omega arith, omega (arith, suc-mul (length ss) moves)))
+      (omega arith, omega (arith, suc-mul (length ss) (movesOf g us))))
       (⊎-elim
       (λ e. absurd (ruled-succeeded _ h (attempt-back g b l s ss n e)))
       (λ e. absurd (ruled-ran _ h (attempt-stop g b l s ss n e))))
       (sweep-cases (searchFrom g b l s n))
 
-  pub attempt-within : (b l : ℕ) (rs : List ℕ) (n : ℕ) → Among us rs → n + length rs * moves ≤ b → attempt g b l rs n ≢ ranOut
+  pub attempt-within : (b l : ℕ) (rs : List ℕ) (n : ℕ) → Among us rs → n + length rs * movesOf g us ≤ b → attempt g b l rs n ≢ ranOut
   unfolding attempt
   attempt-within b l [] n i h z = ruled-ran _ refl z
   attempt-within b l (s ∷ ss) n i h z = ⊎-elim
       (λ r. attempt-within b l ss (r .1) (λ x j. i x (in-tail x s ss j))
-      (omega (arith, suc-mul (length ss) moves, levels-count b l s s n (i s (in-head s ss)) (r .0) (r .1) (r .2)))
+      (omega (arith, suc-mul (length ss) (movesOf g us), levels-count b l s s n (i s (in-head s ss)) (r .0) (r .1) (r .2)))
       (sym (attempt-on g b l s ss n (r .0) (r .1) (r .2)) ∙ z))
       (⊎-elim
       (λ e. succeeded-ran _ (attempt-back g b l s ss n e) z)
-      (λ e. levels-within b l s s n (i s (in-head s ss)) (omega (arith, suc-mul (length ss) moves)) e))
+      (λ e. levels-within b l s s n (i s (in-head s ss)) (omega (arith, suc-mul (length ss) (movesOf g us))) e))
       (sweep-cases (searchFrom g b l s n))
 
   -- With a budget that is enough for all lengths, the hunt finds a round, or rules them all out.
-  pub hunt-within : (b : ℕ) (rs : List ℕ) (k l n : ℕ) → Among us rs → n + k * (length rs * moves) ≤ b
+  pub hunt-within : (b : ℕ) (rs : List ℕ) (k l n : ℕ) → Among us rs → n + k * (length rs * movesOf g us) ≤ b
       → ((m : ℕ) × (hunt g b rs k l n ≡ foundAt m)) ⊎ (hunt g b rs k l n ≡ leftAt (l + k))
   unfolding hunt
   hunt-within b rs zero l n i h = inr (let z : l ≡ l + 0 = omega arith in ap leftAt z)
   hunt-within b rs (suc k) l n i h = ⊎-elim
       (λ r. let z : suc l + k ≡ l + suc k = omega arith in
       rw (hunt-on g b rs k l n (r .0) (r .1), ← z)
-      (hunt-within b rs k (suc l) (r .0) i (omega (arith, suc-mul k (length rs * moves), attempt-count b l rs n (r .0) i (r .1)))))
+      (hunt-within b rs k (suc l) (r .0) i (omega (arith, suc-mul k (length rs * movesOf g us), attempt-count b l rs n (r .0) i (r .1)))))
       (⊎-elim
       (λ e. inl (l, hunt-found g b rs k l n e))
-      (λ e. absurd (attempt-within b l rs n i (omega (arith, suc-mul k (length rs * moves))) e)))
+      (λ e. absurd (attempt-within b l rs n i (omega (arith, suc-mul k (length rs * movesOf g us))) e)))
       (attempt-cases (attempt g b l rs n))
