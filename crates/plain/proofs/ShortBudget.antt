@@ -1,8 +1,8 @@
 -- More looks go further on the same way; and for which budgets a table's hunt for its shortest round always ends. Assumes nothing.
-use mathlib.Core.Path.{_≡_, refl, sym, ap, _∙_}
+use mathlib.Core.Path.{_≡_, refl, sym, _∙_}
 use mathlib.Core.Logic.{_≢_, _⊎_, ⊎-elim}
-use mathlib.Core.Bool.{Bool, true, false}
-use mathlib.Core.List.{List, [], _∷_, _++_}
+use mathlib.Core.Bool.{Bool, false}
+use mathlib.Core.List.{List, [], _∷_}
 use Prim.Native.Nat.{ℕ, zero, suc, _+_, _*_, _≤_, _<_}
 use native.Mathlib.Nat.{mul-le-mul-left}
 use native.Mathlib.Omega.{arith}
@@ -14,7 +14,7 @@ use Rattle.plain.specs.Search.{Graph, Verdict, none, lasso, unfinished, 
 use Rattle.plain.specs.Table.{Table, graphOf, final}
 use Rattle.plain.specs.Shortest.{roots, noted, stopped, sweep, targetsOf, levels, searchFrom, ranOut, attempt, Hunt, foundAt, leftAt, hunt}
 use Rattle.plain.specs.Refusals.{Trial, accepted, refused}
-use Rattle.plain.specs.Questions.{short, Reply, noReply, shortest, noRound, questionTrial, huntIn, lengthsFor, shortReply, questionReply, replyTo}
+use Rattle.plain.specs.Questions.{short, noReply, shortest, noRound, questionTrial, huntIn, lengthsFor, shortReply, questionReply, replyTo}
 use Rattle.plain.proofs.Tests.{either, in-nil, in-head, in-tail, in-cases, in-append, in-one, filter-yes, filter-no}
 use Rattle.plain.proofs.Upto.{upto, upto-in, once-upto}
 use Rattle.plain.proofs.Tables.{Valid}
@@ -128,7 +128,8 @@ hunt-shorter g b rs (suc k) (suc k′) l n m h f = ⊎-elim
 two-lengths : {a b c d : ℕ} → shortest a b ≡ shortest c d → (a ≡ c) × (b ≡ d)
 two-lengths e = ((cc), (cc))
 
-lengths-more : (present : ℕ) (p q : Hunt) (best least best′ least′ : ℕ) → Further p q → Ends present 1 q → lengthsFor present p ≡ shortest best least → lengthsFor present q ≡ shortest best′ least′
+lengths-more : (present : ℕ) (p q : Hunt) (best least best′ least′ : ℕ) → Further p q → Ends present 1 q
+    → lengthsFor present p ≡ shortest best least → lengthsFor present q ≡ shortest best′ least′
     → (best′ ≤ best) × (least ≤ least′)
 unfolding lengthsFor
 lengths-more present (foundAt m) q best least best′ least′ f e x y =
@@ -140,7 +141,8 @@ lengths-more present (leftAt m) (foundAt m′) best least best′ least′ f e x
 lengths-more present (leftAt m) (leftAt m′) best least best′ least′ f e x y = let v = two-lengths x in let w = two-lengths y in (omega arith, omega arith)
 
 -- "On one unchanged table a larger B never gives a longer round or a smaller second number."
-pub more-looks : (t : Table) (b c best least best′ least′ : ℕ) → b ≤ c → replyTo (short b) t ≡ shortest best least → replyTo (short c) t ≡ shortest best′ least′ → (best′ ≤ best) × (least ≤ least′)
+pub more-looks : (t : Table) (b c best least best′ least′ : ℕ) → b ≤ c → replyTo (short b) t ≡ shortest best least → replyTo (short c) t ≡ shortest best′ least′
+    → (best′ ≤ best) × (least ≤ least′)
 unfolding replyTo questionTrial questionReply shortReply huntIn
 more-looks t b c best least best′ least′ more = by-trial (questionTrial (short b) t)
   where

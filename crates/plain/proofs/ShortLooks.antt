@@ -12,7 +12,7 @@ use lib.Seq.{drop-append-seam}
 use borrow.Author.Tests.{lt-leb}
 use Rattle.plain.specs.Lists.{elem, In, Once}
 use Rattle.plain.specs.Search.{Graph}
-use Rattle.plain.specs.Shortest.{noted, Sweep, through, back, stopped, sweep, targetsOf, levels, searchFrom, Attempt, succeeded, ranOut, ruledOut, attempt, Hunt, foundAt, leftAt, hunt}
+use Rattle.plain.specs.Shortest.{noted, Sweep, through, back, stopped, sweep, targetsOf, levels, searchFrom, Attempt, succeeded, ranOut, ruledOut, attempt, foundAt, leftAt, hunt}
 use Rattle.plain.proofs.Tests.{contra, either, in-nil, out-nil, in-head, in-tail, in-one, in-append, in-right}
 use Rattle.plain.proofs.Lassos.{once-append}
 use Rattle.plain.proofs.Bounds.{left, left-drop}
@@ -58,7 +58,8 @@ pub same-through : {seen seen′ : List ℕ} {m m′ : ℕ} → through seen m �
 same-through e = ((cc), (cc))
 
 module _ (g : Graph) (b l s : ℕ) (level seen : List ℕ) (n : ℕ) where
-  pub levels-on : (seen′ : List ℕ) (m : ℕ) → sweep b s (targetsOf g level) seen n ≡ through seen′ m → levels g b (suc l) s level seen n ≡ levels g b l s (drop (length seen) seen′) seen′ m
+  pub levels-on : (seen′ : List ℕ) (m : ℕ) → sweep b s (targetsOf g level) seen n ≡ through seen′ m
+      → levels g b (suc l) s level seen n ≡ levels g b l s (drop (length seen) seen′) seen′ m
   unfolding levels
   levels-on seen′ m e = rw (e, levels)
 
