@@ -24,19 +24,19 @@ use Rattle.plain.proofs.ShortLooks.{sweep-stop, sweep-back, sweep-on, s
 -- ---- more looks
 
 -- What b looks are enough for comes out the same with c looks.
-module _ (g : Graph) (b c : ℕ) (more : b ≤ c) where
-  pub sweep-more : (s : ℕ) (ts seen : List ℕ) (n : ℕ) → sweep b s ts seen n ≢ stopped → sweep c s ts seen n ≡ sweep b s ts seen n
-  unfolding sweep
-  sweep-more s [] seen n h = refl
-  sweep-more s (t ∷ ts) seen n h = ⊎-elim
-      (λ e. absurd (h (sweep-stop b s t ts seen n e)))
-      (λ e. let e′ : leb c n ≡ false = lt-leb c n (omega (arith, leb-false b n e)) in
-      ⊎-elim
-      (λ f. sweep-back c s t ts seen n e′ f ∙ sym (sweep-back b s t ts seen n e f))
-      (λ f. sweep-on c s t ts seen n e′ f ∙ sweep-more s ts (noted t seen) (suc n) (λ z. h (sweep-on b s t ts seen n e f ∙ z)) ∙ sym (sweep-on b s t ts seen n e f))
-      (either (eqb t s)))
-      (either (leb b n))
+pub sweep-more : (b c : ℕ) → b ≤ c → (s : ℕ) (ts seen : List ℕ) (n : ℕ) → sweep b s ts seen n ≢ stopped → sweep c s ts seen n ≡ sweep b s ts seen n
+unfolding sweep
+sweep-more b c more s [] seen n h = refl
+sweep-more b c more s (t ∷ ts) seen n h = ⊎-elim
+    (λ e. absurd (h (sweep-stop b s t ts seen n e)))
+    (λ e. let e′ : leb c n ≡ false = lt-leb c n (omega (arith, leb-false b n e)) in
+    ⊎-elim
+    (λ f. sweep-back c s t ts seen n e′ f ∙ sym (sweep-back b s t ts seen n e f))
+    (λ f. let on = sweep-on b s t ts seen n e f in sweep-on c s t ts seen n e′ f ∙ sweep-more b c more s ts (noted t seen) (suc n) (λ z. h (on ∙ z)) ∙ sym on)
+    (either (eqb t s)))
+    (either (leb b n))
 
+module _ (g : Graph) (b c : ℕ) (more : b ≤ c) where
   pub levels-more : (l s : ℕ) (level seen : List ℕ) (n : ℕ) → levels g b l s level seen n ≢ stopped → levels g c l s level seen n ≡ levels g b l s level seen n
   unfolding levels
   levels-more zero s level seen n h = refl
@@ -50,7 +50,7 @@ module _ (g : Graph) (b c : ℕ) (more : b ≤ c) where
       (sweep-cases (sweep b s (targetsOf g level) seen n))
     where
       same : sweep b s (targetsOf g level) seen n ≢ stopped → sweep c s (targetsOf g level) seen n ≡ sweep b s (targetsOf g level) seen n
-      same = sweep-more s (targetsOf g level) seen n
+      same = sweep-more b c more s (targetsOf g level) seen n
 
   pub attempt-more : (l : ℕ) (rs : List ℕ) (n : ℕ) → attempt g b l rs n ≢ ranOut → attempt g c l rs n ≡ attempt g b l rs n
   unfolding attempt
@@ -111,7 +111,7 @@ hunt-more g b c more rs (suc k) l n = ⊎-elim
 left-found : {l m : ℕ} → (r : Hunt) → r ≡ leftAt l → r ≡ foundAt m → ⊥
 left-found r p q = let z : _≡_ {A = ℕ} 0 1 = cc in omega arith
 
--- what is found is found too where more lengths would be tried
+-- What is found is found too where more lengths would be tried
 pub hunt-shorter : (g : Graph) (b : ℕ) (rs : List ℕ) (k k′ l n m : ℕ) → k ≤ k′ → hunt g b rs k l n ≡ foundAt m → hunt g b rs k′ l n ≡ foundAt m
 unfolding hunt
 hunt-shorter g b rs zero k′ l n m h f = absurd (left-found _ refl f)
@@ -164,18 +164,19 @@ more-looks t b c best least best′ least′ more = by-trial (questionTrial (sho
     by-trial accepted x y = by-verdict (verdict (final t)) x y
     by-trial (refused n) x y = absurd (refusal-apart x)
 
-in-below : (x n : ℕ) → In x (below n) → x < n
+pub in-below : (x n : ℕ) → In x (below n) → x < n
 unfolding below
 in-below x zero i = absurd (in-nil x i)
 in-below x (suc n) i = ⊎-elim (λ j. omega (arith, in-below x n j)) (λ j. omega (arith, in-one x n j)) (in-append x (below n) (n ∷ []) i)
 
-filter-in : (p : ℕ → Bool) (x : ℕ) (xs : List ℕ) → In x (filter p xs) → In x xs
+pub filter-in : (p : ℕ → Bool) (x : ℕ) (xs : List ℕ) → In x (filter p xs) → In x xs
 unfolding filter
 filter-in p x [] i = i
 filter-in p x (y ∷ ys) i = ⊎-elim
     (λ e. ⊎-elim (λ z. rw z (in-head y ys)) (λ j. in-tail x y ys (filter-in p x ys j)) (in-cases x y (filter p ys) (rw (filter-yes p y ys e) at i)))
     (λ e. in-tail x y ys (filter-in p x ys (rw (filter-no p y ys e) at i))) (either (p y))
 
+-- the states that are searched from are states of the game
 pub roots-among : (g : Graph) (size : ℕ) → Among (upto size) (roots g size)
 unfolding roots
 roots-among g size x i = upto-in x size (in-below x size (filter-in _ x (below size) i))
