@@ -39,5 +39,7 @@ pub mod Degrees
 pub mod Views
 pub mod Orders
 pub mod Sweeps
+pub mod ShortLooks
+pub mod ShortBudget
 pub mod Answers
 pub mod Loops
