@@ -38,5 +38,7 @@ pub mod OneByOne
 pub mod Degrees
 pub mod Views
 pub mod Orders
+pub mod Reached
+pub mod Shortest
 pub mod Answers
 pub mod Loops

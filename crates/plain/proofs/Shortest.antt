@@ -1,0 +1,262 @@
+-- The searches for the shortest round: what they find is there, and what they rule out is not. Assumes nothing.
+use mathlib.Core.Path.{_≡_, refl, sym, ap, _∙_}
+use mathlib.Core.Logic.{_≢_, _⊎_, inl, inr, ⊎-elim}
+use mathlib.Core.Bool.{Bool, true, false}
+use mathlib.Core.List.{List, [], _∷_, _++_, append-assoc, append-nil}
+use Prim.Native.Nat.{ℕ, zero, suc, _+_, _≤_, _<_}
+use native.Mathlib.Decide.{decLe}
+use native.Mathlib.Omega.{arith}
+use lib.Dec.{eqb, leb}
+use lib.ListN.{length, drop}
+use lib.Seq.{drop-append-seam}
+use borrow.Author.Tests.{eqb-true, eqb-false}
+use Rattle.plain.specs.Lists.{elem, In}
+use Rattle.plain.specs.Search.{Graph}
+use Rattle.plain.specs.Cycles.{Run}
+use Rattle.plain.specs.Shortest.{leads, noted, Sweep, through, back, stopped, sweep, targetsOf, levels, searchFrom}
+use Rattle.plain.proofs.Tests.{either, in-nil, in-head, in-tail, in-cases, in-one, in-append, in-left, in-right}
+use Rattle.plain.proofs.Reached.{Away, Near, away-snoc, last-move, leads-run, run-leads}
+
+stopped-through : {seen : List ℕ} {n : ℕ} → stopped ≡ through seen n → ⊥
+stopped-through e = let z : _≡_ {A = ℕ} 0 1 = cc in omega arith
+
+back-through : {seen : List ℕ} {n : ℕ} → back ≡ through seen n → ⊥
+back-through e = let z : _≡_ {A = ℕ} 0 1 = cc in omega arith
+
+stopped-back : stopped ≡ back → ⊥
+stopped-back e = let z : _≡_ {A = ℕ} 0 1 = cc in omega arith
+
+-- ---- one sweep
+
+noted-known : (t : ℕ) (seen : List ℕ) → elem t seen ≡ true → noted t seen ≡ seen
+unfolding noted
+noted-known t seen e = rw (e, noted)
+
+noted-new : (t : ℕ) (seen : List ℕ) → elem t seen ≡ false → noted t seen ≡ seen ++ (t ∷ [])
+unfolding noted
+noted-new t seen e = rw (e, noted)
+
+module _ (b s : ℕ) where
+  sweep-stops : (t : ℕ) (ts seen : List ℕ) (n : ℕ) → leb b n ≡ true → sweep b s (t ∷ ts) seen n ≡ stopped
+  unfolding sweep
+  sweep-stops t ts seen n e = rw (e, sweep)
+
+  sweep-back : (t : ℕ) (ts seen : List ℕ) (n : ℕ) → leb b n ≡ false → eqb t s ≡ true → sweep b s (t ∷ ts) seen n ≡ back
+  unfolding sweep
+  sweep-back t ts seen n e f = rw (e, f, sweep)
+
+  sweep-on : (t : ℕ) (ts seen : List ℕ) (n : ℕ) → leb b n ≡ false → eqb t s ≡ false → sweep b s (t ∷ ts) seen n ≡ sweep b s ts (noted t seen) (suc n)
+  unfolding sweep
+  sweep-on t ts seen n e f = rw (e, f, sweep)
+
+  -- What a sweep over moves to ts leaves, where none came back: the states seen before, and behind them those of ts that are new.
+  pub record Swept (ts seen seen′ : List ℕ) : Type 0 where
+    pub news : List ℕ
+    pub grown : seen′ ≡ seen ++ news
+    pub each : (t : ℕ) → In t ts → (t ≢ s) × In t seen′
+    pub only : (t : ℕ) → In t news → In t ts
+
+  -- one look more, at the start
+  swept-more : (t : ℕ) (ts seen seen′ : List ℕ) → t ≢ s → Swept ts (noted t seen) seen′ → Swept (t ∷ ts) seen seen′
+  swept-more t ts seen seen′ ne w = ⊎-elim
+      (λ e.
+      let g : seen′ ≡ seen ++ w .news = w .grown ∙ ap (λ (l : List ℕ). l ++ w .news) (noted-known t seen e) in
+      record {
+        news = w .news;
+        grown = g;
+        each = each (rw g (in-left t seen (w .news) e));
+        only = λ y i. in-tail y t ts (w .only y i);
+      })
+      (λ e.
+      let g : seen′ ≡ seen ++ (t ∷ w .news) = w .grown ∙ ap (λ (l : List ℕ). l ++ w .news) (noted-new t seen e) ∙ append-assoc seen (t ∷ []) (w .news) in
+      record {
+        news = t ∷ w .news;
+        grown = g;
+        each = each (rw g (in-right t seen (t ∷ w .news) (in-head t (w .news))));
+        only = λ y i. ⊎-elim (λ z. rw z (in-head t ts)) (λ j. in-tail y t ts (w .only y j)) (in-cases y t (w .news) i);
+      })
+      (either (elem t seen))
+    where
+      each : In t seen′ → (y : ℕ) → In y (t ∷ ts) → (y ≢ s) × In y seen′
+      each i y j = ⊎-elim (λ z. rw z (ne, i)) (w .each y) (in-cases y t ts j)
+
+  pub swept : (ts seen : List ℕ) (n : ℕ) (seen′ : List ℕ) (m : ℕ) → sweep b s ts seen n ≡ through seen′ m → Swept ts seen seen′
+  unfolding sweep
+  swept [] seen n seen′ m e =
+      let z : seen ≡ seen′ = cc in
+      record { news = []; grown = sym z ∙ sym (append-nil seen); each = λ t i. absurd (in-nil t i); only = λ t i. i }
+  swept (t ∷ ts) seen n seen′ m e = ⊎-elim
+      (λ h. absurd (stopped-through (sym (sweep-stops t ts seen n h) ∙ e)))
+      (λ h. ⊎-elim
+      (λ k. absurd (back-through (sym (sweep-back t ts seen n h k) ∙ e)))
+      (λ k. swept-more t ts seen seen′ (eqb-false t s k) (swept ts (noted t seen) (suc n) seen′ m (sym (sweep-on t ts seen n h k) ∙ e)))
+      (either (eqb t s)))
+      (either (leb b n))
+
+  -- a look that came back was at a move to s
+  pub swept-back : (ts seen : List ℕ) (n : ℕ) → sweep b s ts seen n ≡ back → In s ts
+  unfolding sweep
+  swept-back [] seen n e = absurd (back-through (sym e))
+  swept-back (t ∷ ts) seen n e = ⊎-elim
+      (λ h. absurd (stopped-back (sym (sweep-stops t ts seen n h) ∙ e)))
+      (λ h. ⊎-elim
+      (λ k. rw (eqb-true t s k) (in-head s ts))
+      (λ k. in-tail s t ts (swept-back ts (noted t seen) (suc n) (sym (sweep-on t ts seen n h k) ∙ e)))
+      (either (eqb t s)))
+      (either (leb b n))
+
+-- ---- the levels of one search
+
+module _ (g : Graph) where
+  in-targets : (x y : ℕ) (level : List ℕ) → In x level → In y (g .successors x) → In y (targetsOf g level)
+  unfolding targetsOf
+  in-targets x y [] i j = absurd (in-nil x i)
+  in-targets x y (z ∷ level) i j = ⊎-elim
+      (λ e. in-left y (g .successors z) (targetsOf g level) (rw e at j))
+      (λ k. in-right y (g .successors z) (targetsOf g level) (in-targets x y level k j)) (in-cases x z level i)
+
+  targets-in : (y : ℕ) (level : List ℕ) → In y (targetsOf g level) → (x : ℕ) × In x level × In y (g .successors x)
+  unfolding targetsOf
+  targets-in y [] i = absurd (in-nil y i)
+  targets-in y (z ∷ level) i = ⊎-elim
+      (λ j. (z, in-head z level, j))
+      (λ j. let r = targets-in y level j in (r .0, in-tail (r .0) z level (r .1), r .2)) (in-append y (g .successors z) (targetsOf g level) i)
+
+  -- every run of one or more moves from a to s has more than d moves
+  abbrev pub Farther : ℕ → ℕ → ℕ → Type 0
+  Farther d a s = (x : ℕ) (xs : List ℕ) → Run g a (x ∷ xs) s → d < length (x ∷ xs)
+
+  -- A search from a that ends where a look comes back to s, before the looks at the moves of a level d moves away.
+  pub record Level (a s d : ℕ) (level seen : List ℕ) : Type 0 where
+    pub near : (y : ℕ) → Near g d a y → In y seen
+    pub seen-near : (y : ℕ) → In y seen → Near g d a y
+    pub away : (y : ℕ) → In y level → Away g d a y
+    -- a move of a state that was seen did not come back, and its target was seen; or the state is of the level
+    pub done : (y z : ℕ) → In y seen → In z (g .successors y) → ((z ≢ s) × In z seen) ⊎ In y level
+    pub ruled : Farther d a s
+
+  level-first : (a s : ℕ) → Level a s 0 (a ∷ []) (a ∷ [])
+  level-first a s = record {
+    near = λ y (xs, r, h). at-once y xs r h;
+    seen-near = λ y i. ([], sym (in-one y a i), omega arith);
+    away = λ y i. ([], sym (in-one y a i), refl);
+    done = λ y z i j. inr i;
+    ruled = λ x xs r. omega arith;
+  }
+    where
+      at-once : (y : ℕ) (xs : List ℕ) → Run g a xs y → length xs ≤ 0 → In y (a ∷ [])
+      at-once y [] r h = rw (sym r) (in-head a [])
+      at-once y (z ∷ xs) r h = absurd (omega arith)
+
+  -- The next level is of the states that were new.
+  level-next : (b a s d : ℕ) (level seen seen′ : List ℕ) → Level a s d level seen → Swept b s (targetsOf g level) seen seen′ → Level a s (suc d) (drop (length seen) seen′) seen′
+  level-next b a s d level seen seen′ v w = record {
+    near = λ y (xs, r, h). near-more y xs r h;
+    seen-near = λ y i. ⊎-elim
+        (λ j. let n = v .seen-near y j in (n .0, n .1, omega (arith, n .2)))
+        (λ j. let n = new-away y j in (n .0, n .1, omega (arith, n .2)))
+        (in-append y seen (w .news) (rw (w .grown) at i));
+    away = λ y i. new-away y (rw fresh at i);
+    done = λ y z i j. ⊎-elim (λ k. inl (passed y z k j)) (λ k. inr (rw fresh k)) (in-append y seen (w .news) (rw (w .grown) at i));
+    ruled = ruled-more;
+  }
+    where
+      fresh : drop (length seen) seen′ ≡ w .news
+      fresh = ap (drop (length seen)) (w .grown) ∙ drop-append-seam seen (w .news)
+
+      passed : (y z : ℕ) → In y seen → In z (g .successors y) → (z ≢ s) × In z seen′
+      passed y z i j = ⊎-elim
+          (λ c. (c .0, rw (w .grown) (in-left z seen (w .news) (c .1))))
+          (λ c. w .each z (in-targets y z level c j)) (v .done y z i j)
+
+      new-away : (y : ℕ) → In y (w .news) → Away g (suc d) a y
+      new-away y i = let t = targets-in y level (w .only y i) in away-snoc g d a (t .0) y (v .away (t .0) (t .1)) (t .2)
+
+      near-more : (y : ℕ) (xs : List ℕ) → Run g a xs y → length xs ≤ suc d → In y seen′
+      near-more y [] r h = rw (w .grown) (in-left y seen (w .news) (v .near y ([], r, omega arith)))
+      near-more y (x ∷ xs) r h =
+          let m = last-move g xs a x y r in
+          passed (m .0) y (v .near (m .0) (m .1 .0, m .1 .1, omega (arith, m .1 .2))) (m .2) .1
+
+      ruled-more : Farther (suc d) a s
+      ruled-more x xs r = elim (decLe (length xs) d) [
+        | yes h ↦ let m = last-move g xs a x s r in
+            absurd (passed (m .0) s (v .near (m .0) (m .1 .0, m .1 .1, omega (arith, m .1 .2))) (m .2) .0 refl)
+        | no h ↦ omega arith
+      ]
+
+module _ (g : Graph) (b : ℕ) where
+  -- the first of some levels: its moves are looked at and the others follow, a look comes back, or the budget is used up
+  pub record Goes (l s : ℕ) (level seen : List ℕ) (n : ℕ) : Type 0 where
+    pub seen′ : List ℕ
+    pub looks : ℕ
+    pub sweeps : sweep b s (targetsOf g level) seen n ≡ through seen′ looks
+    pub then : levels g b (suc l) s level seen n ≡ levels g b l s (drop (length seen) seen′) seen′ looks
+
+  pub levels-cases : (l s : ℕ) (level seen : List ℕ) (n : ℕ)
+      → Goes l s level seen n ⊎ (((sweep b s (targetsOf g level) seen n ≡ back) × (levels g b (suc l) s level seen n ≡ back)) ⊎ (levels g b (suc l) s level seen n ≡ stopped))
+  unfolding levels
+  levels-cases l s level seen n = by-sweep (sweep b s (targetsOf g level) seen n) refl
+    where
+      by-sweep : (w : Sweep) → sweep b s (targetsOf g level) seen n ≡ w
+          → Goes l s level seen n ⊎ (((sweep b s (targetsOf g level) seen n ≡ back) × (levels g b (suc l) s level seen n ≡ back)) ⊎ (levels g b (suc l) s level seen n ≡ stopped))
+      by-sweep (through seen′ m) e = inl (record { seen′ = seen′; looks = m; sweeps = e; then = rw (e, levels) })
+      by-sweep back e = inr (inl (e, rw (e, levels)))
+      by-sweep stopped e = inr (inr (rw (e, levels)))
+
+  goes-next : (a l s d : ℕ) (level seen : List ℕ) (n : ℕ) → Level g a s d level seen → (o : Goes l s level seen n) → Level g a s (suc d) (drop (length seen) (o .seen′)) (o .seen′)
+  goes-next a l s d level seen n v o =
+      level-next g b a s d level seen (o .seen′) v (swept b s (targetsOf g level) seen n (o .seen′) (o .looks) (o .sweeps))
+
+  -- What l levels come to, from distance d on. None came back: the states seen are those at most D = d + l moves away.
+  levels-through : (l a s d D : ℕ) (level seen : List ℕ) (n : ℕ) (seen′ : List ℕ) (m : ℕ) → d + l ≡ D → Level g a s d level seen → levels g b l s level seen n ≡ through seen′ m
+      → (level′ : List ℕ) × Level g a s D level′ seen′
+  unfolding levels
+  levels-through zero a s d D level seen n seen′ m h v e =
+      let z : seen ≡ seen′ = cc in
+      let k : d ≡ D = omega arith in
+      (level, rw (← z, ← k) v)
+  levels-through (suc l) a s d D level seen n seen′ m h v e = ⊎-elim
+      (λ o. levels-through l a s (suc d) D (drop (length seen) (o .seen′)) (o .seen′) (o .looks) seen′ m (omega arith) (goes-next a l s d level seen n v o) (sym (o .then) ∙ e))
+      (⊎-elim (λ o. absurd (back-through (sym (o .1) ∙ e))) (λ o. absurd (stopped-through (sym o ∙ e))))
+      (levels-cases l s level seen n)
+
+  -- A look came back: a run of one or more moves leads from a to s, of at most D moves.
+  levels-back : (l a s d D : ℕ) (level seen : List ℕ) (n : ℕ) → d + l ≡ D → Level g a s d level seen → levels g b l s level seen n ≡ back
+      → (k : ℕ) × Away g k a s × (1 ≤ k) × (k ≤ D)
+  unfolding levels
+  levels-back zero a s d D level seen n h v e = absurd (back-through (sym e))
+  levels-back (suc l) a s d D level seen n h v e = ⊎-elim
+      (λ o. levels-back l a s (suc d) D (drop (length seen) (o .seen′)) (o .seen′) (o .looks) (omega arith) (goes-next a l s d level seen n v o) (sym (o .then) ∙ e))
+      (⊎-elim
+      (λ o.
+      let t = targets-in g s level (swept-back b s (targetsOf g level) seen n (o .0)) in
+      (suc d, away-snoc g d a (t .0) s (v .away (t .0) (t .1)) (t .2), omega arith, omega arith))
+      (λ o. absurd (stopped-back (sym o ∙ e))))
+      (levels-cases l s level seen n)
+
+  -- A search from a that runs through its l levels has seen the states that at most l moves lead to.
+  pub levels-seen : (l a s n : ℕ) (seen : List ℕ) (m : ℕ) → levels g b l s (a ∷ []) (a ∷ []) n ≡ through seen m
+      → (y : ℕ) → (In y seen → leads g l a y ≡ true) × (leads g l a y ≡ true → In y seen)
+  levels-seen l a s n seen m e y =
+      let v = levels-through l a s 0 l (a ∷ []) (a ∷ []) n seen m (omega arith) (level-first g a s) e .1 in
+      (λ i. let r = v .seen-near y i in run-leads g (r .0) l a y (r .1) (r .2), λ h. v .near y (leads-run g l a y h))
+
+  -- No look comes back to what is the target of no move.
+  pub levels-never-back : (s : ℕ) → ((y z : ℕ) → In z (g .successors y) → z ≢ s) → (l : ℕ) (level seen : List ℕ) (n : ℕ) → levels g b l s level seen n ≢ back
+  unfolding levels
+  levels-never-back s away zero level seen n e = back-through (sym e)
+  levels-never-back s away (suc l) level seen n e = ⊎-elim
+      (λ o. levels-never-back s away l (drop (length seen) (o .seen′)) (o .seen′) (o .looks) (sym (o .then) ∙ e))
+      (⊎-elim
+      (λ o. let t = targets-in g s level (swept-back b s (targetsOf g level) seen n (o .0)) in away (t .0) s (t .2) refl)
+      (λ o. stopped-back (sym o ∙ e)))
+      (levels-cases l s level seen n)
+
+  -- A search from s that runs through: every closed run from s has more than l moves.
+  pub search-through : (l s n : ℕ) (seen : List ℕ) (m : ℕ) → searchFrom g b l s n ≡ through seen m → Farther g l s s
+  search-through l s n seen m e = levels-through l s s 0 l (s ∷ []) (s ∷ []) n seen m (omega arith) (level-first g s s) e .1 .ruled
+
+  -- One that comes back: there is a closed run from s, of at least 1 and at most l moves.
+  pub search-back : (l s n : ℕ) → searchFrom g b l s n ≡ back → (k : ℕ) × Away g k s s × (1 ≤ k) × (k ≤ l)
+  search-back l s n e = levels-back l s s 0 l (s ∷ []) (s ∷ []) n (omega arith) (level-first g s s) e
