@@ -13,7 +13,7 @@ use borrow.Author.Tests.{eqb-true, eqb-false}
 use Rattle.plain.specs.Lists.{elem, In}
 use Rattle.plain.specs.Search.{Graph}
 use Rattle.plain.specs.Cycles.{Run}
-use Rattle.plain.specs.Shortest.{leads, noted, Sweep, through, back, stopped, sweep, targetsOf, levels, searchFrom}
+use Rattle.plain.specs.Shortest.{leads, noted, Sweep, through, back, stopped, sweep, targetsOf, levels, searchFrom, Attempt, succeeded, ranOut, ruledOut, Hunt, foundAt, leftAt, attempt, hunt}
 use Rattle.plain.proofs.Tests.{either, in-nil, in-head, in-tail, in-cases, in-one, in-append, in-left, in-right}
 use Rattle.plain.proofs.Reached.{Away, Near, away-snoc, last-move, leads-run, run-leads}
 
@@ -260,3 +260,132 @@ module _ (g : Graph) (b : ℕ) where
   -- One that comes back: there is a closed run from s, of at least 1 and at most l moves.
   pub search-back : (l s n : ℕ) → searchFrom g b l s n ≡ back → (k : ℕ) × Away g k s s × (1 ≤ k) × (k ≤ l)
   search-back l s n e = levels-back l s s 0 l (s ∷ []) (s ∷ []) n (omega arith) (level-first g s s) e
+
+-- ---- the lengths
+
+ran-ruled : {n : ℕ} → ranOut ≡ ruledOut n → ⊥
+ran-ruled e = let z : _≡_ {A = ℕ} 0 1 = cc in omega arith
+
+succeeded-ruled : {n : ℕ} → succeeded ≡ ruledOut n → ⊥
+succeeded-ruled e = let z : _≡_ {A = ℕ} 0 1 = cc in omega arith
+
+ran-succeeded : ranOut ≡ succeeded → ⊥
+ran-succeeded e = let z : _≡_ {A = ℕ} 0 1 = cc in omega arith
+
+found-left : {k l : ℕ} → foundAt k ≡ leftAt l → ⊥
+found-left e = let z : _≡_ {A = ℕ} 0 1 = cc in omega arith
+
+same-found : {k l : ℕ} → foundAt k ≡ foundAt l → k ≡ l
+same-found e = cc
+
+same-left : {k l : ℕ} → leftAt k ≡ leftAt l → k ≡ l
+same-left e = cc
+
+module _ (g : Graph) (b : ℕ) where
+  -- the first of some searches for one length: it runs through and the others follow, it comes back, or the budget is used up
+  pub record Fails (l s : ℕ) (ss : List ℕ) (n : ℕ) : Type 0 where
+    pub seen : List ℕ
+    pub looks : ℕ
+    pub searched : searchFrom g b l s n ≡ through seen looks
+    pub then : attempt g b l (s ∷ ss) n ≡ attempt g b l ss looks
+
+  abbrev AttemptCases : ℕ → ℕ → List ℕ → ℕ → Type 0
+  AttemptCases l s ss n = Fails l s ss n ⊎ (((searchFrom g b l s n ≡ back) × (attempt g b l (s ∷ ss) n ≡ succeeded)) ⊎ (attempt g b l (s ∷ ss) n ≡ ranOut))
+
+  pub attempt-cases : (l s : ℕ) (ss : List ℕ) (n : ℕ) → AttemptCases l s ss n
+  unfolding attempt
+  attempt-cases l s ss n = by-search (searchFrom g b l s n) refl
+    where
+      by-search : (w : Sweep) → searchFrom g b l s n ≡ w → AttemptCases l s ss n
+      by-search (through seen m) e = inl (record { seen = seen; looks = m; searched = e; then = rw (e, attempt) })
+      by-search back e = inr (inl (e, rw (e, attempt)))
+      by-search stopped e = inr (inr (rw (e, attempt)))
+
+  -- A length that is ruled out: every closed run from the states has more moves.
+  pub attempt-ruled : (l : ℕ) (rs : List ℕ) (n m : ℕ) → attempt g b l rs n ≡ ruledOut m → (s : ℕ) → In s rs → Farther g l s s
+  unfolding attempt
+  attempt-ruled l [] n m e s i = absurd (in-nil s i)
+  attempt-ruled l (r ∷ rs) n m e s i = ⊎-elim
+      (λ o. ⊎-elim
+      (λ z. rw z (search-through g b l r n (o .seen) (o .looks) (o .searched)))
+      (attempt-ruled l rs (o .looks) m (sym (o .then) ∙ e) s) (in-cases s r rs i))
+      (⊎-elim (λ o. absurd (succeeded-ruled (sym (o .1) ∙ e))) (λ o. absurd (ran-ruled (sym o ∙ e))))
+      (attempt-cases l r rs n)
+
+  -- A success: one of the states has a closed run of at least 1 and at most l moves.
+  pub attempt-found : (l : ℕ) (rs : List ℕ) (n : ℕ) → attempt g b l rs n ≡ succeeded → (s : ℕ) × In s rs × (k : ℕ) × Away g k s s × (1 ≤ k) × (k ≤ l)
+  unfolding attempt
+  attempt-found l [] n e = absurd (succeeded-ruled (sym e))
+  attempt-found l (r ∷ rs) n e = ⊎-elim
+      (λ o. let q = attempt-found l rs (o .looks) (sym (o .then) ∙ e) in (q .0, in-tail (q .0) r rs (q .1), q .2, q .3, q .4, q .5))
+      (⊎-elim
+      (λ o. let q = search-back g b l r n (o .0) in (r, in-head r rs, q .0, q .1, q .2, q .3))
+      (λ o. absurd (ran-succeeded (sym o ∙ e))))
+      (attempt-cases l r rs n)
+
+-- of closed runs, which have one or more moves, from some states
+module _ (g : Graph) (rs : List ℕ) where
+  -- each has at least l moves
+  abbrev pub AtLeast : ℕ → Type 0
+  AtLeast l = (s : ℕ) → In s rs → (x : ℕ) (xs : List ℕ) → Run g s (x ∷ xs) s → l ≤ length (x ∷ xs)
+
+  -- one has l moves
+  abbrev pub Closes : ℕ → Type 0
+  Closes l = (s : ℕ) × In s rs × (x : ℕ) × (xs : List ℕ) × Run g s (x ∷ xs) s × (length (x ∷ xs) ≡ l)
+
+  pub closes : (s k : ℕ) → In s rs → Away g k s s → 1 ≤ k → Closes k
+  closes s k i (xs, r, e) h = by-moves xs r e
+    where
+      by-moves : (xs : List ℕ) → Run g s xs s → length xs ≡ k → Closes k
+      by-moves [] r e = absurd (omega arith)
+      by-moves (x ∷ xs) r e = (s, i, x, xs, r, e)
+
+  module _ (b : ℕ) where
+    -- the first of some lengths: it is ruled out and the others follow, or not
+    pub record Rules (k l n : ℕ) : Type 0 where
+      pub looks : ℕ
+      pub rules : attempt g b l rs n ≡ ruledOut looks
+      pub then : hunt g b rs (suc k) l n ≡ hunt g b rs k (suc l) looks
+
+    abbrev HuntCases : ℕ → ℕ → ℕ → Type 0
+    HuntCases k l n = Rules k l n ⊎ (((attempt g b l rs n ≡ succeeded) × (hunt g b rs (suc k) l n ≡ foundAt l)) ⊎ (hunt g b rs (suc k) l n ≡ leftAt l))
+
+    pub hunt-cases : (k l n : ℕ) → HuntCases k l n
+    unfolding hunt
+    hunt-cases k l n = by-attempt (attempt g b l rs n) refl
+      where
+        by-attempt : (w : Attempt) → attempt g b l rs n ≡ w → HuntCases k l n
+        by-attempt succeeded e = inr (inl (e, rw (e, hunt)))
+        by-attempt ranOut e = inr (inr (rw (e, hunt)))
+        by-attempt (ruledOut m) e = inl (record { looks = m; rules = e; then = rw (e, hunt) })
+
+    -- Found: a closed run has that many moves, and none has fewer.
+    pub hunt-found : (k l n m : ℕ) → AtLeast l → hunt g b rs k l n ≡ foundAt m → (l ≤ m) × Closes m × AtLeast m
+    unfolding hunt
+    hunt-found zero l n m h e = absurd (found-left (sym e))
+    hunt-found (suc k) l n m h e = ⊎-elim
+        (λ o.
+        let q = hunt-found k (suc l) (o .looks) m (λ s i x xs r. attempt-ruled g b l rs n (o .looks) (o .rules) s i x xs r) (sym (o .then) ∙ e) in
+        (omega (arith, q .0), q .1, q .2))
+        (⊎-elim
+        (λ o.
+        let z : l ≡ m = same-found (sym (o .1) ∙ e) in
+        let q = attempt-found g b l rs n (o .0) in
+        let c = closes (q .0) (q .2) (q .1) (q .3) (q .4) in
+        let d : q .2 ≡ m = omega (arith, h (c .0) (c .1) (c .2) (c .3) (c .4), c .5, q .5) in
+        (omega arith, rw d at c, rw z at h))
+        (λ o. absurd (found-left (sym e ∙ o))))
+        (hunt-cases k l n)
+
+    -- Left: none has fewer.
+    pub hunt-left : (k l n m : ℕ) → AtLeast l → hunt g b rs k l n ≡ leftAt m → (l ≤ m) × AtLeast m
+    unfolding hunt
+    hunt-left zero l n m h e = let z : l ≡ m = same-left e in (omega arith, rw z at h)
+    hunt-left (suc k) l n m h e = ⊎-elim
+        (λ o.
+        let q = hunt-left k (suc l) (o .looks) m (λ s i x xs r. attempt-ruled g b l rs n (o .looks) (o .rules) s i x xs r) (sym (o .then) ∙ e) in
+        (omega (arith, q .0), q .1))
+        (⊎-elim
+        (λ o. absurd (found-left (sym (o .1) ∙ e)))
+        (λ o. let z : l ≡ m = same-left (sym o ∙ e) in (omega arith, rw z at h)))
+        (hunt-cases k l n)
