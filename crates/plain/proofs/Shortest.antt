@@ -6,16 +6,27 @@ use mathlib.Core.List.{List, [], _∷_, _++_, append-assoc, append-nil}
 use Prim.Native.Nat.{ℕ, zero, suc, _+_, _≤_, _<_}
 use native.Mathlib.Decide.{decLe}
 use native.Mathlib.Omega.{arith}
-use lib.Dec.{eqb, leb}
-use lib.ListN.{length, drop}
+use lib.Dec.{eqb, ltb, leb}
+use lib.ListN.{length, drop, length-append, length-map}
 use lib.Seq.{drop-append-seam}
-use borrow.Author.Tests.{eqb-true, eqb-false}
+use borrow.Author.Tests.{eqb-true, eqb-false, lt-ltb, le-ltb}
 use Rattle.plain.specs.Lists.{elem, In}
-use Rattle.plain.specs.Search.{Graph}
-use Rattle.plain.specs.Cycles.{Run}
-use Rattle.plain.specs.Shortest.{leads, noted, Sweep, through, back, stopped, sweep, targetsOf, levels, searchFrom, Attempt, succeeded, ranOut, ruledOut, Hunt, foundAt, leftAt, attempt, hunt}
+use Rattle.plain.specs.Search.{Graph, Verdict, none, lasso, unfinished, verdict}
+use Rattle.plain.specs.Cycles.{Run, Kinded, PassesAll, FullRound, roundLength, FullLasso}
+use Rattle.plain.specs.Layers.{stateAt}
+use Rattle.plain.specs.Table.{Table, carriedBy, graphOf, gameOf, printed, final}
+use Rattle.plain.specs.Shortest.{leads, roots, noted, Sweep, through, back, stopped, sweep, targetsOf, levels, searchFrom, Attempt, succeeded, ranOut, ruledOut, Hunt, foundAt, leftAt, attempt, hunt}
+use Rattle.plain.specs.Refusals.{firstHeld}
+use Rattle.plain.specs.Questions.{short, noReply, shortest, noRound, questionTrial, huntIn, lengthsFor, shortReply, questionReply, replyTo, replyLine}
+use Rattle.plain.specs.Claims.{Arises, LengthsTrue, LineTrue}
 use Rattle.plain.proofs.Tests.{either, in-nil, in-head, in-tail, in-cases, in-one, in-append, in-left, in-right}
-use Rattle.plain.proofs.Reached.{Away, Near, away-snoc, last-move, leads-run, run-leads}
+use Rattle.plain.proofs.Runs.{run-join, reach-join}
+use Rattle.plain.proofs.Passing.{run-last}
+use Rattle.plain.proofs.LayerWalks.{to-end}
+use Rattle.plain.proofs.Trials.{held-first, held-later}
+use Rattle.plain.proofs.Tables.{Valid, valid}
+use Rattle.plain.proofs.Demands.{inside-game, verdict-right}
+use Rattle.plain.proofs.Reached.{Away, Near, away-snoc, last-move, leads-run, run-leads, root-reached, reached-root}
 
 stopped-through : {seen : List ℕ} {n : ℕ} → stopped ≡ through seen n → ⊥
 stopped-through e = let z : _≡_ {A = ℕ} 0 1 = cc in omega arith
@@ -389,3 +400,194 @@ module _ (g : Graph) (rs : List ℕ) where
         (λ o. absurd (found-left (sym (o .1) ∙ e)))
         (λ o. let z : l ≡ m = same-left (sym o ∙ e) in (omega arith, rw z at h)))
         (hunt-cases k l n)
+
+-- ---- rounds, and closed runs from a state that is searched from
+
+module _ (g : Graph) where
+  -- at a state that it comes to, a run splits: one or more moves, and the rest
+  split : (xs : List ℕ) (a b c : ℕ) → Run g a xs b → In c xs → (us : List ℕ) × (vs : List ℕ) × Run g a us c × Run g c vs b × (length us + length vs ≡ length xs)
+  split [] a b c r i = absurd (in-nil c i)
+  split (x ∷ xs) a b c r i = ⊎-elim
+      (λ e. rw e (x ∷ [], xs, (r .0, refl), r .1, omega arith))
+      (λ j. let q = split xs x b c (r .1) j in (x ∷ q .0, q .1, (r .0, q .2), q .3, omega (arith, q .4)))
+      (in-cases c x xs i)
+
+  -- a closed run can be begun at any state that it comes to
+  pub rotated : (xs : List ℕ) (a c : ℕ) → Run g a xs a → In c xs → Away g (length xs) c c
+  rotated xs a c r i =
+      let q = split xs a a c r i in
+      (q .1 ++ q .0, run-join g (q .1) (q .0) c a c (q .3) (q .2), omega (arith, length-append (q .1) (q .0), q .4))
+
+-- the round of a walk has as many moves as it has states
+pub walk-round : (a : Kinded) (stem cycle : List ℕ) → FullLasso a stem cycle → (f : FullRound a) × (roundLength a f ≡ length cycle)
+walk-round a stem cycle w = ahead (w .others) (w .closes) all (ap length (w .cycle-is))
+  where
+    all : PassesAll a (w .others ++ (w .entry ∷ []))
+    all kind h = let q = w .passes-all kind h in (q .0, to-end (w .entry) (q .0) (w .others) (rw (w .cycle-is) at (q .1)), q .2)
+
+    round : (x : ℕ) (xs : List ℕ) → Run (a .graph) (w .entry) (x ∷ xs) (w .entry) → PassesAll a (x ∷ xs) → length cycle ≡ length (x ∷ xs) → (f : FullRound a) × (roundLength a f ≡ length cycle)
+    round x xs r p e = (
+      record {
+        origin = w .entry;
+        first = x;
+        others = xs;
+        closed = r;
+        passes-all = p;
+        way = w .way;
+        entry = w .entry;
+        leads = w .leads;
+        enters = run-last (a .graph) xs (w .entry) x (w .entry) r;
+      },
+      sym e,
+    )
+
+    ahead : (xs : List ℕ) → Run (a .graph) (w .entry) (xs ++ (w .entry ∷ [])) (w .entry) → PassesAll a (xs ++ (w .entry ∷ [])) → length cycle ≡ length (w .entry ∷ xs)
+        → (f : FullRound a) × (roundLength a f ≡ length cycle)
+    ahead [] r p e = round (w .entry) [] r p e
+    ahead (x ∷ xs) r p e = round x (xs ++ (w .entry ∷ [])) r p (omega (arith, length-append xs (w .entry ∷ [])))
+
+-- the states of a table that are searched from
+abbrev pub rootsOf : Table → List ℕ
+rootsOf t = roots (graphOf t) (t .size)
+
+module _ (t : Table) (v : Valid t) (one : t .kinds ≡ 1) where
+  -- A round of the game, begun at a paying state that it passes.
+  pub round-root : (f : FullRound (gameOf t)) → Closes (graphOf t) (rootsOf t) (roundLength (gameOf t) f)
+  round-root f =
+      let g = graphOf t in
+      let xs = f .first ∷ f .others in
+      let i = inside-game t v in
+      let p = f .passes-all 0 (omega (arith, one)) in
+      let e = split g xs (f .origin) (f .origin) (f .entry) (f .closed) (f .enters) in
+      let q = split g xs (f .origin) (f .origin) (p .0) (f .closed) (p .1) in
+      let way = reach-join g (g .start) (f .origin) (p .0) (reach-join g (g .start) (f .entry) (f .origin) (f .way, f .leads) (e .1, e .3)) (q .0, q .2) in
+      closes g (rootsOf t) (p .0) (length xs) (reached-root g (t .size) (i .begins) (i .stays) (p .0) (p .2) way) (rotated g xs (f .origin) (p .0) (f .closed) (p .1)) (omega arith)
+
+  -- And a closed run from such a state is a round.
+  pub root-round : (k : ℕ) → Closes (graphOf t) (rootsOf t) k → (f : FullRound (gameOf t)) × (roundLength (gameOf t) f ≡ k)
+  root-round k (s, j, x, xs, r, e) =
+      let i = inside-game t v in
+      let h = root-reached (graphOf t) (t .size) (i .begins) (i .stays) s j in
+      let last = run-last (graphOf t) xs s x s r in (
+        record {
+          origin = s;
+          first = x;
+          others = xs;
+          closed = r;
+          passes-all = λ kind d. let z : kind ≡ 0 = omega (arith, one) in (s, last, ap (λ m. carriedBy (t .marks) m s) z ∙ h .0);
+          way = h .1 .0;
+          entry = s;
+          leads = h .1 .1;
+          enters = last;
+        },
+        e,
+      )
+
+-- ---- the line `short`
+
+-- with one kind it is not refused
+short-accepted : (t : Table) (b : ℕ) → t .kinds ≡ 1 → replyTo (short b) t ≡ shortReply (verdict (final t)) b t
+unfolding replyTo questionTrial questionReply firstHeld
+short-accepted t b one = ap (λ w. questionReply w (short b) t) (held-later (17, ltb 1 (t .kinds)) [] (le-ltb 1 (t .kinds) (omega (arith, one))))
+
+short-refused : (t : Table) (b : ℕ) → 1 < t .kinds → replyTo (short b) t ≡ noReply 17
+unfolding replyTo questionTrial questionReply
+short-refused t b h = ap (λ w. questionReply w (short b) t) (held-first (17, ltb 1 (t .kinds)) [] (lt-ltb 1 (t .kinds) h))
+
+shortest-none : {best least : ℕ} → shortest best least ≡ noRound → ⊥
+shortest-none e = let z : _≡_ {A = ℕ} 0 1 = cc in omega arith
+
+refusal-none : {n : ℕ} → noReply n ≡ noRound → ⊥
+refusal-none e = let z : _≡_ {A = ℕ} 0 1 = cc in omega arith
+
+module _ (t : Table) (v : Valid t) where
+  -- "17, K is above 1"
+  pub several-kinds : (b : ℕ) → 1 < t .kinds → replyTo (short b) t ≡ noReply 17
+  several-kinds b h = short-refused t b h
+
+  -- "With no round the line is `none` alone, for every B."
+  pub none-if : (b : ℕ) → t .kinds ≡ 1 → (FullRound (gameOf t) → ⊥) → replyTo (short b) t ≡ noRound
+  unfolding shortReply
+  none-if b one n = short-accepted t b one ∙ ap (λ w. shortReply w b t) (verdict-right t v .none-if n)
+
+  module _ (one : t .kinds ≡ 1) where
+    -- what is ruled out for closed runs is ruled out for rounds
+    pub none-shorter : (l : ℕ) → AtLeast (graphOf t) (rootsOf t) l → (f : FullRound (gameOf t)) → l ≤ roundLength (gameOf t) f
+    none-shorter l h f = let c = round-root t v one f in omega (arith, h (c .0) (c .1) (c .2) (c .3) (c .4), c .5)
+
+    -- the present walk's round
+    pub present-round : (stem cycle : List ℕ) → verdict (final t) ≡ lasso stem cycle → (f : FullRound (gameOf t)) × (roundLength (gameOf t) f ≡ length cycle)
+    unfolding printed
+    present-round stem cycle e =
+        let w = walk-round (gameOf t) (printed t stem) (printed t cycle) (verdict-right t v .walk stem cycle e) in
+        (w .0, w .1 ∙ length-map cycle (stateAt (gameOf t)))
+
+    lengths-found : (b k l : ℕ) → huntIn t b k ≡ foundAt l → LengthsTrue t l l
+    unfolding huntIn
+    lengths-found b k l e =
+        let h = hunt-found (graphOf t) (rootsOf t) b k 1 0 l (λ s i x xs r. omega arith) e in
+        let f = root-round t v one l (h .1) in
+        record { round = f .0; best-is = f .1; none-shorter = none-shorter l (h .2); ordered = omega arith }
+
+    lengths-left : (b l : ℕ) (stem cycle : List ℕ) → verdict (final t) ≡ lasso stem cycle → huntIn t b (length cycle) ≡ leftAt l → LengthsTrue t (length cycle) l
+    unfolding huntIn
+    lengths-left b l stem cycle w e =
+        let h = hunt-left (graphOf t) (rootsOf t) b (length cycle) 1 0 l (λ s i x xs r. omega arith) e in
+        let f = present-round stem cycle w in
+        let n = none-shorter l (h .1) in
+        record { round = f .0; best-is = f .1; none-shorter = n; ordered = omega (arith, n (f .0), f .1) }
+
+  -- "Found within B, both are the shortest length.", over all free rounds of the table
+  pub found : (b l : ℕ) (stem cycle : List ℕ) → t .kinds ≡ 1 → verdict (final t) ≡ lasso stem cycle → huntIn t b (length cycle) ≡ foundAt l
+      → (replyTo (short b) t ≡ shortest l l) × LengthsTrue t l l
+  unfolding shortReply lengthsFor
+  found b l stem cycle one w e =
+      (short-accepted t b one ∙ ap (λ x. shortReply x b t) w ∙ ap (lengthsFor (length cycle)) e, lengths-found one b (length cycle) l e)
+
+  -- "Otherwise the first is the present walk's round length", and no free round is shorter than the second
+  pub otherwise : (b l : ℕ) (stem cycle : List ℕ) → t .kinds ≡ 1 → verdict (final t) ≡ lasso stem cycle → huntIn t b (length cycle) ≡ leftAt l
+      → (replyTo (short b) t ≡ shortest (length cycle) l) × LengthsTrue t (length cycle) l
+  unfolding shortReply lengthsFor
+  otherwise b l stem cycle one w e =
+      (short-accepted t b one ∙ ap (λ x. shortReply x b t) w ∙ ap (lengthsFor (length cycle)) e, lengths-left one b l stem cycle w e)
+
+  -- What can be replied, with one kind: that there is no round, or two lengths.
+  pub data Replied (b : ℕ) : Type 0 where
+    no-round : replyTo (short b) t ≡ noRound → (FullRound (gameOf t) → ⊥) → Replied b
+    lengths : (best least : ℕ) → replyTo (short b) t ≡ shortest best least → LengthsTrue t best least → Replied b
+
+  pub replied : (b : ℕ) → t .kinds ≡ 1 → Replied b
+  replied b one = by-verdict (verdict (final t)) refl
+    where
+      by-hunt : (stem cycle : List ℕ) → verdict (final t) ≡ lasso stem cycle → (h : Hunt) → huntIn t b (length cycle) ≡ h → Replied b
+      by-hunt stem cycle w (foundAt l) e = let r = found b l stem cycle one w e in lengths l l (r .0) (r .1)
+      by-hunt stem cycle w (leftAt l) e = let r = otherwise b l stem cycle one w e in lengths (length cycle) l (r .0) (r .1)
+
+      by-verdict : (w : Verdict) → verdict (final t) ≡ w → Replied b
+      by-verdict none e = let n = verdict-right t v .none-only e in no-round (none-if b one n) n
+      by-verdict (lasso stem cycle) e = by-hunt stem cycle e (huntIn t b (length cycle)) refl
+      by-verdict unfinished e = absurd (verdict-right t v .ends e)
+
+  -- a table has one kind, or several
+  one-or-several : (t .kinds ≡ 1) ⊎ (1 < t .kinds)
+  one-or-several = elim (decLe (t .kinds) 1) [ yes h ↦ inl (omega (arith, v .some-kind)) | no h ↦ inr (omega arith) ]
+
+  pub none-only : (b : ℕ) → replyTo (short b) t ≡ noRound → FullRound (gameOf t) → ⊥
+  none-only b e f = ⊎-elim (λ one. by-reply (replied b one)) (λ h. refusal-none (sym (several-kinds b h) ∙ e)) one-or-several
+    where
+      by-reply : Replied b → ⊥
+      by-reply (no-round r n) = n f
+      by-reply (lengths best least r l) = shortest-none (sym r ∙ e)
+
+  -- The line that tells it is true.
+  pub line-true : (b : ℕ) → LineTrue (replyLine (replyTo (short b) t)) t
+  unfolding replyLine
+  line-true b = ⊎-elim (λ one. by-reply (replied b one)) (λ h. rw (several-kinds b h) (λ z. omega arith)) one-or-several
+    where
+      by-reply : Replied b → LineTrue (replyLine (replyTo (short b) t)) t
+      by-reply (no-round r n) = rw r n
+      by-reply (lengths best least r l) = rw r l
+
+-- of every table that a session can hold
+pub short-told : (t : Table) → Arises t → (b : ℕ) → LineTrue (replyLine (replyTo (short b) t)) t
+short-told t a b = line-true t (valid t a) b
