@@ -28,38 +28,102 @@ use Rattle.plain.proofs.Tables.{Valid, valid}
 use Rattle.plain.proofs.Demands.{inside-game, verdict-right}
 use Rattle.plain.proofs.Reached.{Away, Near, away-snoc, last-move, leads-run, run-leads, root-reached, reached-root}
 
-stopped-through : {seen : List ℕ} {n : ℕ} → stopped ≡ through seen n → ⊥
-stopped-through e = let z : _≡_ {A = ℕ} 0 1 = cc in omega arith
+-- ---- the definitions, case by case
 
-back-through : {seen : List ℕ} {n : ℕ} → back ≡ through seen n → ⊥
-back-through e = let z : _≡_ {A = ℕ} 0 1 = cc in omega arith
-
-stopped-back : stopped ≡ back → ⊥
-stopped-back e = let z : _≡_ {A = ℕ} 0 1 = cc in omega arith
-
--- ---- one sweep
-
-noted-known : (t : ℕ) (seen : List ℕ) → elem t seen ≡ true → noted t seen ≡ seen
+noted-old : (t : ℕ) (seen : List ℕ) → elem t seen ≡ true → noted t seen ≡ seen
 unfolding noted
-noted-known t seen e = rw (e, noted)
+noted-old t seen e = rw (e, noted)
 
 noted-new : (t : ℕ) (seen : List ℕ) → elem t seen ≡ false → noted t seen ≡ seen ++ (t ∷ [])
 unfolding noted
 noted-new t seen e = rw (e, noted)
 
+module _ (b s t : ℕ) (ts seen : List ℕ) (n : ℕ) where
+  sweep-stop : leb b n ≡ true → sweep b s (t ∷ ts) seen n ≡ stopped
+  unfolding sweep
+  sweep-stop e = rw (e, sweep)
+
+  sweep-back : leb b n ≡ false → eqb t s ≡ true → sweep b s (t ∷ ts) seen n ≡ back
+  unfolding sweep
+  sweep-back e f = rw (e, f, sweep)
+
+  sweep-on : leb b n ≡ false → eqb t s ≡ false → sweep b s (t ∷ ts) seen n ≡ sweep b s ts (noted t seen) (suc n)
+  unfolding sweep
+  sweep-on e f = rw (e, f, sweep)
+
+sweep-cases : (r : Sweep) → ((seen : List ℕ) × (m : ℕ) × (r ≡ through seen m)) ⊎ ((r ≡ back) ⊎ (r ≡ stopped))
+sweep-cases (through seen m) = inl (seen, m, refl)
+sweep-cases back = inr (inl refl)
+sweep-cases stopped = inr (inr refl)
+
+through-stopped : {seen : List ℕ} {m : ℕ} → (r : Sweep) → r ≡ through seen m → r ≡ stopped → ⊥
+through-stopped r p q = let z : _≡_ {A = ℕ} 0 1 = cc in omega arith
+
+through-back : {seen : List ℕ} {m : ℕ} → (r : Sweep) → r ≡ through seen m → r ≡ back → ⊥
+through-back r p q = let z : _≡_ {A = ℕ} 0 1 = cc in omega arith
+
+back-stopped : (r : Sweep) → r ≡ back → r ≡ stopped → ⊥
+back-stopped r p q = let z : _≡_ {A = ℕ} 0 1 = cc in omega arith
+
+same-through : {seen seen′ : List ℕ} {m m′ : ℕ} → through seen m ≡ through seen′ m′ → (seen ≡ seen′) × (m ≡ m′)
+same-through e = ((cc), (cc))
+
+module _ (g : Graph) (b l s : ℕ) (level seen : List ℕ) (n : ℕ) where
+  levels-on : (seen′ : List ℕ) (m : ℕ) → sweep b s (targetsOf g level) seen n ≡ through seen′ m → levels g b (suc l) s level seen n ≡ levels g b l s (drop (length seen) seen′) seen′ m
+  unfolding levels
+  levels-on seen′ m e = rw (e, levels)
+
+  levels-back : sweep b s (targetsOf g level) seen n ≡ back → levels g b (suc l) s level seen n ≡ back
+  unfolding levels
+  levels-back e = rw (e, levels)
+
+  levels-stop : sweep b s (targetsOf g level) seen n ≡ stopped → levels g b (suc l) s level seen n ≡ stopped
+  unfolding levels
+  levels-stop e = rw (e, levels)
+
+module _ (g : Graph) (b l s : ℕ) (ss : List ℕ) (n : ℕ) where
+  attempt-on : (seen : List ℕ) (m : ℕ) → searchFrom g b l s n ≡ through seen m → attempt g b l (s ∷ ss) n ≡ attempt g b l ss m
+  unfolding attempt
+  attempt-on seen m e = rw (e, attempt)
+
+  attempt-back : searchFrom g b l s n ≡ back → attempt g b l (s ∷ ss) n ≡ succeeded
+  unfolding attempt
+  attempt-back e = rw (e, attempt)
+
+  attempt-stop : searchFrom g b l s n ≡ stopped → attempt g b l (s ∷ ss) n ≡ ranOut
+  unfolding attempt
+  attempt-stop e = rw (e, attempt)
+
+attempt-cases : (r : Attempt) → ((m : ℕ) × (r ≡ ruledOut m)) ⊎ ((r ≡ succeeded) ⊎ (r ≡ ranOut))
+attempt-cases (ruledOut m) = inl (m, refl)
+attempt-cases succeeded = inr (inl refl)
+attempt-cases ranOut = inr (inr refl)
+
+ruled-ran : {m : ℕ} → (r : Attempt) → r ≡ ruledOut m → r ≡ ranOut → ⊥
+ruled-ran r p q = let z : _≡_ {A = ℕ} 0 1 = cc in omega arith
+
+ruled-succeeded : {m : ℕ} → (r : Attempt) → r ≡ ruledOut m → r ≡ succeeded → ⊥
+ruled-succeeded r p q = let z : _≡_ {A = ℕ} 0 1 = cc in omega arith
+
+succeeded-ran : (r : Attempt) → r ≡ succeeded → r ≡ ranOut → ⊥
+succeeded-ran r p q = let z : _≡_ {A = ℕ} 0 1 = cc in omega arith
+
+module _ (g : Graph) (b : ℕ) (rs : List ℕ) (k l n : ℕ) where
+  hunt-on : (m : ℕ) → attempt g b l rs n ≡ ruledOut m → hunt g b rs (suc k) l n ≡ hunt g b rs k (suc l) m
+  unfolding hunt
+  hunt-on m e = rw (e, hunt)
+
+  hunt-found : attempt g b l rs n ≡ succeeded → hunt g b rs (suc k) l n ≡ foundAt l
+  unfolding hunt
+  hunt-found e = rw (e, hunt)
+
+  hunt-left : attempt g b l rs n ≡ ranOut → hunt g b rs (suc k) l n ≡ leftAt l
+  unfolding hunt
+  hunt-left e = rw (e, hunt)
+
+-- ---- one sweep
+
 module _ (b s : ℕ) where
-  sweep-stops : (t : ℕ) (ts seen : List ℕ) (n : ℕ) → leb b n ≡ true → sweep b s (t ∷ ts) seen n ≡ stopped
-  unfolding sweep
-  sweep-stops t ts seen n e = rw (e, sweep)
-
-  sweep-back : (t : ℕ) (ts seen : List ℕ) (n : ℕ) → leb b n ≡ false → eqb t s ≡ true → sweep b s (t ∷ ts) seen n ≡ back
-  unfolding sweep
-  sweep-back t ts seen n e f = rw (e, f, sweep)
-
-  sweep-on : (t : ℕ) (ts seen : List ℕ) (n : ℕ) → leb b n ≡ false → eqb t s ≡ false → sweep b s (t ∷ ts) seen n ≡ sweep b s ts (noted t seen) (suc n)
-  unfolding sweep
-  sweep-on t ts seen n e f = rw (e, f, sweep)
-
   -- What a sweep over moves to ts leaves, where none came back: the states seen before, and behind them those of ts that are new.
   pub record Swept (ts seen seen′ : List ℕ) : Type 0 where
     pub news : List ℕ
@@ -71,7 +135,7 @@ module _ (b s : ℕ) where
   swept-more : (t : ℕ) (ts seen seen′ : List ℕ) → t ≢ s → Swept ts (noted t seen) seen′ → Swept (t ∷ ts) seen seen′
   swept-more t ts seen seen′ ne w = ⊎-elim
       (λ e.
-      let g : seen′ ≡ seen ++ w .news = w .grown ∙ ap (λ (l : List ℕ). l ++ w .news) (noted-known t seen e) in
+      let g : seen′ ≡ seen ++ w .news = w .grown ∙ ap (λ (l : List ℕ). l ++ w .news) (noted-old t seen e) in
       record {
         news = w .news;
         grown = g;
@@ -93,26 +157,24 @@ module _ (b s : ℕ) where
 
   pub swept : (ts seen : List ℕ) (n : ℕ) (seen′ : List ℕ) (m : ℕ) → sweep b s ts seen n ≡ through seen′ m → Swept ts seen seen′
   unfolding sweep
-  swept [] seen n seen′ m e =
-      let z : seen ≡ seen′ = cc in
-      record { news = []; grown = sym z ∙ sym (append-nil seen); each = λ t i. absurd (in-nil t i); only = λ t i. i }
+  swept [] seen n seen′ m e = record { news = []; grown = sym (same-through e .0) ∙ sym (append-nil seen); each = λ t i. absurd (in-nil t i); only = λ t i. i }
   swept (t ∷ ts) seen n seen′ m e = ⊎-elim
-      (λ h. absurd (stopped-through (sym (sweep-stops t ts seen n h) ∙ e)))
+      (λ h. absurd (through-stopped _ e (sweep-stop b s t ts seen n h)))
       (λ h. ⊎-elim
-      (λ k. absurd (back-through (sym (sweep-back t ts seen n h k) ∙ e)))
-      (λ k. swept-more t ts seen seen′ (eqb-false t s k) (swept ts (noted t seen) (suc n) seen′ m (sym (sweep-on t ts seen n h k) ∙ e)))
+      (λ k. absurd (through-back _ e (sweep-back b s t ts seen n h k)))
+      (λ k. swept-more t ts seen seen′ (eqb-false t s k) (swept ts (noted t seen) (suc n) seen′ m (sym (sweep-on b s t ts seen n h k) ∙ e)))
       (either (eqb t s)))
       (either (leb b n))
 
   -- a look that came back was at a move to s
   pub swept-back : (ts seen : List ℕ) (n : ℕ) → sweep b s ts seen n ≡ back → In s ts
   unfolding sweep
-  swept-back [] seen n e = absurd (back-through (sym e))
+  swept-back [] seen n e = absurd (through-back _ refl e)
   swept-back (t ∷ ts) seen n e = ⊎-elim
-      (λ h. absurd (stopped-back (sym (sweep-stops t ts seen n h) ∙ e)))
+      (λ h. absurd (back-stopped _ e (sweep-stop b s t ts seen n h)))
       (λ h. ⊎-elim
       (λ k. rw (eqb-true t s k) (in-head s ts))
-      (λ k. in-tail s t ts (swept-back ts (noted t seen) (suc n) (sym (sweep-on t ts seen n h k) ∙ e)))
+      (λ k. in-tail s t ts (swept-back ts (noted t seen) (suc n) (sym (sweep-on b s t ts seen n h k) ∙ e)))
       (either (eqb t s)))
       (either (leb b n))
 
@@ -197,54 +259,31 @@ module _ (g : Graph) where
       ]
 
 module _ (g : Graph) (b : ℕ) where
-  -- the first of some levels: its moves are looked at and the others follow, a look comes back, or the budget is used up
-  pub record Goes (l s : ℕ) (level seen : List ℕ) (n : ℕ) : Type 0 where
-    pub seen′ : List ℕ
-    pub looks : ℕ
-    pub sweeps : sweep b s (targetsOf g level) seen n ≡ through seen′ looks
-    pub then : levels g b (suc l) s level seen n ≡ levels g b l s (drop (length seen) seen′) seen′ looks
-
-  pub levels-cases : (l s : ℕ) (level seen : List ℕ) (n : ℕ)
-      → Goes l s level seen n ⊎ (((sweep b s (targetsOf g level) seen n ≡ back) × (levels g b (suc l) s level seen n ≡ back)) ⊎ (levels g b (suc l) s level seen n ≡ stopped))
-  unfolding levels
-  levels-cases l s level seen n = by-sweep (sweep b s (targetsOf g level) seen n) refl
-    where
-      by-sweep : (w : Sweep) → sweep b s (targetsOf g level) seen n ≡ w
-          → Goes l s level seen n ⊎ (((sweep b s (targetsOf g level) seen n ≡ back) × (levels g b (suc l) s level seen n ≡ back)) ⊎ (levels g b (suc l) s level seen n ≡ stopped))
-      by-sweep (through seen′ m) e = inl (record { seen′ = seen′; looks = m; sweeps = e; then = rw (e, levels) })
-      by-sweep back e = inr (inl (e, rw (e, levels)))
-      by-sweep stopped e = inr (inr (rw (e, levels)))
-
-  goes-next : (a l s d : ℕ) (level seen : List ℕ) (n : ℕ) → Level g a s d level seen → (o : Goes l s level seen n) → Level g a s (suc d) (drop (length seen) (o .seen′)) (o .seen′)
-  goes-next a l s d level seen n v o =
-      level-next g b a s d level seen (o .seen′) v (swept b s (targetsOf g level) seen n (o .seen′) (o .looks) (o .sweeps))
-
   -- What l levels come to, from distance d on. None came back: the states seen are those at most D = d + l moves away.
   levels-through : (l a s d D : ℕ) (level seen : List ℕ) (n : ℕ) (seen′ : List ℕ) (m : ℕ) → d + l ≡ D → Level g a s d level seen → levels g b l s level seen n ≡ through seen′ m
       → (level′ : List ℕ) × Level g a s D level′ seen′
   unfolding levels
-  levels-through zero a s d D level seen n seen′ m h v e =
-      let z : seen ≡ seen′ = cc in
-      let k : d ≡ D = omega arith in
-      (level, rw (← z, ← k) v)
+  levels-through zero a s d D level seen n seen′ m h v e = let k : d ≡ D = omega arith in (level, rw (← same-through e .0, ← k) v)
   levels-through (suc l) a s d D level seen n seen′ m h v e = ⊎-elim
-      (λ o. levels-through l a s (suc d) D (drop (length seen) (o .seen′)) (o .seen′) (o .looks) seen′ m (omega arith) (goes-next a l s d level seen n v o) (sym (o .then) ∙ e))
-      (⊎-elim (λ o. absurd (back-through (sym (o .1) ∙ e))) (λ o. absurd (stopped-through (sym o ∙ e))))
-      (levels-cases l s level seen n)
+      (λ r. levels-through l a s (suc d) D (drop (length seen) (r .0)) (r .0) (r .1) seen′ m (omega arith)
+      (level-next g b a s d level seen (r .0) v (swept b s (targetsOf g level) seen n (r .0) (r .1) (r .2))) (sym (levels-on g b l s level seen n (r .0) (r .1) (r .2)) ∙ e))
+      (⊎-elim (λ r. absurd (through-back _ e (levels-back g b l s level seen n r))) (λ r. absurd (through-stopped _ e (levels-stop g b l s level seen n r))))
+      (sweep-cases (sweep b s (targetsOf g level) seen n))
 
   -- A look came back: a run of one or more moves leads from a to s, of at most D moves.
-  levels-back : (l a s d D : ℕ) (level seen : List ℕ) (n : ℕ) → d + l ≡ D → Level g a s d level seen → levels g b l s level seen n ≡ back
+  levels-return : (l a s d D : ℕ) (level seen : List ℕ) (n : ℕ) → d + l ≡ D → Level g a s d level seen → levels g b l s level seen n ≡ back
       → (k : ℕ) × Away g k a s × (1 ≤ k) × (k ≤ D)
   unfolding levels
-  levels-back zero a s d D level seen n h v e = absurd (back-through (sym e))
-  levels-back (suc l) a s d D level seen n h v e = ⊎-elim
-      (λ o. levels-back l a s (suc d) D (drop (length seen) (o .seen′)) (o .seen′) (o .looks) (omega arith) (goes-next a l s d level seen n v o) (sym (o .then) ∙ e))
+  levels-return zero a s d D level seen n h v e = absurd (through-back _ refl e)
+  levels-return (suc l) a s d D level seen n h v e = ⊎-elim
+      (λ r. levels-return l a s (suc d) D (drop (length seen) (r .0)) (r .0) (r .1) (omega arith)
+      (level-next g b a s d level seen (r .0) v (swept b s (targetsOf g level) seen n (r .0) (r .1) (r .2))) (sym (levels-on g b l s level seen n (r .0) (r .1) (r .2)) ∙ e))
       (⊎-elim
-      (λ o.
-      let t = targets-in g s level (swept-back b s (targetsOf g level) seen n (o .0)) in
+      (λ r.
+      let t = targets-in g s level (swept-back b s (targetsOf g level) seen n r) in
       (suc d, away-snoc g d a (t .0) s (v .away (t .0) (t .1)) (t .2), omega arith, omega arith))
-      (λ o. absurd (stopped-back (sym o ∙ e))))
-      (levels-cases l s level seen n)
+      (λ r. absurd (back-stopped _ e (levels-stop g b l s level seen n r))))
+      (sweep-cases (sweep b s (targetsOf g level) seen n))
 
   -- A search from a that runs through its l levels has seen the states that at most l moves lead to.
   pub levels-seen : (l a s n : ℕ) (seen : List ℕ) (m : ℕ) → levels g b l s (a ∷ []) (a ∷ []) n ≡ through seen m
@@ -256,13 +295,13 @@ module _ (g : Graph) (b : ℕ) where
   -- No look comes back to what is the target of no move.
   pub levels-never-back : (s : ℕ) → ((y z : ℕ) → In z (g .successors y) → z ≢ s) → (l : ℕ) (level seen : List ℕ) (n : ℕ) → levels g b l s level seen n ≢ back
   unfolding levels
-  levels-never-back s away zero level seen n e = back-through (sym e)
+  levels-never-back s away zero level seen n e = through-back _ refl e
   levels-never-back s away (suc l) level seen n e = ⊎-elim
-      (λ o. levels-never-back s away l (drop (length seen) (o .seen′)) (o .seen′) (o .looks) (sym (o .then) ∙ e))
+      (λ r. levels-never-back s away l (drop (length seen) (r .0)) (r .0) (r .1) (sym (levels-on g b l s level seen n (r .0) (r .1) (r .2)) ∙ e))
       (⊎-elim
-      (λ o. let t = targets-in g s level (swept-back b s (targetsOf g level) seen n (o .0)) in away (t .0) s (t .2) refl)
-      (λ o. stopped-back (sym o ∙ e)))
-      (levels-cases l s level seen n)
+      (λ r. let t = targets-in g s level (swept-back b s (targetsOf g level) seen n r) in away (t .0) s (t .2) refl)
+      (λ r. back-stopped _ e (levels-stop g b l s level seen n r)))
+      (sweep-cases (sweep b s (targetsOf g level) seen n))
 
   -- A search from s that runs through: every closed run from s has more than l moves.
   pub search-through : (l s n : ℕ) (seen : List ℕ) (m : ℕ) → searchFrom g b l s n ≡ through seen m → Farther g l s s
@@ -270,69 +309,41 @@ module _ (g : Graph) (b : ℕ) where
 
   -- One that comes back: there is a closed run from s, of at least 1 and at most l moves.
   pub search-back : (l s n : ℕ) → searchFrom g b l s n ≡ back → (k : ℕ) × Away g k s s × (1 ≤ k) × (k ≤ l)
-  search-back l s n e = levels-back l s s 0 l (s ∷ []) (s ∷ []) n (omega arith) (level-first g s s) e
+  search-back l s n e = levels-return l s s 0 l (s ∷ []) (s ∷ []) n (omega arith) (level-first g s s) e
 
 -- ---- the lengths
 
-ran-ruled : {n : ℕ} → ranOut ≡ ruledOut n → ⊥
-ran-ruled e = let z : _≡_ {A = ℕ} 0 1 = cc in omega arith
-
-succeeded-ruled : {n : ℕ} → succeeded ≡ ruledOut n → ⊥
-succeeded-ruled e = let z : _≡_ {A = ℕ} 0 1 = cc in omega arith
-
-ran-succeeded : ranOut ≡ succeeded → ⊥
-ran-succeeded e = let z : _≡_ {A = ℕ} 0 1 = cc in omega arith
-
-found-left : {k l : ℕ} → foundAt k ≡ leftAt l → ⊥
-found-left e = let z : _≡_ {A = ℕ} 0 1 = cc in omega arith
-
-same-found : {k l : ℕ} → foundAt k ≡ foundAt l → k ≡ l
-same-found e = cc
-
-same-left : {k l : ℕ} → leftAt k ≡ leftAt l → k ≡ l
-same-left e = cc
-
 module _ (g : Graph) (b : ℕ) where
-  -- the first of some searches for one length: it runs through and the others follow, it comes back, or the budget is used up
-  pub record Fails (l s : ℕ) (ss : List ℕ) (n : ℕ) : Type 0 where
-    pub seen : List ℕ
-    pub looks : ℕ
-    pub searched : searchFrom g b l s n ≡ through seen looks
-    pub then : attempt g b l (s ∷ ss) n ≡ attempt g b l ss looks
-
-  abbrev AttemptCases : ℕ → ℕ → List ℕ → ℕ → Type 0
-  AttemptCases l s ss n = Fails l s ss n ⊎ (((searchFrom g b l s n ≡ back) × (attempt g b l (s ∷ ss) n ≡ succeeded)) ⊎ (attempt g b l (s ∷ ss) n ≡ ranOut))
-
-  pub attempt-cases : (l s : ℕ) (ss : List ℕ) (n : ℕ) → AttemptCases l s ss n
-  unfolding attempt
-  attempt-cases l s ss n = by-search (searchFrom g b l s n) refl
-    where
-      by-search : (w : Sweep) → searchFrom g b l s n ≡ w → AttemptCases l s ss n
-      by-search (through seen m) e = inl (record { seen = seen; looks = m; searched = e; then = rw (e, attempt) })
-      by-search back e = inr (inl (e, rw (e, attempt)))
-      by-search stopped e = inr (inr (rw (e, attempt)))
-
   -- A length that is ruled out: every closed run from the states has more moves.
   pub attempt-ruled : (l : ℕ) (rs : List ℕ) (n m : ℕ) → attempt g b l rs n ≡ ruledOut m → (s : ℕ) → In s rs → Farther g l s s
   unfolding attempt
   attempt-ruled l [] n m e s i = absurd (in-nil s i)
   attempt-ruled l (r ∷ rs) n m e s i = ⊎-elim
       (λ o. ⊎-elim
-      (λ z. rw z (search-through g b l r n (o .seen) (o .looks) (o .searched)))
-      (attempt-ruled l rs (o .looks) m (sym (o .then) ∙ e) s) (in-cases s r rs i))
-      (⊎-elim (λ o. absurd (succeeded-ruled (sym (o .1) ∙ e))) (λ o. absurd (ran-ruled (sym o ∙ e))))
-      (attempt-cases l r rs n)
+      (λ z. rw z (search-through g b l r n (o .0) (o .1) (o .2)))
+      (attempt-ruled l rs (o .1) m (sym (attempt-on g b l r rs n (o .0) (o .1) (o .2)) ∙ e) s) (in-cases s r rs i))
+      (⊎-elim (λ o. absurd (ruled-succeeded _ e (attempt-back g b l r rs n o))) (λ o. absurd (ruled-ran _ e (attempt-stop g b l r rs n o))))
+      (sweep-cases (searchFrom g b l r n))
 
   -- A success: one of the states has a closed run of at least 1 and at most l moves.
   pub attempt-found : (l : ℕ) (rs : List ℕ) (n : ℕ) → attempt g b l rs n ≡ succeeded → (s : ℕ) × In s rs × (k : ℕ) × Away g k s s × (1 ≤ k) × (k ≤ l)
   unfolding attempt
-  attempt-found l [] n e = absurd (succeeded-ruled (sym e))
+  attempt-found l [] n e = absurd (ruled-succeeded _ refl e)
   attempt-found l (r ∷ rs) n e = ⊎-elim
-      (λ o. let q = attempt-found l rs (o .looks) (sym (o .then) ∙ e) in (q .0, in-tail (q .0) r rs (q .1), q .2, q .3, q .4, q .5))
+      (λ o. let q = attempt-found l rs (o .1) (sym (attempt-on g b l r rs n (o .0) (o .1) (o .2)) ∙ e) in (q .0, in-tail (q .0) r rs (q .1), q .2, q .3, q .4, q .5))
       (⊎-elim
-      (λ o. let q = search-back g b l r n (o .0) in (r, in-head r rs, q .0, q .1, q .2, q .3))
-      (λ o. absurd (ran-succeeded (sym o ∙ e))))
-      (attempt-cases l r rs n)
+      (λ o. let q = search-back g b l r n o in (r, in-head r rs, q .0, q .1, q .2, q .3))
+      (λ o. absurd (succeeded-ran _ e (attempt-stop g b l r rs n o))))
+      (sweep-cases (searchFrom g b l r n))
+
+found-left : {k l : ℕ} → (r : Hunt) → r ≡ foundAt k → r ≡ leftAt l → ⊥
+found-left r p q = let z : _≡_ {A = ℕ} 0 1 = cc in omega arith
+
+same-found : {k l : ℕ} → foundAt k ≡ foundAt l → k ≡ l
+same-found e = cc
+
+same-left : {k l : ℕ} → leftAt k ≡ leftAt l → k ≡ l
+same-left e = cc
 
 -- of closed runs, which have one or more moves, from some states
 module _ (g : Graph) (rs : List ℕ) where
@@ -352,54 +363,32 @@ module _ (g : Graph) (rs : List ℕ) where
       by-moves (x ∷ xs) r e = (s, i, x, xs, r, e)
 
   module _ (b : ℕ) where
-    -- the first of some lengths: it is ruled out and the others follow, or not
-    pub record Rules (k l n : ℕ) : Type 0 where
-      pub looks : ℕ
-      pub rules : attempt g b l rs n ≡ ruledOut looks
-      pub then : hunt g b rs (suc k) l n ≡ hunt g b rs k (suc l) looks
-
-    abbrev HuntCases : ℕ → ℕ → ℕ → Type 0
-    HuntCases k l n = Rules k l n ⊎ (((attempt g b l rs n ≡ succeeded) × (hunt g b rs (suc k) l n ≡ foundAt l)) ⊎ (hunt g b rs (suc k) l n ≡ leftAt l))
-
-    pub hunt-cases : (k l n : ℕ) → HuntCases k l n
-    unfolding hunt
-    hunt-cases k l n = by-attempt (attempt g b l rs n) refl
-      where
-        by-attempt : (w : Attempt) → attempt g b l rs n ≡ w → HuntCases k l n
-        by-attempt succeeded e = inr (inl (e, rw (e, hunt)))
-        by-attempt ranOut e = inr (inr (rw (e, hunt)))
-        by-attempt (ruledOut m) e = inl (record { looks = m; rules = e; then = rw (e, hunt) })
-
     -- Found: a closed run has that many moves, and none has fewer.
-    pub hunt-found : (k l n m : ℕ) → AtLeast l → hunt g b rs k l n ≡ foundAt m → (l ≤ m) × Closes m × AtLeast m
+    pub hunt-finds : (k l n m : ℕ) → AtLeast l → hunt g b rs k l n ≡ foundAt m → (l ≤ m) × Closes m × AtLeast m
     unfolding hunt
-    hunt-found zero l n m h e = absurd (found-left (sym e))
-    hunt-found (suc k) l n m h e = ⊎-elim
-        (λ o.
-        let q = hunt-found k (suc l) (o .looks) m (λ s i x xs r. attempt-ruled g b l rs n (o .looks) (o .rules) s i x xs r) (sym (o .then) ∙ e) in
-        (omega (arith, q .0), q .1, q .2))
+    hunt-finds zero l n m h e = absurd (found-left _ e refl)
+    hunt-finds (suc k) l n m h e = ⊎-elim
+        (λ o. let q = hunt-finds k (suc l) (o .0) m (attempt-ruled g b l rs n (o .0) (o .1)) (sym (hunt-on g b rs k l n (o .0) (o .1)) ∙ e) in (omega (arith, q .0), q .1, q .2))
         (⊎-elim
         (λ o.
-        let z : l ≡ m = same-found (sym (o .1) ∙ e) in
-        let q = attempt-found g b l rs n (o .0) in
+        let z : l ≡ m = same-found (sym (hunt-found g b rs k l n o) ∙ e) in
+        let q = attempt-found g b l rs n o in
         let c = closes (q .0) (q .2) (q .1) (q .3) (q .4) in
         let d : q .2 ≡ m = omega (arith, h (c .0) (c .1) (c .2) (c .3) (c .4), c .5, q .5) in
         (omega arith, rw d at c, rw z at h))
-        (λ o. absurd (found-left (sym e ∙ o))))
-        (hunt-cases k l n)
+        (λ o. absurd (found-left _ e (hunt-left g b rs k l n o))))
+        (attempt-cases (attempt g b l rs n))
 
     -- Left: none has fewer.
-    pub hunt-left : (k l n m : ℕ) → AtLeast l → hunt g b rs k l n ≡ leftAt m → (l ≤ m) × AtLeast m
+    pub hunt-leaves : (k l n m : ℕ) → AtLeast l → hunt g b rs k l n ≡ leftAt m → (l ≤ m) × AtLeast m
     unfolding hunt
-    hunt-left zero l n m h e = let z : l ≡ m = same-left e in (omega arith, rw z at h)
-    hunt-left (suc k) l n m h e = ⊎-elim
-        (λ o.
-        let q = hunt-left k (suc l) (o .looks) m (λ s i x xs r. attempt-ruled g b l rs n (o .looks) (o .rules) s i x xs r) (sym (o .then) ∙ e) in
-        (omega (arith, q .0), q .1))
+    hunt-leaves zero l n m h e = let z : l ≡ m = same-left e in (omega arith, rw z at h)
+    hunt-leaves (suc k) l n m h e = ⊎-elim
+        (λ o. let q = hunt-leaves k (suc l) (o .0) m (attempt-ruled g b l rs n (o .0) (o .1)) (sym (hunt-on g b rs k l n (o .0) (o .1)) ∙ e) in (omega (arith, q .0), q .1))
         (⊎-elim
-        (λ o. absurd (found-left (sym (o .1) ∙ e)))
-        (λ o. let z : l ≡ m = same-left (sym o ∙ e) in (omega arith, rw z at h)))
-        (hunt-cases k l n)
+        (λ o. absurd (found-left _ (hunt-found g b rs k l n o) e))
+        (λ o. let z : l ≡ m = same-left (sym (hunt-left g b rs k l n o) ∙ e) in (omega arith, rw z at h)))
+        (attempt-cases (attempt g b l rs n))
 
 -- ---- rounds, and closed runs from a state that is searched from
 
@@ -525,14 +514,14 @@ module _ (t : Table) (v : Valid t) where
     lengths-found : (b k l : ℕ) → huntIn t b k ≡ foundAt l → LengthsTrue t l l
     unfolding huntIn
     lengths-found b k l e =
-        let h = hunt-found (graphOf t) (rootsOf t) b k 1 0 l (λ s i x xs r. omega arith) e in
+        let h = hunt-finds (graphOf t) (rootsOf t) b k 1 0 l (λ s i x xs r. omega arith) e in
         let f = root-round t v one l (h .1) in
         record { round = f .0; best-is = f .1; none-shorter = none-shorter l (h .2); ordered = omega arith }
 
     lengths-left : (b l : ℕ) (stem cycle : List ℕ) → verdict (final t) ≡ lasso stem cycle → huntIn t b (length cycle) ≡ leftAt l → LengthsTrue t (length cycle) l
     unfolding huntIn
     lengths-left b l stem cycle w e =
-        let h = hunt-left (graphOf t) (rootsOf t) b (length cycle) 1 0 l (λ s i x xs r. omega arith) e in
+        let h = hunt-leaves (graphOf t) (rootsOf t) b (length cycle) 1 0 l (λ s i x xs r. omega arith) e in
         let f = present-round stem cycle w in
         let n = none-shorter l (h .1) in
         record { round = f .0; best-is = f .1; none-shorter = n; ordered = omega (arith, n (f .0), f .1) }
