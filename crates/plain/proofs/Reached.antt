@@ -1,9 +1,9 @@
 -- The states that runs of so many moves lead to, and the reachable accepting states of a graph. Assumes nothing.
-use mathlib.Core.Path.{_≡_, refl, sym, ap}
+use mathlib.Core.Path.{_≡_, refl, ap}
 use mathlib.Core.Logic.{_≢_, ⊎-elim}
-use mathlib.Core.Bool.{Bool, true, false, _&&_, _||_}
+use mathlib.Core.Bool.{Bool, true, _&&_}
 use mathlib.Core.List.{List, [], _∷_, _++_}
-use Prim.Native.Nat.{ℕ, zero, suc, _+_, _≤_, _<_}
+use Prim.Native.Nat.{ℕ, zero, suc, _≤_, _<_}
 use native.Mathlib.Omega.{arith}
 use lib.Dec.{eqb}
 use lib.ListN.{length, length-append}
@@ -12,7 +12,7 @@ use Rattle.plain.specs.Lists.{any, filter, below, elem, In, Once}
 use Rattle.plain.specs.Search.{Graph}
 use Rattle.plain.specs.Cycles.{Run}
 use Rattle.plain.specs.Shortest.{leads, reached, roots}
-use Rattle.plain.proofs.Tests.{contra, either, or-true, or-first, or-second, and-true, same, in-nil, out-nil, in-head, in-tail, in-cases, in-one, in-append, in-left, in-right, any-in, any-some, filter-yes, filter-no, in-filter}
+use Rattle.plain.proofs.Tests.{either, or-true, or-first, or-second, and-true, same, in-nil, out-nil, in-head, in-tail, in-cases, in-one, in-append, in-left, in-right, any-in, any-some, filter-yes, filter-no, in-filter}
 use Rattle.plain.proofs.Upto.{upto, upto-in, in-upto, length-upto}
 use Rattle.plain.proofs.Runs.{Reach, run-snoc, run-inside, states-inside}
 use Rattle.plain.proofs.Bounds.{once-short}
@@ -99,6 +99,9 @@ module _ (g : Graph) where
   -- ---- the states of a game of so many
 
   module _ (size : ℕ) (begins : g .start < size) (stays : (x y : ℕ) → x < size → In y (g .successors x) → y < size) where
+    among : (x y : ℕ) → In x (upto size) → In y (g .successors x) → In y (upto size)
+    among x y i j = upto-in y size (stays x y (in-upto x size i) j)
+
     -- `reached` is right: so many moves are enough
     pub reached-right : (s : ℕ) → (reached g size s ≡ true → Reach g (g .start) s) × (Reach g (g .start) s → reached g size s ≡ true)
     unfolding reached
@@ -106,12 +109,12 @@ module _ (g : Graph) where
       λ e. let r = leads-run size (g .start) s e in (r .0, r .1),
       λ (xs, r).
           let q = run-once xs (g .start) s r in
-          let inside = states-inside g (upto size) (λ x y i j. upto-in y size (stays x y (in-upto x size i) j)) (q .0) (g .start) s (q .1) (upto-in (g .start) size begins) in
+          let inside = states-inside g (upto size) among (q .0) (g .start) s (q .1) (upto-in (g .start) size begins) in
           run-leads (q .0) size (g .start) s (q .1) (omega (arith, once-short (g .start ∷ q .0) (upto size) (q .2) inside, length-upto size)),
     )
 
     reach-below : (s : ℕ) → Reach g (g .start) s → s < size
-    reach-below s (xs, r) = in-upto s size (run-inside g (upto size) (λ x y i j. upto-in y size (stays x y (in-upto x size i) j)) xs (g .start) s r (upto-in (g .start) size begins))
+    reach-below s (xs, r) = in-upto s size (run-inside g (upto size) among xs (g .start) s r (upto-in (g .start) size begins))
 
     -- the states that are searched from are the accepting states that can be reached
     pub root-reached : (s : ℕ) → In s (roots g size) → (g .accepting s ≡ true) × Reach g (g .start) s × (s < size)

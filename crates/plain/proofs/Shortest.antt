@@ -1,7 +1,7 @@
 -- The searches for the shortest round: what they find is there, and what they rule out is not. Assumes nothing.
 use mathlib.Core.Path.{_≡_, refl, sym, ap, _∙_}
 use mathlib.Core.Logic.{_≢_, _⊎_, inl, inr, ⊎-elim}
-use mathlib.Core.Bool.{Bool, true, false}
+use mathlib.Core.Bool.{true, false}
 use mathlib.Core.List.{List, [], _∷_, _++_, append-assoc, append-nil}
 use Prim.Native.Nat.{ℕ, zero, suc, _+_, _≤_, _<_}
 use native.Mathlib.Decide.{decLe}
@@ -479,10 +479,6 @@ short-accepted : (t : Table) (b : ℕ) → t .kinds ≡ 1 → replyTo (short b) 
 unfolding replyTo questionTrial questionReply firstHeld
 short-accepted t b one = ap (λ w. questionReply w (short b) t) (held-later (17, ltb 1 (t .kinds)) [] (le-ltb 1 (t .kinds) (omega (arith, one))))
 
-short-refused : (t : Table) (b : ℕ) → 1 < t .kinds → replyTo (short b) t ≡ noReply 17
-unfolding replyTo questionTrial questionReply
-short-refused t b h = ap (λ w. questionReply w (short b) t) (held-first (17, ltb 1 (t .kinds)) [] (lt-ltb 1 (t .kinds) h))
-
 shortest-none : {best least : ℕ} → shortest best least ≡ noRound → ⊥
 shortest-none e = let z : _≡_ {A = ℕ} 0 1 = cc in omega arith
 
@@ -492,7 +488,8 @@ refusal-none e = let z : _≡_ {A = ℕ} 0 1 = cc in omega arith
 module _ (t : Table) (v : Valid t) where
   -- "17, K is above 1"
   pub several-kinds : (b : ℕ) → 1 < t .kinds → replyTo (short b) t ≡ noReply 17
-  several-kinds b h = short-refused t b h
+  unfolding replyTo questionTrial questionReply
+  several-kinds b h = ap (λ w. questionReply w (short b) t) (held-first (17, ltb 1 (t .kinds)) [] (lt-ltb 1 (t .kinds) h))
 
   -- "With no round the line is `none` alone, for every B."
   pub none-if : (b : ℕ) → t .kinds ≡ 1 → (FullRound (gameOf t) → ⊥) → replyTo (short b) t ≡ noRound
