@@ -15,7 +15,7 @@ use Rattle.plain.proofs.LayerRounds.{closed, closed-passes}
 to-head : (x s : ℕ) (xs : List ℕ) → In s (xs ++ (x ∷ [])) → In s (x ∷ xs)
 to-head x s xs i = ⊎-elim (in-tail s x xs) (λ j. rw (in-one s x j) (in-head x xs)) (in-append s xs (x ∷ []) i)
 
-to-end : (x s : ℕ) (xs : List ℕ) → In s (x ∷ xs) → In s (xs ++ (x ∷ []))
+pub to-end : (x s : ℕ) (xs : List ℕ) → In s (x ∷ xs) → In s (xs ++ (x ∷ []))
 to-end x s xs i = ⊎-elim (λ e. rw e (in-right x xs (x ∷ []) (in-head x []))) (in-left s xs (x ∷ [])) (in-cases s x xs i)
 
 passes-from-head : (a : Kinded) (x : ℕ) (xs run cycle : List ℕ) → run ≡ xs ++ (x ∷ []) → cycle ≡ x ∷ xs → PassesAll a run → PassesAll a cycle

@@ -39,7 +39,9 @@ pub mod Degrees
 pub mod Views
 pub mod Orders
 pub mod Sweeps
+pub mod Reached
 pub mod ShortLooks
+pub mod Shortest
 pub mod ShortBudget
 pub mod Answers
 pub mod Loops

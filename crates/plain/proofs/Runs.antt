@@ -46,7 +46,7 @@ module _ (g : Graph) where
   run-inside k stays [] a b r i = rw r at i
   run-inside k stays (x ∷ xs) a b r i = run-inside k stays xs x b (r .1) (stays a x i (r .0))
 
-  states-inside : (k : List ℕ) → ((x y : ℕ) → In x k → In y (g .successors x) → In y k) → (xs : List ℕ) (a b : ℕ) → Run g a xs b → In a k
+  pub states-inside : (k : List ℕ) → ((x y : ℕ) → In x k → In y (g .successors x) → In y k) → (xs : List ℕ) (a b : ℕ) → Run g a xs b → In a k
       → (c : ℕ) → In c (a ∷ xs) → In c k
   states-inside k stays [] a b r i c j = ⊎-elim (λ e. rw e i) (λ n. absurd (in-nil c n)) (in-cases c a [] j)
   states-inside k stays (x ∷ xs) a b r i c j =

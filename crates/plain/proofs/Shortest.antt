@@ -1,0 +1,579 @@
+-- The searches for the shortest round: what they find is there, and what they rule out is not. Assumes nothing.
+use mathlib.Core.Path.{_≡_, refl, sym, ap, _∙_}
+use mathlib.Core.Logic.{_≢_, _⊎_, inl, inr, ⊎-elim}
+use mathlib.Core.Bool.{true, false}
+use mathlib.Core.List.{List, [], _∷_, _++_, append-assoc, append-nil}
+use Prim.Native.Nat.{ℕ, zero, suc, _+_, _≤_, _<_}
+use native.Mathlib.Decide.{decLe}
+use native.Mathlib.Omega.{arith}
+use lib.Dec.{eqb, ltb, leb}
+use lib.ListN.{length, drop, length-append, length-map}
+use lib.Seq.{drop-append-seam}
+use borrow.Author.Tests.{eqb-true, eqb-false, lt-ltb, le-ltb}
+use Rattle.plain.specs.Lists.{elem, In}
+use Rattle.plain.specs.Search.{Graph, Verdict, none, lasso, unfinished, verdict}
+use Rattle.plain.specs.Cycles.{Run, Kinded, PassesAll, FullRound, roundLength, FullLasso}
+use Rattle.plain.specs.Layers.{stateAt}
+use Rattle.plain.specs.Table.{Table, carriedBy, graphOf, gameOf, printed, final}
+use Rattle.plain.specs.Shortest.{leads, roots, noted, Sweep, through, back, stopped, sweep, targetsOf, levels, searchFrom, Attempt, succeeded, ranOut, ruledOut, Hunt, foundAt, leftAt, attempt, hunt}
+use Rattle.plain.specs.Refusals.{firstHeld}
+use Rattle.plain.specs.Questions.{short, noReply, shortest, noRound, questionTrial, huntIn, lengthsFor, shortReply, questionReply, replyTo, replyLine}
+use Rattle.plain.specs.Claims.{Arises, LengthsTrue, LineTrue}
+use Rattle.plain.proofs.Tests.{either, in-nil, in-head, in-tail, in-cases, in-one, in-append, in-left, in-right}
+use Rattle.plain.proofs.Runs.{run-join, reach-join}
+use Rattle.plain.proofs.Passing.{run-last}
+use Rattle.plain.proofs.LayerWalks.{to-end}
+use Rattle.plain.proofs.Trials.{held-first, held-later}
+use Rattle.plain.proofs.Tables.{Valid, valid}
+use Rattle.plain.proofs.Demands.{inside-game, verdict-right}
+use Rattle.plain.proofs.Reached.{Away, Near, away-snoc, last-move, leads-run, run-leads, root-reached, reached-root}
+
+-- ---- the definitions, case by case
+
+noted-old : (t : ℕ) (seen : List ℕ) → elem t seen ≡ true → noted t seen ≡ seen
+unfolding noted
+noted-old t seen e = rw (e, noted)
+
+noted-new : (t : ℕ) (seen : List ℕ) → elem t seen ≡ false → noted t seen ≡ seen ++ (t ∷ [])
+unfolding noted
+noted-new t seen e = rw (e, noted)
+
+module _ (b s t : ℕ) (ts seen : List ℕ) (n : ℕ) where
+  sweep-stop : leb b n ≡ true → sweep b s (t ∷ ts) seen n ≡ stopped
+  unfolding sweep
+  sweep-stop e = rw (e, sweep)
+
+  sweep-back : leb b n ≡ false → eqb t s ≡ true → sweep b s (t ∷ ts) seen n ≡ back
+  unfolding sweep
+  sweep-back e f = rw (e, f, sweep)
+
+  sweep-on : leb b n ≡ false → eqb t s ≡ false → sweep b s (t ∷ ts) seen n ≡ sweep b s ts (noted t seen) (suc n)
+  unfolding sweep
+  sweep-on e f = rw (e, f, sweep)
+
+sweep-cases : (r : Sweep) → ((seen : List ℕ) × (m : ℕ) × (r ≡ through seen m)) ⊎ ((r ≡ back) ⊎ (r ≡ stopped))
+sweep-cases (through seen m) = inl (seen, m, refl)
+sweep-cases back = inr (inl refl)
+sweep-cases stopped = inr (inr refl)
+
+through-stopped : {seen : List ℕ} {m : ℕ} → (r : Sweep) → r ≡ through seen m → r ≡ stopped → ⊥
+through-stopped r p q = let z : _≡_ {A = ℕ} 0 1 = cc in omega arith
+
+through-back : {seen : List ℕ} {m : ℕ} → (r : Sweep) → r ≡ through seen m → r ≡ back → ⊥
+through-back r p q = let z : _≡_ {A = ℕ} 0 1 = cc in omega arith
+
+back-stopped : (r : Sweep) → r ≡ back → r ≡ stopped → ⊥
+back-stopped r p q = let z : _≡_ {A = ℕ} 0 1 = cc in omega arith
+
+same-through : {seen seen′ : List ℕ} {m m′ : ℕ} → through seen m ≡ through seen′ m′ → (seen ≡ seen′) × (m ≡ m′)
+same-through e = ((cc), (cc))
+
+module _ (g : Graph) (b l s : ℕ) (level seen : List ℕ) (n : ℕ) where
+  levels-on : (seen′ : List ℕ) (m : ℕ) → sweep b s (targetsOf g level) seen n ≡ through seen′ m → levels g b (suc l) s level seen n ≡ levels g b l s (drop (length seen) seen′) seen′ m
+  unfolding levels
+  levels-on seen′ m e = rw (e, levels)
+
+  levels-back : sweep b s (targetsOf g level) seen n ≡ back → levels g b (suc l) s level seen n ≡ back
+  unfolding levels
+  levels-back e = rw (e, levels)
+
+  levels-stop : sweep b s (targetsOf g level) seen n ≡ stopped → levels g b (suc l) s level seen n ≡ stopped
+  unfolding levels
+  levels-stop e = rw (e, levels)
+
+module _ (g : Graph) (b l s : ℕ) (ss : List ℕ) (n : ℕ) where
+  attempt-on : (seen : List ℕ) (m : ℕ) → searchFrom g b l s n ≡ through seen m → attempt g b l (s ∷ ss) n ≡ attempt g b l ss m
+  unfolding attempt
+  attempt-on seen m e = rw (e, attempt)
+
+  attempt-back : searchFrom g b l s n ≡ back → attempt g b l (s ∷ ss) n ≡ succeeded
+  unfolding attempt
+  attempt-back e = rw (e, attempt)
+
+  attempt-stop : searchFrom g b l s n ≡ stopped → attempt g b l (s ∷ ss) n ≡ ranOut
+  unfolding attempt
+  attempt-stop e = rw (e, attempt)
+
+attempt-cases : (r : Attempt) → ((m : ℕ) × (r ≡ ruledOut m)) ⊎ ((r ≡ succeeded) ⊎ (r ≡ ranOut))
+attempt-cases (ruledOut m) = inl (m, refl)
+attempt-cases succeeded = inr (inl refl)
+attempt-cases ranOut = inr (inr refl)
+
+ruled-ran : {m : ℕ} → (r : Attempt) → r ≡ ruledOut m → r ≡ ranOut → ⊥
+ruled-ran r p q = let z : _≡_ {A = ℕ} 0 1 = cc in omega arith
+
+ruled-succeeded : {m : ℕ} → (r : Attempt) → r ≡ ruledOut m → r ≡ succeeded → ⊥
+ruled-succeeded r p q = let z : _≡_ {A = ℕ} 0 1 = cc in omega arith
+
+succeeded-ran : (r : Attempt) → r ≡ succeeded → r ≡ ranOut → ⊥
+succeeded-ran r p q = let z : _≡_ {A = ℕ} 0 1 = cc in omega arith
+
+module _ (g : Graph) (b : ℕ) (rs : List ℕ) (k l n : ℕ) where
+  hunt-on : (m : ℕ) → attempt g b l rs n ≡ ruledOut m → hunt g b rs (suc k) l n ≡ hunt g b rs k (suc l) m
+  unfolding hunt
+  hunt-on m e = rw (e, hunt)
+
+  hunt-found : attempt g b l rs n ≡ succeeded → hunt g b rs (suc k) l n ≡ foundAt l
+  unfolding hunt
+  hunt-found e = rw (e, hunt)
+
+  hunt-left : attempt g b l rs n ≡ ranOut → hunt g b rs (suc k) l n ≡ leftAt l
+  unfolding hunt
+  hunt-left e = rw (e, hunt)
+
+-- ---- one sweep
+
+module _ (b s : ℕ) where
+  -- What a sweep over moves to ts leaves, where none came back: the states seen before, and behind them those of ts that are new.
+  pub record Swept (ts seen seen′ : List ℕ) : Type 0 where
+    pub news : List ℕ
+    pub grown : seen′ ≡ seen ++ news
+    pub each : (t : ℕ) → In t ts → (t ≢ s) × In t seen′
+    pub only : (t : ℕ) → In t news → In t ts
+
+  -- one look more, at the start
+  swept-more : (t : ℕ) (ts seen seen′ : List ℕ) → t ≢ s → Swept ts (noted t seen) seen′ → Swept (t ∷ ts) seen seen′
+  swept-more t ts seen seen′ ne w = ⊎-elim
+      (λ e.
+      let g : seen′ ≡ seen ++ w .news = w .grown ∙ ap (λ (l : List ℕ). l ++ w .news) (noted-old t seen e) in
+      record {
+        news = w .news;
+        grown = g;
+        each = each (rw g (in-left t seen (w .news) e));
+        only = λ y i. in-tail y t ts (w .only y i);
+      })
+      (λ e.
+      let g : seen′ ≡ seen ++ (t ∷ w .news) = w .grown ∙ ap (λ (l : List ℕ). l ++ w .news) (noted-new t seen e) ∙ append-assoc seen (t ∷ []) (w .news) in
+      record {
+        news = t ∷ w .news;
+        grown = g;
+        each = each (rw g (in-right t seen (t ∷ w .news) (in-head t (w .news))));
+        only = λ y i. ⊎-elim (λ z. rw z (in-head t ts)) (λ j. in-tail y t ts (w .only y j)) (in-cases y t (w .news) i);
+      })
+      (either (elem t seen))
+    where
+      each : In t seen′ → (y : ℕ) → In y (t ∷ ts) → (y ≢ s) × In y seen′
+      each i y j = ⊎-elim (λ z. rw z (ne, i)) (w .each y) (in-cases y t ts j)
+
+  pub swept : (ts seen : List ℕ) (n : ℕ) (seen′ : List ℕ) (m : ℕ) → sweep b s ts seen n ≡ through seen′ m → Swept ts seen seen′
+  unfolding sweep
+  swept [] seen n seen′ m e = record { news = []; grown = sym (same-through e .0) ∙ sym (append-nil seen); each = λ t i. absurd (in-nil t i); only = λ t i. i }
+  swept (t ∷ ts) seen n seen′ m e = ⊎-elim
+      (λ h. absurd (through-stopped _ e (sweep-stop b s t ts seen n h)))
+      (λ h. ⊎-elim
+      (λ k. absurd (through-back _ e (sweep-back b s t ts seen n h k)))
+      (λ k. swept-more t ts seen seen′ (eqb-false t s k) (swept ts (noted t seen) (suc n) seen′ m (sym (sweep-on b s t ts seen n h k) ∙ e)))
+      (either (eqb t s)))
+      (either (leb b n))
+
+  -- a look that came back was at a move to s
+  pub swept-back : (ts seen : List ℕ) (n : ℕ) → sweep b s ts seen n ≡ back → In s ts
+  unfolding sweep
+  swept-back [] seen n e = absurd (through-back _ refl e)
+  swept-back (t ∷ ts) seen n e = ⊎-elim
+      (λ h. absurd (back-stopped _ e (sweep-stop b s t ts seen n h)))
+      (λ h. ⊎-elim
+      (λ k. rw (eqb-true t s k) (in-head s ts))
+      (λ k. in-tail s t ts (swept-back ts (noted t seen) (suc n) (sym (sweep-on b s t ts seen n h k) ∙ e)))
+      (either (eqb t s)))
+      (either (leb b n))
+
+-- ---- the levels of one search
+
+module _ (g : Graph) where
+  in-targets : (x y : ℕ) (level : List ℕ) → In x level → In y (g .successors x) → In y (targetsOf g level)
+  unfolding targetsOf
+  in-targets x y [] i j = absurd (in-nil x i)
+  in-targets x y (z ∷ level) i j = ⊎-elim
+      (λ e. in-left y (g .successors z) (targetsOf g level) (rw e at j))
+      (λ k. in-right y (g .successors z) (targetsOf g level) (in-targets x y level k j)) (in-cases x z level i)
+
+  targets-in : (y : ℕ) (level : List ℕ) → In y (targetsOf g level) → (x : ℕ) × In x level × In y (g .successors x)
+  unfolding targetsOf
+  targets-in y [] i = absurd (in-nil y i)
+  targets-in y (z ∷ level) i = ⊎-elim
+      (λ j. (z, in-head z level, j))
+      (λ j. let r = targets-in y level j in (r .0, in-tail (r .0) z level (r .1), r .2)) (in-append y (g .successors z) (targetsOf g level) i)
+
+  -- every run of one or more moves from a to s has more than d moves
+  abbrev pub Farther : ℕ → ℕ → ℕ → Type 0
+  Farther d a s = (x : ℕ) (xs : List ℕ) → Run g a (x ∷ xs) s → d < length (x ∷ xs)
+
+  -- A search from a that ends where a look comes back to s, before the looks at the moves of a level d moves away.
+  pub record Level (a s d : ℕ) (level seen : List ℕ) : Type 0 where
+    pub near : (y : ℕ) → Near g d a y → In y seen
+    pub seen-near : (y : ℕ) → In y seen → Near g d a y
+    pub away : (y : ℕ) → In y level → Away g d a y
+    -- a move of a state that was seen did not come back, and its target was seen; or the state is of the level
+    pub done : (y z : ℕ) → In y seen → In z (g .successors y) → ((z ≢ s) × In z seen) ⊎ In y level
+    pub ruled : Farther d a s
+
+  level-first : (a s : ℕ) → Level a s 0 (a ∷ []) (a ∷ [])
+  level-first a s = record {
+    near = λ y (xs, r, h). at-once y xs r h;
+    seen-near = λ y i. ([], sym (in-one y a i), omega arith);
+    away = λ y i. ([], sym (in-one y a i), refl);
+    done = λ y z i j. inr i;
+    ruled = λ x xs r. omega arith;
+  }
+    where
+      at-once : (y : ℕ) (xs : List ℕ) → Run g a xs y → length xs ≤ 0 → In y (a ∷ [])
+      at-once y [] r h = rw (sym r) (in-head a [])
+      at-once y (z ∷ xs) r h = absurd (omega arith)
+
+  -- The next level is of the states that were new.
+  level-next : (b a s d : ℕ) (level seen seen′ : List ℕ) → Level a s d level seen → Swept b s (targetsOf g level) seen seen′ → Level a s (suc d) (drop (length seen) seen′) seen′
+  level-next b a s d level seen seen′ v w = record {
+    near = λ y (xs, r, h). near-more y xs r h;
+    seen-near = λ y i. ⊎-elim
+        (λ j. let n = v .seen-near y j in (n .0, n .1, omega (arith, n .2)))
+        (λ j. let n = new-away y j in (n .0, n .1, omega (arith, n .2)))
+        (in-append y seen (w .news) (rw (w .grown) at i));
+    away = λ y i. new-away y (rw fresh at i);
+    done = λ y z i j. ⊎-elim (λ k. inl (passed y z k j)) (λ k. inr (rw fresh k)) (in-append y seen (w .news) (rw (w .grown) at i));
+    ruled = ruled-more;
+  }
+    where
+      fresh : drop (length seen) seen′ ≡ w .news
+      fresh = ap (drop (length seen)) (w .grown) ∙ drop-append-seam seen (w .news)
+
+      passed : (y z : ℕ) → In y seen → In z (g .successors y) → (z ≢ s) × In z seen′
+      passed y z i j = ⊎-elim
+          (λ c. (c .0, rw (w .grown) (in-left z seen (w .news) (c .1))))
+          (λ c. w .each z (in-targets y z level c j)) (v .done y z i j)
+
+      new-away : (y : ℕ) → In y (w .news) → Away g (suc d) a y
+      new-away y i = let t = targets-in y level (w .only y i) in away-snoc g d a (t .0) y (v .away (t .0) (t .1)) (t .2)
+
+      near-more : (y : ℕ) (xs : List ℕ) → Run g a xs y → length xs ≤ suc d → In y seen′
+      near-more y [] r h = rw (w .grown) (in-left y seen (w .news) (v .near y ([], r, omega arith)))
+      near-more y (x ∷ xs) r h =
+          let m = last-move g xs a x y r in
+          passed (m .0) y (v .near (m .0) (m .1 .0, m .1 .1, omega (arith, m .1 .2))) (m .2) .1
+
+      ruled-more : Farther (suc d) a s
+      ruled-more x xs r = elim (decLe (length xs) d) [
+        | yes h ↦ let m = last-move g xs a x s r in
+            absurd (passed (m .0) s (v .near (m .0) (m .1 .0, m .1 .1, omega (arith, m .1 .2))) (m .2) .0 refl)
+        | no h ↦ omega arith
+      ]
+
+module _ (g : Graph) (b : ℕ) where
+  -- What l levels come to, from distance d on. None came back: the states seen are those at most D = d + l moves away.
+  levels-through : (l a s d D : ℕ) (level seen : List ℕ) (n : ℕ) (seen′ : List ℕ) (m : ℕ) → d + l ≡ D → Level g a s d level seen → levels g b l s level seen n ≡ through seen′ m
+      → (level′ : List ℕ) × Level g a s D level′ seen′
+  unfolding levels
+  levels-through zero a s d D level seen n seen′ m h v e = let k : d ≡ D = omega arith in (level, rw (← same-through e .0, ← k) v)
+  levels-through (suc l) a s d D level seen n seen′ m h v e = ⊎-elim
+      (λ r. levels-through l a s (suc d) D (drop (length seen) (r .0)) (r .0) (r .1) seen′ m (omega arith)
+      (level-next g b a s d level seen (r .0) v (swept b s (targetsOf g level) seen n (r .0) (r .1) (r .2))) (sym (levels-on g b l s level seen n (r .0) (r .1) (r .2)) ∙ e))
+      (⊎-elim (λ r. absurd (through-back _ e (levels-back g b l s level seen n r))) (λ r. absurd (through-stopped _ e (levels-stop g b l s level seen n r))))
+      (sweep-cases (sweep b s (targetsOf g level) seen n))
+
+  -- A look came back: a run of one or more moves leads from a to s, of at most D moves.
+  levels-return : (l a s d D : ℕ) (level seen : List ℕ) (n : ℕ) → d + l ≡ D → Level g a s d level seen → levels g b l s level seen n ≡ back
+      → (k : ℕ) × Away g k a s × (1 ≤ k) × (k ≤ D)
+  unfolding levels
+  levels-return zero a s d D level seen n h v e = absurd (through-back _ refl e)
+  levels-return (suc l) a s d D level seen n h v e = ⊎-elim
+      (λ r. levels-return l a s (suc d) D (drop (length seen) (r .0)) (r .0) (r .1) (omega arith)
+      (level-next g b a s d level seen (r .0) v (swept b s (targetsOf g level) seen n (r .0) (r .1) (r .2))) (sym (levels-on g b l s level seen n (r .0) (r .1) (r .2)) ∙ e))
+      (⊎-elim
+      (λ r.
+      let t = targets-in g s level (swept-back b s (targetsOf g level) seen n r) in
+      (suc d, away-snoc g d a (t .0) s (v .away (t .0) (t .1)) (t .2), omega arith, omega arith))
+      (λ r. absurd (back-stopped _ e (levels-stop g b l s level seen n r))))
+      (sweep-cases (sweep b s (targetsOf g level) seen n))
+
+  -- A search from a that runs through its l levels has seen the states that at most l moves lead to.
+  pub levels-seen : (l a s n : ℕ) (seen : List ℕ) (m : ℕ) → levels g b l s (a ∷ []) (a ∷ []) n ≡ through seen m
+      → (y : ℕ) → (In y seen → leads g l a y ≡ true) × (leads g l a y ≡ true → In y seen)
+  levels-seen l a s n seen m e y =
+      let v = levels-through l a s 0 l (a ∷ []) (a ∷ []) n seen m (omega arith) (level-first g a s) e .1 in
+      (λ i. let r = v .seen-near y i in run-leads g (r .0) l a y (r .1) (r .2), λ h. v .near y (leads-run g l a y h))
+
+  -- No look comes back to what is the target of no move.
+  pub levels-never-back : (s : ℕ) → ((y z : ℕ) → In z (g .successors y) → z ≢ s) → (l : ℕ) (level seen : List ℕ) (n : ℕ) → levels g b l s level seen n ≢ back
+  unfolding levels
+  levels-never-back s away zero level seen n e = through-back _ refl e
+  levels-never-back s away (suc l) level seen n e = ⊎-elim
+      (λ r. levels-never-back s away l (drop (length seen) (r .0)) (r .0) (r .1) (sym (levels-on g b l s level seen n (r .0) (r .1) (r .2)) ∙ e))
+      (⊎-elim
+      (λ r. let t = targets-in g s level (swept-back b s (targetsOf g level) seen n r) in away (t .0) s (t .2) refl)
+      (λ r. back-stopped _ e (levels-stop g b l s level seen n r)))
+      (sweep-cases (sweep b s (targetsOf g level) seen n))
+
+  -- A search from s that runs through: every closed run from s has more than l moves.
+  pub search-through : (l s n : ℕ) (seen : List ℕ) (m : ℕ) → searchFrom g b l s n ≡ through seen m → Farther g l s s
+  search-through l s n seen m e = levels-through l s s 0 l (s ∷ []) (s ∷ []) n seen m (omega arith) (level-first g s s) e .1 .ruled
+
+  -- One that comes back: there is a closed run from s, of at least 1 and at most l moves.
+  pub search-back : (l s n : ℕ) → searchFrom g b l s n ≡ back → (k : ℕ) × Away g k s s × (1 ≤ k) × (k ≤ l)
+  search-back l s n e = levels-return l s s 0 l (s ∷ []) (s ∷ []) n (omega arith) (level-first g s s) e
+
+-- ---- the lengths
+
+module _ (g : Graph) (b : ℕ) where
+  -- A length that is ruled out: every closed run from the states has more moves.
+  pub attempt-ruled : (l : ℕ) (rs : List ℕ) (n m : ℕ) → attempt g b l rs n ≡ ruledOut m → (s : ℕ) → In s rs → Farther g l s s
+  unfolding attempt
+  attempt-ruled l [] n m e s i = absurd (in-nil s i)
+  attempt-ruled l (r ∷ rs) n m e s i = ⊎-elim
+      (λ o. ⊎-elim
+      (λ z. rw z (search-through g b l r n (o .0) (o .1) (o .2)))
+      (attempt-ruled l rs (o .1) m (sym (attempt-on g b l r rs n (o .0) (o .1) (o .2)) ∙ e) s) (in-cases s r rs i))
+      (⊎-elim (λ o. absurd (ruled-succeeded _ e (attempt-back g b l r rs n o))) (λ o. absurd (ruled-ran _ e (attempt-stop g b l r rs n o))))
+      (sweep-cases (searchFrom g b l r n))
+
+  -- A success: one of the states has a closed run of at least 1 and at most l moves.
+  pub attempt-found : (l : ℕ) (rs : List ℕ) (n : ℕ) → attempt g b l rs n ≡ succeeded → (s : ℕ) × In s rs × (k : ℕ) × Away g k s s × (1 ≤ k) × (k ≤ l)
+  unfolding attempt
+  attempt-found l [] n e = absurd (ruled-succeeded _ refl e)
+  attempt-found l (r ∷ rs) n e = ⊎-elim
+      (λ o. let q = attempt-found l rs (o .1) (sym (attempt-on g b l r rs n (o .0) (o .1) (o .2)) ∙ e) in (q .0, in-tail (q .0) r rs (q .1), q .2, q .3, q .4, q .5))
+      (⊎-elim
+      (λ o. let q = search-back g b l r n o in (r, in-head r rs, q .0, q .1, q .2, q .3))
+      (λ o. absurd (succeeded-ran _ e (attempt-stop g b l r rs n o))))
+      (sweep-cases (searchFrom g b l r n))
+
+found-left : {k l : ℕ} → (r : Hunt) → r ≡ foundAt k → r ≡ leftAt l → ⊥
+found-left r p q = let z : _≡_ {A = ℕ} 0 1 = cc in omega arith
+
+same-found : {k l : ℕ} → foundAt k ≡ foundAt l → k ≡ l
+same-found e = cc
+
+same-left : {k l : ℕ} → leftAt k ≡ leftAt l → k ≡ l
+same-left e = cc
+
+-- of closed runs, which have one or more moves, from some states
+module _ (g : Graph) (rs : List ℕ) where
+  -- each has at least l moves
+  abbrev pub AtLeast : ℕ → Type 0
+  AtLeast l = (s : ℕ) → In s rs → (x : ℕ) (xs : List ℕ) → Run g s (x ∷ xs) s → l ≤ length (x ∷ xs)
+
+  -- one has l moves
+  abbrev pub Closes : ℕ → Type 0
+  Closes l = (s : ℕ) × In s rs × (x : ℕ) × (xs : List ℕ) × Run g s (x ∷ xs) s × (length (x ∷ xs) ≡ l)
+
+  pub closes : (s k : ℕ) → In s rs → Away g k s s → 1 ≤ k → Closes k
+  closes s k i (xs, r, e) h = by-moves xs r e
+    where
+      by-moves : (xs : List ℕ) → Run g s xs s → length xs ≡ k → Closes k
+      by-moves [] r e = absurd (omega arith)
+      by-moves (x ∷ xs) r e = (s, i, x, xs, r, e)
+
+  module _ (b : ℕ) where
+    -- Found: a closed run has that many moves, and none has fewer.
+    pub hunt-finds : (k l n m : ℕ) → AtLeast l → hunt g b rs k l n ≡ foundAt m → (l ≤ m) × Closes m × AtLeast m
+    unfolding hunt
+    hunt-finds zero l n m h e = absurd (found-left _ e refl)
+    hunt-finds (suc k) l n m h e = ⊎-elim
+        (λ o. let q = hunt-finds k (suc l) (o .0) m (attempt-ruled g b l rs n (o .0) (o .1)) (sym (hunt-on g b rs k l n (o .0) (o .1)) ∙ e) in (omega (arith, q .0), q .1, q .2))
+        (⊎-elim
+        (λ o.
+        let z : l ≡ m = same-found (sym (hunt-found g b rs k l n o) ∙ e) in
+        let q = attempt-found g b l rs n o in
+        let c = closes (q .0) (q .2) (q .1) (q .3) (q .4) in
+        let d : q .2 ≡ m = omega (arith, h (c .0) (c .1) (c .2) (c .3) (c .4), c .5, q .5) in
+        (omega arith, rw d at c, rw z at h))
+        (λ o. absurd (found-left _ e (hunt-left g b rs k l n o))))
+        (attempt-cases (attempt g b l rs n))
+
+    -- Left: none has fewer.
+    pub hunt-leaves : (k l n m : ℕ) → AtLeast l → hunt g b rs k l n ≡ leftAt m → (l ≤ m) × AtLeast m
+    unfolding hunt
+    hunt-leaves zero l n m h e = let z : l ≡ m = same-left e in (omega arith, rw z at h)
+    hunt-leaves (suc k) l n m h e = ⊎-elim
+        (λ o. let q = hunt-leaves k (suc l) (o .0) m (attempt-ruled g b l rs n (o .0) (o .1)) (sym (hunt-on g b rs k l n (o .0) (o .1)) ∙ e) in (omega (arith, q .0), q .1))
+        (⊎-elim
+        (λ o. absurd (found-left _ (hunt-found g b rs k l n o) e))
+        (λ o. let z : l ≡ m = same-left (sym (hunt-left g b rs k l n o) ∙ e) in (omega arith, rw z at h)))
+        (attempt-cases (attempt g b l rs n))
+
+-- ---- rounds, and closed runs from a state that is searched from
+
+module _ (g : Graph) where
+  -- at a state that it comes to, a run splits: one or more moves, and the rest
+  split : (xs : List ℕ) (a b c : ℕ) → Run g a xs b → In c xs → (us : List ℕ) × (vs : List ℕ) × Run g a us c × Run g c vs b × (length us + length vs ≡ length xs)
+  split [] a b c r i = absurd (in-nil c i)
+  split (x ∷ xs) a b c r i = ⊎-elim
+      (λ e. rw e (x ∷ [], xs, (r .0, refl), r .1, omega arith))
+      (λ j. let q = split xs x b c (r .1) j in (x ∷ q .0, q .1, (r .0, q .2), q .3, omega (arith, q .4)))
+      (in-cases c x xs i)
+
+  -- a closed run can be begun at any state that it comes to
+  pub rotated : (xs : List ℕ) (a c : ℕ) → Run g a xs a → In c xs → Away g (length xs) c c
+  rotated xs a c r i =
+      let q = split xs a a c r i in
+      (q .1 ++ q .0, run-join g (q .1) (q .0) c a c (q .3) (q .2), omega (arith, length-append (q .1) (q .0), q .4))
+
+-- the round of a walk has as many moves as it has states
+pub walk-round : (a : Kinded) (stem cycle : List ℕ) → FullLasso a stem cycle → (f : FullRound a) × (roundLength a f ≡ length cycle)
+walk-round a stem cycle w = ahead (w .others) (w .closes) all (ap length (w .cycle-is))
+  where
+    all : PassesAll a (w .others ++ (w .entry ∷ []))
+    all kind h = let q = w .passes-all kind h in (q .0, to-end (w .entry) (q .0) (w .others) (rw (w .cycle-is) at (q .1)), q .2)
+
+    round : (x : ℕ) (xs : List ℕ) → Run (a .graph) (w .entry) (x ∷ xs) (w .entry) → PassesAll a (x ∷ xs) → length cycle ≡ length (x ∷ xs) → (f : FullRound a) × (roundLength a f ≡ length cycle)
+    round x xs r p e = (
+      record {
+        origin = w .entry;
+        first = x;
+        others = xs;
+        closed = r;
+        passes-all = p;
+        way = w .way;
+        entry = w .entry;
+        leads = w .leads;
+        enters = run-last (a .graph) xs (w .entry) x (w .entry) r;
+      },
+      sym e,
+    )
+
+    ahead : (xs : List ℕ) → Run (a .graph) (w .entry) (xs ++ (w .entry ∷ [])) (w .entry) → PassesAll a (xs ++ (w .entry ∷ [])) → length cycle ≡ length (w .entry ∷ xs)
+        → (f : FullRound a) × (roundLength a f ≡ length cycle)
+    ahead [] r p e = round (w .entry) [] r p e
+    ahead (x ∷ xs) r p e = round x (xs ++ (w .entry ∷ [])) r p (omega (arith, length-append xs (w .entry ∷ [])))
+
+-- the states of a table that are searched from
+abbrev pub rootsOf : Table → List ℕ
+rootsOf t = roots (graphOf t) (t .size)
+
+module _ (t : Table) (v : Valid t) (one : t .kinds ≡ 1) where
+  -- A round of the game, begun at a paying state that it passes.
+  pub round-root : (f : FullRound (gameOf t)) → Closes (graphOf t) (rootsOf t) (roundLength (gameOf t) f)
+  round-root f =
+      let g = graphOf t in
+      let xs = f .first ∷ f .others in
+      let i = inside-game t v in
+      let p = f .passes-all 0 (omega (arith, one)) in
+      let e = split g xs (f .origin) (f .origin) (f .entry) (f .closed) (f .enters) in
+      let q = split g xs (f .origin) (f .origin) (p .0) (f .closed) (p .1) in
+      let way = reach-join g (g .start) (f .origin) (p .0) (reach-join g (g .start) (f .entry) (f .origin) (f .way, f .leads) (e .1, e .3)) (q .0, q .2) in
+      closes g (rootsOf t) (p .0) (length xs) (reached-root g (t .size) (i .begins) (i .stays) (p .0) (p .2) way) (rotated g xs (f .origin) (p .0) (f .closed) (p .1)) (omega arith)
+
+  -- And a closed run from such a state is a round.
+  pub root-round : (k : ℕ) → Closes (graphOf t) (rootsOf t) k → (f : FullRound (gameOf t)) × (roundLength (gameOf t) f ≡ k)
+  root-round k (s, j, x, xs, r, e) =
+      let i = inside-game t v in
+      let h = root-reached (graphOf t) (t .size) (i .begins) (i .stays) s j in
+      let last = run-last (graphOf t) xs s x s r in (
+        record {
+          origin = s;
+          first = x;
+          others = xs;
+          closed = r;
+          passes-all = λ kind d. let z : kind ≡ 0 = omega (arith, one) in (s, last, ap (λ m. carriedBy (t .marks) m s) z ∙ h .0);
+          way = h .1 .0;
+          entry = s;
+          leads = h .1 .1;
+          enters = last;
+        },
+        e,
+      )
+
+-- ---- the line `short`
+
+-- with one kind it is not refused
+short-accepted : (t : Table) (b : ℕ) → t .kinds ≡ 1 → replyTo (short b) t ≡ shortReply (verdict (final t)) b t
+unfolding replyTo questionTrial questionReply firstHeld
+short-accepted t b one = ap (λ w. questionReply w (short b) t) (held-later (17, ltb 1 (t .kinds)) [] (le-ltb 1 (t .kinds) (omega (arith, one))))
+
+shortest-none : {best least : ℕ} → shortest best least ≡ noRound → ⊥
+shortest-none e = let z : _≡_ {A = ℕ} 0 1 = cc in omega arith
+
+refusal-none : {n : ℕ} → noReply n ≡ noRound → ⊥
+refusal-none e = let z : _≡_ {A = ℕ} 0 1 = cc in omega arith
+
+module _ (t : Table) (v : Valid t) where
+  -- "17, K is above 1"
+  pub several-kinds : (b : ℕ) → 1 < t .kinds → replyTo (short b) t ≡ noReply 17
+  unfolding replyTo questionTrial questionReply
+  several-kinds b h = ap (λ w. questionReply w (short b) t) (held-first (17, ltb 1 (t .kinds)) [] (lt-ltb 1 (t .kinds) h))
+
+  -- "With no round the line is `none` alone, for every B."
+  pub none-if : (b : ℕ) → t .kinds ≡ 1 → (FullRound (gameOf t) → ⊥) → replyTo (short b) t ≡ noRound
+  unfolding shortReply
+  none-if b one n = short-accepted t b one ∙ ap (λ w. shortReply w b t) (verdict-right t v .none-if n)
+
+  module _ (one : t .kinds ≡ 1) where
+    -- what is ruled out for closed runs is ruled out for rounds
+    pub none-shorter : (l : ℕ) → AtLeast (graphOf t) (rootsOf t) l → (f : FullRound (gameOf t)) → l ≤ roundLength (gameOf t) f
+    none-shorter l h f = let c = round-root t v one f in omega (arith, h (c .0) (c .1) (c .2) (c .3) (c .4), c .5)
+
+    -- the present walk's round
+    pub present-round : (stem cycle : List ℕ) → verdict (final t) ≡ lasso stem cycle → (f : FullRound (gameOf t)) × (roundLength (gameOf t) f ≡ length cycle)
+    unfolding printed
+    present-round stem cycle e =
+        let w = walk-round (gameOf t) (printed t stem) (printed t cycle) (verdict-right t v .walk stem cycle e) in
+        (w .0, w .1 ∙ length-map cycle (stateAt (gameOf t)))
+
+    lengths-found : (b k l : ℕ) → huntIn t b k ≡ foundAt l → LengthsTrue t l l
+    unfolding huntIn
+    lengths-found b k l e =
+        let h = hunt-finds (graphOf t) (rootsOf t) b k 1 0 l (λ s i x xs r. omega arith) e in
+        let f = root-round t v one l (h .1) in
+        record { round = f .0; best-is = f .1; none-shorter = none-shorter l (h .2); ordered = omega arith }
+
+    lengths-left : (b l : ℕ) (stem cycle : List ℕ) → verdict (final t) ≡ lasso stem cycle → huntIn t b (length cycle) ≡ leftAt l → LengthsTrue t (length cycle) l
+    unfolding huntIn
+    lengths-left b l stem cycle w e =
+        let h = hunt-leaves (graphOf t) (rootsOf t) b (length cycle) 1 0 l (λ s i x xs r. omega arith) e in
+        let f = present-round stem cycle w in
+        let n = none-shorter l (h .1) in
+        record { round = f .0; best-is = f .1; none-shorter = n; ordered = omega (arith, n (f .0), f .1) }
+
+  -- "Found within B, both are the shortest length.", over all free rounds of the table
+  pub found : (b l : ℕ) (stem cycle : List ℕ) → t .kinds ≡ 1 → verdict (final t) ≡ lasso stem cycle → huntIn t b (length cycle) ≡ foundAt l
+      → (replyTo (short b) t ≡ shortest l l) × LengthsTrue t l l
+  unfolding shortReply lengthsFor
+  found b l stem cycle one w e =
+      (short-accepted t b one ∙ ap (λ x. shortReply x b t) w ∙ ap (lengthsFor (length cycle)) e, lengths-found one b (length cycle) l e)
+
+  -- "Otherwise the first is the present walk's round length", and no free round is shorter than the second
+  pub otherwise : (b l : ℕ) (stem cycle : List ℕ) → t .kinds ≡ 1 → verdict (final t) ≡ lasso stem cycle → huntIn t b (length cycle) ≡ leftAt l
+      → (replyTo (short b) t ≡ shortest (length cycle) l) × LengthsTrue t (length cycle) l
+  unfolding shortReply lengthsFor
+  otherwise b l stem cycle one w e =
+      (short-accepted t b one ∙ ap (λ x. shortReply x b t) w ∙ ap (lengthsFor (length cycle)) e, lengths-left one b l stem cycle w e)
+
+  -- What can be replied, with one kind: that there is no round, or two lengths.
+  pub data Replied (b : ℕ) : Type 0 where
+    no-round : replyTo (short b) t ≡ noRound → (FullRound (gameOf t) → ⊥) → Replied b
+    lengths : (best least : ℕ) → replyTo (short b) t ≡ shortest best least → LengthsTrue t best least → Replied b
+
+  pub replied : (b : ℕ) → t .kinds ≡ 1 → Replied b
+  replied b one = by-verdict (verdict (final t)) refl
+    where
+      by-hunt : (stem cycle : List ℕ) → verdict (final t) ≡ lasso stem cycle → (h : Hunt) → huntIn t b (length cycle) ≡ h → Replied b
+      by-hunt stem cycle w (foundAt l) e = let r = found b l stem cycle one w e in lengths l l (r .0) (r .1)
+      by-hunt stem cycle w (leftAt l) e = let r = otherwise b l stem cycle one w e in lengths (length cycle) l (r .0) (r .1)
+
+      by-verdict : (w : Verdict) → verdict (final t) ≡ w → Replied b
+      by-verdict none e = let n = verdict-right t v .none-only e in no-round (none-if b one n) n
+      by-verdict (lasso stem cycle) e = by-hunt stem cycle e (huntIn t b (length cycle)) refl
+      by-verdict unfinished e = absurd (verdict-right t v .ends e)
+
+  -- a table has one kind, or several
+  one-or-several : (t .kinds ≡ 1) ⊎ (1 < t .kinds)
+  one-or-several = elim (decLe (t .kinds) 1) [ yes h ↦ inl (omega (arith, v .some-kind)) | no h ↦ inr (omega arith) ]
+
+  pub none-only : (b : ℕ) → replyTo (short b) t ≡ noRound → FullRound (gameOf t) → ⊥
+  none-only b e f = ⊎-elim (λ one. by-reply (replied b one)) (λ h. refusal-none (sym (several-kinds b h) ∙ e)) one-or-several
+    where
+      by-reply : Replied b → ⊥
+      by-reply (no-round r n) = n f
+      by-reply (lengths best least r l) = shortest-none (sym r ∙ e)
+
+  -- The line that tells it is true.
+  pub line-true : (b : ℕ) → LineTrue (replyLine (replyTo (short b) t)) t
+  unfolding replyLine
+  line-true b = ⊎-elim (λ one. by-reply (replied b one)) (λ h. rw (several-kinds b h) (λ z. omega arith)) one-or-several
+    where
+      by-reply : Replied b → LineTrue (replyLine (replyTo (short b) t)) t
+      by-reply (no-round r n) = rw r n
+      by-reply (lengths best least r l) = rw r l
+
+-- of every table that a session can hold
+pub short-told : (t : Table) → Arises t → (b : ℕ) → LineTrue (replyLine (replyTo (short b) t)) t
+short-told t a b = line-true t (valid t a) b
