@@ -1,66 +1,32 @@
 -- The states that runs of so many moves lead to, and the reachable accepting states of a graph. Assumes nothing.
-use mathlib.Core.Path.{_≡_, refl, ap}
-use mathlib.Core.Logic.{_≢_, ⊎-elim}
-use mathlib.Core.Bool.{Bool, true, _&&_}
+use mathlib.Core.Path.{_≡_}
+use mathlib.Core.Logic.{⊎-elim}
+use mathlib.Core.Bool.{true, _&&_}
 use mathlib.Core.List.{List, [], _∷_, _++_}
 use Prim.Native.Nat.{ℕ, zero, suc, _≤_, _<_}
 use native.Mathlib.Omega.{arith}
 use lib.Dec.{eqb}
 use lib.ListN.{length, length-append}
-use borrow.Author.Tests.{eqb-false, eq-eqb}
-use Rattle.plain.specs.Lists.{any, filter, below, elem, In, Once}
+use borrow.Author.Tests.{eq-eqb}
+use Rattle.plain.specs.Lists.{any, below, elem, In, Once}
 use Rattle.plain.specs.Search.{Graph}
 use Rattle.plain.specs.Cycles.{Run}
 use Rattle.plain.specs.Shortest.{leads, reached, roots}
-use Rattle.plain.proofs.Tests.{either, or-true, or-first, or-second, and-true, same, in-nil, out-nil, in-head, in-tail, in-cases, in-one, in-append, in-left, in-right, any-in, any-some, filter-yes, filter-no, in-filter}
-use Rattle.plain.proofs.Upto.{upto, upto-in, in-upto, length-upto}
-use Rattle.plain.proofs.Runs.{Reach, run-snoc, run-inside, states-inside}
+use Rattle.plain.proofs.Tests.{either, or-true, or-first, or-second, and-true, and-both, same, out-nil, in-cases, in-one, any-in, any-some, in-filter, filter-in}
+use Rattle.plain.proofs.Upto.{upto, upto-in, in-upto, length-upto, in-below, below-in}
+use Rattle.plain.proofs.Runs.{Reach, Away, run-snoc, run-inside, states-inside}
 use Rattle.plain.proofs.Bounds.{once-short}
 
-pub in-below : (x n : ℕ) → In x (below n) → x < n
-unfolding below
-in-below x zero i = absurd (in-nil x i)
-in-below x (suc n) i = ⊎-elim (λ j. omega (arith, in-below x n j)) (λ j. omega (arith, in-one x n j)) (in-append x (below n) (n ∷ []) i)
-
-pub below-in : (x n : ℕ) → x < n → In x (below n)
-unfolding below
-below-in x zero h = absurd (omega arith)
-below-in x (suc n) h = ⊎-elim
-    (λ e. let z : x ≡ n = same e in in-right x (below n) (n ∷ []) (rw z (in-head n [])))
-    (λ f. let ne : x ≢ n = eqb-false x n f in in-left x (below n) (n ∷ []) (below-in x n (omega arith))) (either (eqb x n))
-
--- what passes a test, out of a list
-pub filter-in : (p : ℕ → Bool) (x : ℕ) (xs : List ℕ) → In x (filter p xs) → In x xs × (p x ≡ true)
-unfolding filter
-filter-in p x [] i = absurd (in-nil x i)
-filter-in p x (y ∷ ys) i = ⊎-elim
-    (λ h. ⊎-elim (λ z. rw z (in-head y ys, h)) (λ j. let r = filter-in p x ys j in (in-tail x y ys (r .0), r .1)) (in-cases x y (filter p ys) (rw (filter-yes p y ys h) at i)))
-    (λ h. let r = filter-in p x ys (rw (filter-no p y ys h) at i) in (in-tail x y ys (r .0), r .1)) (either (p y))
-
-both : (a b : Bool) → a ≡ true → b ≡ true → a && b ≡ true
-both a b e f = rw (e, f)
-
 module _ (g : Graph) where
-  -- a run of n moves leads from a to b
-  abbrev pub Away : ℕ → ℕ → ℕ → Type 0
-  Away n a b = (xs : List ℕ) × Run g a xs b × (length xs ≡ n)
-
-  -- a run of at most n moves does
+  -- a run of at most n moves leads from a to b
   abbrev pub Near : ℕ → ℕ → ℕ → Type 0
   Near n a b = (xs : List ℕ) × Run g a xs b × (length xs ≤ n)
 
-  pub away-snoc : (n a b c : ℕ) → Away n a b → In c (g .successors b) → Away (suc n) a c
+  pub away-snoc : (n a b c : ℕ) → Away g n a b → In c (g .successors b) → Away g (suc n) a c
   away-snoc n a b c (xs, r, e) i = (xs ++ (c ∷ []), run-snoc g xs a b c r i, omega (arith, length-append xs (c ∷ [])))
 
-  -- a run of one or more moves, without its last
-  pub last-move : (xs : List ℕ) (a x b : ℕ) → Run g a (x ∷ xs) b → (c : ℕ) × Away (length xs) a c × In b (g .successors c)
-  last-move [] a x b r = (a, ([], refl, refl), rw (r .1) at (r .0))
-  last-move (y ∷ xs) a x b r =
-      let q = last-move xs x y b (r .1) in
-      (q .0, (x ∷ q .1 .0, (r .0, q .1 .1), ap suc (q .1 .2)), q .2)
-
   -- `leads` is right
-  pub leads-run : (n a b : ℕ) → leads g n a b ≡ true → (xs : List ℕ) × Run g a xs b × (length xs ≤ n)
+  pub leads-run : (n a b : ℕ) → leads g n a b ≡ true → Near n a b
   unfolding leads
   leads-run zero a b e = ([], same e, omega arith)
   leads-run (suc n) a b e = ⊎-elim
@@ -98,6 +64,11 @@ module _ (g : Graph) where
 
   -- ---- the states of a game of so many
 
+  -- the states that are searched from are among them
+  pub roots-below : (size s : ℕ) → In s (roots g size) → s < size
+  unfolding roots
+  roots-below size s i = in-below s size (filter-in (λ x. g .accepting x && reached g size x) s (below size) i .0)
+
   module _ (size : ℕ) (begins : g .start < size) (stays : (x y : ℕ) → x < size → In y (g .successors x) → y < size) where
     among : (x y : ℕ) → In x (upto size) → In y (g .successors x) → In y (upto size)
     among x y i j = upto-in y size (stays x y (in-upto x size i) j)
@@ -117,14 +88,14 @@ module _ (g : Graph) where
     reach-below s (xs, r) = in-upto s size (run-inside g (upto size) among xs (g .start) s r (upto-in (g .start) size begins))
 
     -- the states that are searched from are the accepting states that can be reached
-    pub root-reached : (s : ℕ) → In s (roots g size) → (g .accepting s ≡ true) × Reach g (g .start) s × (s < size)
+    pub root-reached : (s : ℕ) → In s (roots g size) → (g .accepting s ≡ true) × Reach g (g .start) s
     unfolding roots
     root-reached s i =
         let f = filter-in (λ x. g .accepting x && reached g size x) s (below size) i in
         let h = and-true (g .accepting s) (reached g size s) (f .1) in
-        (h .0, reached-right s .0 (h .1), in-below s size (f .0))
+        (h .0, reached-right s .0 (h .1))
 
     pub reached-root : (s : ℕ) → g .accepting s ≡ true → Reach g (g .start) s → In s (roots g size)
     unfolding roots
     reached-root s p r =
-        in-filter (λ x. g .accepting x && reached g size x) s (below size) (below-in s size (reach-below s r)) (both (g .accepting s) (reached g size s) p (reached-right s .1 r))
+        in-filter (λ x. g .accepting x && reached g size x) s (below size) (below-in s size (reach-below s r)) (and-both (g .accepting s) (reached g size s) p (reached-right s .1 r))

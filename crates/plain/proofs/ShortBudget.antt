@@ -15,11 +15,12 @@ use Rattle.plain.specs.Table.{Table, graphOf, final}
 use Rattle.plain.specs.Shortest.{roots, noted, stopped, sweep, targetsOf, levels, searchFrom, ranOut, attempt, Hunt, foundAt, leftAt, hunt}
 use Rattle.plain.specs.Refusals.{Trial, accepted, refused}
 use Rattle.plain.specs.Questions.{short, noReply, shortest, noRound, questionTrial, huntIn, lengthsFor, shortReply, questionReply, replyTo}
-use Rattle.plain.proofs.Tests.{either, in-nil, in-head, in-tail, in-cases, in-append, in-one, filter-yes, filter-no}
+use Rattle.plain.proofs.Tests.{either}
 use Rattle.plain.proofs.Upto.{upto, upto-in, once-upto}
 use Rattle.plain.proofs.Tables.{Valid}
 use Rattle.plain.proofs.Demands.{total-le, target-below}
-use Rattle.plain.proofs.ShortLooks.{sweep-stop, sweep-back, sweep-on, sweep-cases, through-stopped, back-stopped, levels-on, levels-back, levels-stop, attempt-on, attempt-back, attempt-stop, attempt-cases, ruled-ran, succeeded-ran, hunt-on, hunt-found, hunt-left, Among, hunt-within}
+use Rattle.plain.proofs.Reached.{roots-below}
+use Rattle.plain.proofs.ShortLooks.{sweep-stop, sweep-back, sweep-on, sweep-cases, through-stopped, back-stopped, levels-on, levels-back, levels-stop, attempt-on, attempt-back, attempt-stop, attempt-cases, ruled-ran, succeeded-ran, hunt-on, hunt-found, hunt-left, hunt-within}
 
 -- ---- more looks
 
@@ -164,23 +165,6 @@ more-looks t b c best least best′ least′ more = by-trial (questionTrial (sho
     by-trial accepted x y = by-verdict (verdict (final t)) x y
     by-trial (refused n) x y = absurd (refusal-apart x)
 
-pub in-below : (x n : ℕ) → In x (below n) → x < n
-unfolding below
-in-below x zero i = absurd (in-nil x i)
-in-below x (suc n) i = ⊎-elim (λ j. omega (arith, in-below x n j)) (λ j. omega (arith, in-one x n j)) (in-append x (below n) (n ∷ []) i)
-
-pub filter-in : (p : ℕ → Bool) (x : ℕ) (xs : List ℕ) → In x (filter p xs) → In x xs
-unfolding filter
-filter-in p x [] i = i
-filter-in p x (y ∷ ys) i = ⊎-elim
-    (λ e. ⊎-elim (λ z. rw z (in-head y ys)) (λ j. in-tail x y ys (filter-in p x ys j)) (in-cases x y (filter p ys) (rw (filter-yes p y ys e) at i)))
-    (λ e. in-tail x y ys (filter-in p x ys (rw (filter-no p y ys e) at i))) (either (p y))
-
--- the states that are searched from are states of the game
-pub roots-among : (g : Graph) (size : ℕ) → Among (upto size) (roots g size)
-unfolding roots
-roots-among g size x i = upto-in x size (in-below x size (filter-in _ x (below size) i))
-
 -- Where the budget has, for each of k lengths and each state that is searched from, a look at each move, the hunt finds a round or rules all k lengths out.
 pub hunt-ends : (t : Table) → Valid t → (b k : ℕ) → k * (length (roots (graphOf t) (t .size)) * length (t .edges)) ≤ b
     → ((m : ℕ) × (huntIn t b k ≡ foundAt m)) ⊎ (huntIn t b k ≡ leftAt (suc k))
@@ -191,4 +175,4 @@ hunt-ends t v b k h =
     let p = length (roots g (t .size)) in
     let few = mul-le-mul-left k (mul-le-mul-left p (total-le (t .edges) us (once-upto (t .size)))) in
     let z : 1 + k ≡ suc k = omega arith in
-    rw (← z) (hunt-within g us (λ x y i j. upto-in y (t .size) (target-below t v x y j)) b (roots g (t .size)) k 1 0 (roots-among g (t .size)) (omega arith))
+    rw (← z) (hunt-within g us (λ x y i j. upto-in y (t .size) (target-below t v x y j)) b (roots g (t .size)) k 1 0 (λ x i. upto-in x (t .size) (roots-below g (t .size) x i)) (omega arith))

@@ -19,14 +19,13 @@ use Rattle.plain.specs.Shortest.{leads, roots, noted, Sweep, through, ba
 use Rattle.plain.specs.Refusals.{firstHeld}
 use Rattle.plain.specs.Questions.{short, noReply, shortest, noRound, questionTrial, huntIn, lengthsFor, shortReply, questionReply, replyTo, replyLine}
 use Rattle.plain.specs.Claims.{Arises, LengthsTrue, LineTrue}
-use Rattle.plain.proofs.Tests.{either, in-nil, in-head, in-tail, in-cases, in-one, in-append, in-left, in-right}
-use Rattle.plain.proofs.Runs.{run-join, reach-join}
+use Rattle.plain.proofs.Tests.{either, in-nil, in-head, in-tail, in-cases, in-one, in-append, in-left, in-right, to-end}
+use Rattle.plain.proofs.Runs.{some-first, run-join, reach-join, Away, last-move, run-split}
 use Rattle.plain.proofs.Passing.{run-last}
-use Rattle.plain.proofs.LayerWalks.{to-end}
 use Rattle.plain.proofs.Trials.{held-first, held-later}
 use Rattle.plain.proofs.Tables.{Valid, valid}
 use Rattle.plain.proofs.Demands.{inside-game, verdict-right}
-use Rattle.plain.proofs.Reached.{Away, Near, away-snoc, last-move, leads-run, run-leads, root-reached, reached-root}
+use Rattle.plain.proofs.Reached.{Near, away-snoc, leads-run, run-leads, root-reached, reached-root}
 
 -- ---- the definitions, case by case
 
@@ -393,47 +392,33 @@ module _ (g : Graph) (rs : List ℕ) where
 -- ---- rounds, and closed runs from a state that is searched from
 
 module _ (g : Graph) where
-  -- at a state that it comes to, a run splits: one or more moves, and the rest
-  split : (xs : List ℕ) (a b c : ℕ) → Run g a xs b → In c xs → (us : List ℕ) × (vs : List ℕ) × Run g a us c × Run g c vs b × (length us + length vs ≡ length xs)
-  split [] a b c r i = absurd (in-nil c i)
-  split (x ∷ xs) a b c r i = ⊎-elim
-      (λ e. rw e (x ∷ [], xs, (r .0, refl), r .1, omega arith))
-      (λ j. let q = split xs x b c (r .1) j in (x ∷ q .0, q .1, (r .0, q .2), q .3, omega (arith, q .4)))
-      (in-cases c x xs i)
-
   -- a closed run can be begun at any state that it comes to
   pub rotated : (xs : List ℕ) (a c : ℕ) → Run g a xs a → In c xs → Away g (length xs) c c
   rotated xs a c r i =
-      let q = split xs a a c r i in
-      (q .1 ++ q .0, run-join g (q .1) (q .0) c a c (q .3) (q .2), omega (arith, length-append (q .1) (q .0), q .4))
+      let q = run-split g xs a a c r i in
+      let us = q .0 .0 ∷ q .0 .1 in
+      (q .1 .0 ++ us, run-join g (q .1 .0) us c a c (q .1 .1) (q .0 .2), omega (arith, length-append (q .1 .0) us, q .2))
 
 -- the round of a walk has as many moves as it has states
 pub walk-round : (a : Kinded) (stem cycle : List ℕ) → FullLasso a stem cycle → (f : FullRound a) × (roundLength a f ≡ length cycle)
-walk-round a stem cycle w = ahead (w .others) (w .closes) all (ap length (w .cycle-is))
-  where
-    all : PassesAll a (w .others ++ (w .entry ∷ []))
-    all kind h = let q = w .passes-all kind h in (q .0, to-end (w .entry) (q .0) (w .others) (rw (w .cycle-is) at (q .1)), q .2)
-
-    round : (x : ℕ) (xs : List ℕ) → Run (a .graph) (w .entry) (x ∷ xs) (w .entry) → PassesAll a (x ∷ xs) → length cycle ≡ length (x ∷ xs) → (f : FullRound a) × (roundLength a f ≡ length cycle)
-    round x xs r p e = (
+walk-round a stem cycle w =
+    let (y, ys, e) = some-first (w .others) (w .entry) in (
       record {
         origin = w .entry;
-        first = x;
-        others = xs;
-        closed = r;
-        passes-all = p;
+        first = y;
+        others = ys;
+        closed = rw e at (w .closes);
+        passes-all = rw e at all;
         way = w .way;
         entry = w .entry;
         leads = w .leads;
-        enters = run-last (a .graph) xs (w .entry) x (w .entry) r;
+        enters = rw e at (in-right (w .entry) (w .others) (w .entry ∷ []) (in-head (w .entry) []));
       },
-      sym e,
+      omega (arith, ap length e, ap length (w .cycle-is), length-append (w .others) (w .entry ∷ [])),
     )
-
-    ahead : (xs : List ℕ) → Run (a .graph) (w .entry) (xs ++ (w .entry ∷ [])) (w .entry) → PassesAll a (xs ++ (w .entry ∷ [])) → length cycle ≡ length (w .entry ∷ xs)
-        → (f : FullRound a) × (roundLength a f ≡ length cycle)
-    ahead [] r p e = round (w .entry) [] r p e
-    ahead (x ∷ xs) r p e = round x (xs ++ (w .entry ∷ [])) r p (omega (arith, length-append xs (w .entry ∷ [])))
+  where
+    all : PassesAll a (w .others ++ (w .entry ∷ []))
+    all kind h = let q = w .passes-all kind h in (q .0, to-end (w .entry) (q .0) (w .others) (rw (w .cycle-is) at (q .1)), q .2)
 
 -- the states of a table that are searched from
 abbrev pub rootsOf : Table → List ℕ
@@ -447,9 +432,9 @@ module _ (t : Table) (v : Valid t) (one : t .kinds ≡ 1) where
       let xs = f .first ∷ f .others in
       let i = inside-game t v in
       let p = f .passes-all 0 (omega (arith, one)) in
-      let e = split g xs (f .origin) (f .origin) (f .entry) (f .closed) (f .enters) in
-      let q = split g xs (f .origin) (f .origin) (p .0) (f .closed) (p .1) in
-      let way = reach-join g (g .start) (f .origin) (p .0) (reach-join g (g .start) (f .entry) (f .origin) (f .way, f .leads) (e .1, e .3)) (q .0, q .2) in
+      let e = run-split g xs (f .origin) (f .origin) (f .entry) (f .closed) (f .enters) in
+      let q = run-split g xs (f .origin) (f .origin) (p .0) (f .closed) (p .1) in
+      let way = reach-join g (g .start) (f .origin) (p .0) (reach-join g (g .start) (f .entry) (f .origin) (f .way, f .leads) (e .1)) (q .0 .0 ∷ q .0 .1, q .0 .2) in
       closes g (rootsOf t) (p .0) (length xs) (reached-root g (t .size) (i .begins) (i .stays) (p .0) (p .2) way) (rotated g xs (f .origin) (p .0) (f .closed) (p .1)) (omega arith)
 
   -- And a closed run from such a state is a round.
