@@ -1,46 +1,37 @@
 -- More looks go further on the same way; and for which budgets a table's hunt for its shortest round always ends. Assumes nothing.
-use mathlib.Core.Path.{_≡_, refl, sym, _∙_}
+use mathlib.Core.Path.{_≡_, sym, _∙_}
 use mathlib.Core.Logic.{_≢_, _⊎_, ⊎-elim}
-use mathlib.Core.Bool.{Bool, false}
 use mathlib.Core.List.{List, [], _∷_}
 use Prim.Native.Nat.{ℕ, zero, suc, _+_, _*_, _≤_, _<_}
 use native.Mathlib.Nat.{mul-le-mul-left}
 use native.Mathlib.Omega.{arith}
-use lib.Dec.{eqb, leb}
 use lib.ListN.{length, drop}
-use borrow.Author.Tests.{leb-false, lt-leb}
-use Rattle.plain.specs.Lists.{filter, below, In}
 use Rattle.plain.specs.Search.{Graph, Verdict, none, lasso, unfinished, verdict}
 use Rattle.plain.specs.Table.{Table, graphOf, final}
 use Rattle.plain.specs.Shortest.{roots, noted, stopped, sweep, targetsOf, levels, searchFrom, ranOut, attempt, Hunt, foundAt, leftAt, hunt}
 use Rattle.plain.specs.Refusals.{Trial, accepted, refused}
 use Rattle.plain.specs.Questions.{short, noReply, shortest, noRound, questionTrial, huntIn, lengthsFor, shortReply, questionReply, replyTo}
-use Rattle.plain.proofs.Tests.{either}
 use Rattle.plain.proofs.Upto.{upto, upto-in, once-upto}
 use Rattle.plain.proofs.Tables.{Valid}
 use Rattle.plain.proofs.Demands.{total-le, target-below}
+use Rattle.plain.proofs.Sweeps.{sweep-cases, attempt-cases, through-stopped, back-stopped, ruled-ran, succeeded-ran, found-left, sweep-none, looked, not-taken, returned, gone-on, sweep-returns, sweep-goes, levels-over, levels-on, levels-back, levels-stop, attempt-over, attempt-on, attempt-back, attempt-stop, hunt-over, hunt-on, hunt-found, hunt-left}
 use Rattle.plain.proofs.Reached.{roots-below}
-use Rattle.plain.proofs.ShortLooks.{sweep-stop, sweep-back, sweep-on, sweep-cases, through-stopped, back-stopped, levels-on, levels-back, levels-stop, attempt-on, attempt-back, attempt-stop, attempt-cases, ruled-ran, succeeded-ran, hunt-on, hunt-found, hunt-left, hunt-within}
+use Rattle.plain.proofs.ShortLooks.{hunt-within}
 
 -- ---- more looks
 
 -- What b looks are enough for comes out the same with c looks.
 pub sweep-more : (b c : ℕ) → b ≤ c → (s : ℕ) (ts seen : List ℕ) (n : ℕ) → sweep b s ts seen n ≢ stopped → sweep c s ts seen n ≡ sweep b s ts seen n
-unfolding sweep
-sweep-more b c more s [] seen n h = refl
-sweep-more b c more s (t ∷ ts) seen n h = ⊎-elim
-    (λ e. absurd (h (sweep-stop b s t ts seen n e)))
-    (λ e. let e′ : leb c n ≡ false = lt-leb c n (omega (arith, leb-false b n e)) in
-    ⊎-elim
-    (λ f. sweep-back c s t ts seen n e′ f ∙ sym (sweep-back b s t ts seen n e f))
-    (λ f. let on = sweep-on b s t ts seen n e f in sweep-on c s t ts seen n e′ f ∙ sweep-more b c more s ts (noted t seen) (suc n) (λ z. h (on ∙ z)) ∙ sym on)
-    (either (eqb t s)))
-    (either (leb b n))
+sweep-more b c more s [] seen n h = sweep-none c s seen n ∙ sym (sweep-none b s seen n)
+sweep-more b c more s (t ∷ ts) seen n h = elim (looked b s t ts seen n) [
+  | not-taken k f ↦ absurd (h f)
+  | returned k z f ↦ sweep-returns c s t ts seen n (omega arith) z ∙ sym f
+  | gone-on k z f ↦ sweep-goes c s t ts seen n (omega arith) z ∙ sweep-more b c more s ts (noted t seen) (suc n) (λ y. h (f ∙ y)) ∙ sym f
+]
 
 module _ (g : Graph) (b c : ℕ) (more : b ≤ c) where
   pub levels-more : (l s : ℕ) (level seen : List ℕ) (n : ℕ) → levels g b l s level seen n ≢ stopped → levels g c l s level seen n ≡ levels g b l s level seen n
-  unfolding levels
-  levels-more zero s level seen n h = refl
+  levels-more zero s level seen n h = levels-over g c s level seen n ∙ sym (levels-over g b s level seen n)
   levels-more (suc l) s level seen n h = ⊎-elim
       (λ r. let e = levels-on g b l s level seen n (r .0) (r .1) (r .2) in
       levels-on g c l s level seen n (r .0) (r .1) (same (λ z. through-stopped _ (r .2) z) ∙ r .2)
@@ -54,8 +45,7 @@ module _ (g : Graph) (b c : ℕ) (more : b ≤ c) where
       same = sweep-more b c more s (targetsOf g level) seen n
 
   pub attempt-more : (l : ℕ) (rs : List ℕ) (n : ℕ) → attempt g b l rs n ≢ ranOut → attempt g c l rs n ≡ attempt g b l rs n
-  unfolding attempt
-  attempt-more l [] n h = refl
+  attempt-more l [] n h = attempt-over g c l n ∙ sym (attempt-over g b l n)
   attempt-more l (s ∷ ss) n h = ⊎-elim
       (λ r. let e = attempt-on g b l s ss n (r .0) (r .1) (r .2) in
       attempt-on g c l s ss n (r .0) (r .1) (same (λ z. through-stopped _ (r .2) z) ∙ r .2) ∙ attempt-more l ss (r .1) (λ z. h (e ∙ z)) ∙ sym e)
@@ -77,8 +67,7 @@ ends-next k l (foundAt m) e = (omega arith, omega arith)
 ends-next k l (leftAt m) e = (omega arith, omega arith)
 
 pub hunt-least : (g : Graph) (b : ℕ) (rs : List ℕ) (k l n : ℕ) → Ends k l (hunt g b rs k l n)
-unfolding hunt
-hunt-least g b rs zero l n = (omega arith, omega arith)
+hunt-least g b rs zero l n = rw (hunt-over g b rs l n) (omega arith, omega arith)
 hunt-least g b rs (suc k) l n = ⊎-elim
     (λ r. rw (hunt-on g b rs k l n (r .0) (r .1)) (ends-next k l (hunt g b rs k (suc l) (r .0)) (hunt-least g b rs k (suc l) (r .0))))
     (⊎-elim
@@ -97,8 +86,7 @@ further-least k l (foundAt m) e = e .0
 further-least k l (leftAt m) e = e .0
 
 pub hunt-more : (g : Graph) (b c : ℕ) → b ≤ c → (rs : List ℕ) (k l n : ℕ) → Further (hunt g b rs k l n) (hunt g c rs k l n)
-unfolding hunt
-hunt-more g b c more rs zero l n = omega arith
+hunt-more g b c more rs zero l n = rw (hunt-over g b rs l n, hunt-over g c rs l n) (omega arith)
 hunt-more g b c more rs (suc k) l n = ⊎-elim
     (λ r. rw (hunt-on g b rs k l n (r .0) (r .1), hunt-on g c rs k l n (r .0) (same (λ z. ruled-ran _ (r .1) z) ∙ r .1)) (hunt-more g b c more rs k (suc l) (r .0)))
     (⊎-elim
@@ -109,19 +97,15 @@ hunt-more g b c more rs (suc k) l n = ⊎-elim
     same : attempt g b l rs n ≢ ranOut → attempt g c l rs n ≡ attempt g b l rs n
     same = attempt-more g b c more l rs n
 
-left-found : {l m : ℕ} → (r : Hunt) → r ≡ leftAt l → r ≡ foundAt m → ⊥
-left-found r p q = let z : _≡_ {A = ℕ} 0 1 = cc in omega arith
-
 -- What is found is found too where more lengths would be tried
 pub hunt-shorter : (g : Graph) (b : ℕ) (rs : List ℕ) (k k′ l n m : ℕ) → k ≤ k′ → hunt g b rs k l n ≡ foundAt m → hunt g b rs k′ l n ≡ foundAt m
-unfolding hunt
-hunt-shorter g b rs zero k′ l n m h f = absurd (left-found _ refl f)
+hunt-shorter g b rs zero k′ l n m h f = absurd (found-left _ f (hunt-over g b rs l n))
 hunt-shorter g b rs (suc k) zero l n m h f = absurd (omega arith)
 hunt-shorter g b rs (suc k) (suc k′) l n m h f = ⊎-elim
     (λ r. hunt-on g b rs k′ l n (r .0) (r .1) ∙ hunt-shorter g b rs k k′ (suc l) (r .0) m (omega arith) (sym (hunt-on g b rs k l n (r .0) (r .1)) ∙ f))
     (⊎-elim
     (λ e. hunt-found g b rs k′ l n e ∙ sym (hunt-found g b rs k l n e) ∙ f)
-    (λ e. absurd (left-found _ (hunt-left g b rs k l n e) f)))
+    (λ e. absurd (found-left _ f (hunt-left g b rs k l n e))))
     (attempt-cases (attempt g b l rs n))
 
 -- ---- of a table

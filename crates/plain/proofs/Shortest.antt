@@ -1,199 +1,35 @@
 -- The searches for the shortest round: what they find is there, and what they rule out is not. Assumes nothing.
 use mathlib.Core.Path.{_≡_, refl, sym, ap, _∙_}
 use mathlib.Core.Logic.{_≢_, _⊎_, inl, inr, ⊎-elim}
-use mathlib.Core.Bool.{true, false}
-use mathlib.Core.List.{List, [], _∷_, _++_, append-assoc, append-nil}
+use mathlib.Core.Bool.{true}
+use mathlib.Core.List.{List, [], _∷_, _++_}
 use Prim.Native.Nat.{ℕ, zero, suc, _+_, _≤_, _<_}
 use native.Mathlib.Decide.{decLe}
 use native.Mathlib.Omega.{arith}
-use lib.Dec.{eqb, ltb, leb}
+use lib.Dec.{ltb}
 use lib.ListN.{length, drop, length-append, length-map}
-use lib.Seq.{drop-append-seam}
-use borrow.Author.Tests.{eqb-true, eqb-false, lt-ltb, le-ltb}
-use Rattle.plain.specs.Lists.{elem, In}
+use borrow.Author.Tests.{lt-ltb, le-ltb}
+use Rattle.plain.specs.Lists.{In}
 use Rattle.plain.specs.Search.{Graph, Verdict, none, lasso, unfinished, verdict}
 use Rattle.plain.specs.Cycles.{Run, Kinded, PassesAll, FullRound, roundLength, FullLasso}
 use Rattle.plain.specs.Layers.{stateAt}
 use Rattle.plain.specs.Table.{Table, carriedBy, graphOf, gameOf, printed, final}
-use Rattle.plain.specs.Shortest.{leads, roots, noted, Sweep, through, back, stopped, sweep, targetsOf, levels, searchFrom, Attempt, succeeded, ranOut, ruledOut, Hunt, foundAt, leftAt, attempt, hunt}
+use Rattle.plain.specs.Shortest.{leads, roots, through, back, sweep, targetsOf, levels, searchFrom, succeeded, ruledOut, Hunt, foundAt, leftAt, attempt, hunt}
 use Rattle.plain.specs.Refusals.{firstHeld}
 use Rattle.plain.specs.Questions.{short, noReply, shortest, noRound, questionTrial, huntIn, lengthsFor, shortReply, questionReply, replyTo, replyLine}
 use Rattle.plain.specs.Claims.{Arises, LengthsTrue, LineTrue}
-use Rattle.plain.proofs.Tests.{either, in-nil, in-head, in-tail, in-cases, in-one, in-append, in-left, in-right, to-end}
+use Rattle.plain.proofs.Tests.{in-nil, in-head, in-tail, in-cases, in-one, in-append, in-left, in-right, to-end}
 use Rattle.plain.proofs.Runs.{some-first, run-join, reach-join, Away, last-move, run-split}
 use Rattle.plain.proofs.Passing.{run-last}
 use Rattle.plain.proofs.Trials.{held-first, held-later}
 use Rattle.plain.proofs.Tables.{Valid, valid}
 use Rattle.plain.proofs.Demands.{inside-game, verdict-right}
+use Rattle.plain.proofs.Sweeps.{sweep-cases, attempt-cases, through-back, back-stopped, ruled-succeeded, succeeded-ran, found-left, same-through, same-found, same-left, Swept, swept, swept-level, swept-back, in-targets, targets-in, levels-over, levels-on, levels-stop, levels-went, attempt-over, attempt-on, attempt-stop, attempt-went, hunt-over, hunt-on, hunt-found, hunt-left}
 use Rattle.plain.proofs.Reached.{Near, away-snoc, leads-run, run-leads, root-reached, reached-root}
-
--- ---- the definitions, case by case
-
-noted-old : (t : ℕ) (seen : List ℕ) → elem t seen ≡ true → noted t seen ≡ seen
-unfolding noted
-noted-old t seen e = rw (e, noted)
-
-noted-new : (t : ℕ) (seen : List ℕ) → elem t seen ≡ false → noted t seen ≡ seen ++ (t ∷ [])
-unfolding noted
-noted-new t seen e = rw (e, noted)
-
-module _ (b s t : ℕ) (ts seen : List ℕ) (n : ℕ) where
-  sweep-stop : leb b n ≡ true → sweep b s (t ∷ ts) seen n ≡ stopped
-  unfolding sweep
-  sweep-stop e = rw (e, sweep)
-
-  sweep-back : leb b n ≡ false → eqb t s ≡ true → sweep b s (t ∷ ts) seen n ≡ back
-  unfolding sweep
-  sweep-back e f = rw (e, f, sweep)
-
-  sweep-on : leb b n ≡ false → eqb t s ≡ false → sweep b s (t ∷ ts) seen n ≡ sweep b s ts (noted t seen) (suc n)
-  unfolding sweep
-  sweep-on e f = rw (e, f, sweep)
-
-sweep-cases : (r : Sweep) → ((seen : List ℕ) × (m : ℕ) × (r ≡ through seen m)) ⊎ ((r ≡ back) ⊎ (r ≡ stopped))
-sweep-cases (through seen m) = inl (seen, m, refl)
-sweep-cases back = inr (inl refl)
-sweep-cases stopped = inr (inr refl)
-
-through-stopped : {seen : List ℕ} {m : ℕ} → (r : Sweep) → r ≡ through seen m → r ≡ stopped → ⊥
-through-stopped r p q = let z : _≡_ {A = ℕ} 0 1 = cc in omega arith
-
-through-back : {seen : List ℕ} {m : ℕ} → (r : Sweep) → r ≡ through seen m → r ≡ back → ⊥
-through-back r p q = let z : _≡_ {A = ℕ} 0 1 = cc in omega arith
-
-back-stopped : (r : Sweep) → r ≡ back → r ≡ stopped → ⊥
-back-stopped r p q = let z : _≡_ {A = ℕ} 0 1 = cc in omega arith
-
-same-through : {seen seen′ : List ℕ} {m m′ : ℕ} → through seen m ≡ through seen′ m′ → (seen ≡ seen′) × (m ≡ m′)
-same-through e = ((cc), (cc))
-
-module _ (g : Graph) (b l s : ℕ) (level seen : List ℕ) (n : ℕ) where
-  levels-on : (seen′ : List ℕ) (m : ℕ) → sweep b s (targetsOf g level) seen n ≡ through seen′ m → levels g b (suc l) s level seen n ≡ levels g b l s (drop (length seen) seen′) seen′ m
-  unfolding levels
-  levels-on seen′ m e = rw (e, levels)
-
-  levels-back : sweep b s (targetsOf g level) seen n ≡ back → levels g b (suc l) s level seen n ≡ back
-  unfolding levels
-  levels-back e = rw (e, levels)
-
-  levels-stop : sweep b s (targetsOf g level) seen n ≡ stopped → levels g b (suc l) s level seen n ≡ stopped
-  unfolding levels
-  levels-stop e = rw (e, levels)
-
-module _ (g : Graph) (b l s : ℕ) (ss : List ℕ) (n : ℕ) where
-  attempt-on : (seen : List ℕ) (m : ℕ) → searchFrom g b l s n ≡ through seen m → attempt g b l (s ∷ ss) n ≡ attempt g b l ss m
-  unfolding attempt
-  attempt-on seen m e = rw (e, attempt)
-
-  attempt-back : searchFrom g b l s n ≡ back → attempt g b l (s ∷ ss) n ≡ succeeded
-  unfolding attempt
-  attempt-back e = rw (e, attempt)
-
-  attempt-stop : searchFrom g b l s n ≡ stopped → attempt g b l (s ∷ ss) n ≡ ranOut
-  unfolding attempt
-  attempt-stop e = rw (e, attempt)
-
-attempt-cases : (r : Attempt) → ((m : ℕ) × (r ≡ ruledOut m)) ⊎ ((r ≡ succeeded) ⊎ (r ≡ ranOut))
-attempt-cases (ruledOut m) = inl (m, refl)
-attempt-cases succeeded = inr (inl refl)
-attempt-cases ranOut = inr (inr refl)
-
-ruled-ran : {m : ℕ} → (r : Attempt) → r ≡ ruledOut m → r ≡ ranOut → ⊥
-ruled-ran r p q = let z : _≡_ {A = ℕ} 0 1 = cc in omega arith
-
-ruled-succeeded : {m : ℕ} → (r : Attempt) → r ≡ ruledOut m → r ≡ succeeded → ⊥
-ruled-succeeded r p q = let z : _≡_ {A = ℕ} 0 1 = cc in omega arith
-
-succeeded-ran : (r : Attempt) → r ≡ succeeded → r ≡ ranOut → ⊥
-succeeded-ran r p q = let z : _≡_ {A = ℕ} 0 1 = cc in omega arith
-
-module _ (g : Graph) (b : ℕ) (rs : List ℕ) (k l n : ℕ) where
-  hunt-on : (m : ℕ) → attempt g b l rs n ≡ ruledOut m → hunt g b rs (suc k) l n ≡ hunt g b rs k (suc l) m
-  unfolding hunt
-  hunt-on m e = rw (e, hunt)
-
-  hunt-found : attempt g b l rs n ≡ succeeded → hunt g b rs (suc k) l n ≡ foundAt l
-  unfolding hunt
-  hunt-found e = rw (e, hunt)
-
-  hunt-left : attempt g b l rs n ≡ ranOut → hunt g b rs (suc k) l n ≡ leftAt l
-  unfolding hunt
-  hunt-left e = rw (e, hunt)
-
--- ---- one sweep
-
-module _ (b s : ℕ) where
-  -- What a sweep over moves to ts leaves, where none came back: the states seen before, and behind them those of ts that are new.
-  pub record Swept (ts seen seen′ : List ℕ) : Type 0 where
-    pub news : List ℕ
-    pub grown : seen′ ≡ seen ++ news
-    pub each : (t : ℕ) → In t ts → (t ≢ s) × In t seen′
-    pub only : (t : ℕ) → In t news → In t ts
-
-  -- one look more, at the start
-  swept-more : (t : ℕ) (ts seen seen′ : List ℕ) → t ≢ s → Swept ts (noted t seen) seen′ → Swept (t ∷ ts) seen seen′
-  swept-more t ts seen seen′ ne w = ⊎-elim
-      (λ e.
-      let g : seen′ ≡ seen ++ w .news = w .grown ∙ ap (λ (l : List ℕ). l ++ w .news) (noted-old t seen e) in
-      record {
-        news = w .news;
-        grown = g;
-        each = each (rw g (in-left t seen (w .news) e));
-        only = λ y i. in-tail y t ts (w .only y i);
-      })
-      (λ e.
-      let g : seen′ ≡ seen ++ (t ∷ w .news) = w .grown ∙ ap (λ (l : List ℕ). l ++ w .news) (noted-new t seen e) ∙ append-assoc seen (t ∷ []) (w .news) in
-      record {
-        news = t ∷ w .news;
-        grown = g;
-        each = each (rw g (in-right t seen (t ∷ w .news) (in-head t (w .news))));
-        only = λ y i. ⊎-elim (λ z. rw z (in-head t ts)) (λ j. in-tail y t ts (w .only y j)) (in-cases y t (w .news) i);
-      })
-      (either (elem t seen))
-    where
-      each : In t seen′ → (y : ℕ) → In y (t ∷ ts) → (y ≢ s) × In y seen′
-      each i y j = ⊎-elim (λ z. rw z (ne, i)) (w .each y) (in-cases y t ts j)
-
-  pub swept : (ts seen : List ℕ) (n : ℕ) (seen′ : List ℕ) (m : ℕ) → sweep b s ts seen n ≡ through seen′ m → Swept ts seen seen′
-  unfolding sweep
-  swept [] seen n seen′ m e = record { news = []; grown = sym (same-through e .0) ∙ sym (append-nil seen); each = λ t i. absurd (in-nil t i); only = λ t i. i }
-  swept (t ∷ ts) seen n seen′ m e = ⊎-elim
-      (λ h. absurd (through-stopped _ e (sweep-stop b s t ts seen n h)))
-      (λ h. ⊎-elim
-      (λ k. absurd (through-back _ e (sweep-back b s t ts seen n h k)))
-      (λ k. swept-more t ts seen seen′ (eqb-false t s k) (swept ts (noted t seen) (suc n) seen′ m (sym (sweep-on b s t ts seen n h k) ∙ e)))
-      (either (eqb t s)))
-      (either (leb b n))
-
-  -- a look that came back was at a move to s
-  pub swept-back : (ts seen : List ℕ) (n : ℕ) → sweep b s ts seen n ≡ back → In s ts
-  unfolding sweep
-  swept-back [] seen n e = absurd (through-back _ refl e)
-  swept-back (t ∷ ts) seen n e = ⊎-elim
-      (λ h. absurd (back-stopped _ e (sweep-stop b s t ts seen n h)))
-      (λ h. ⊎-elim
-      (λ k. rw (eqb-true t s k) (in-head s ts))
-      (λ k. in-tail s t ts (swept-back ts (noted t seen) (suc n) (sym (sweep-on b s t ts seen n h k) ∙ e)))
-      (either (eqb t s)))
-      (either (leb b n))
 
 -- ---- the levels of one search
 
 module _ (g : Graph) where
-  in-targets : (x y : ℕ) (level : List ℕ) → In x level → In y (g .successors x) → In y (targetsOf g level)
-  unfolding targetsOf
-  in-targets x y [] i j = absurd (in-nil x i)
-  in-targets x y (z ∷ level) i j = ⊎-elim
-      (λ e. in-left y (g .successors z) (targetsOf g level) (rw e at j))
-      (λ k. in-right y (g .successors z) (targetsOf g level) (in-targets x y level k j)) (in-cases x z level i)
-
-  targets-in : (y : ℕ) (level : List ℕ) → In y (targetsOf g level) → (x : ℕ) × In x level × In y (g .successors x)
-  unfolding targetsOf
-  targets-in y [] i = absurd (in-nil y i)
-  targets-in y (z ∷ level) i = ⊎-elim
-      (λ j. (z, in-head z level, j))
-      (λ j. let r = targets-in y level j in (r .0, in-tail (r .0) z level (r .1), r .2)) (in-append y (g .successors z) (targetsOf g level) i)
-
   -- every run of one or more moves from a to s has more than d moves
   abbrev pub Farther : ℕ → ℕ → ℕ → Type 0
   Farther d a s = (x : ℕ) (xs : List ℕ) → Run g a (x ∷ xs) s → d < length (x ∷ xs)
@@ -221,8 +57,8 @@ module _ (g : Graph) where
       at-once y (z ∷ xs) r h = absurd (omega arith)
 
   -- The next level is of the states that were new.
-  level-next : (b a s d : ℕ) (level seen seen′ : List ℕ) → Level a s d level seen → Swept b s (targetsOf g level) seen seen′ → Level a s (suc d) (drop (length seen) seen′) seen′
-  level-next b a s d level seen seen′ v w = record {
+  level-next : (a s d : ℕ) (level seen seen′ : List ℕ) → Level a s d level seen → Swept s (targetsOf g level) seen seen′ → Level a s (suc d) (drop (length seen) seen′) seen′
+  level-next a s d level seen seen′ v w = record {
     near = λ y (xs, r, h). near-more y xs r h;
     seen-near = λ y i. ⊎-elim
         (λ j. let n = v .seen-near y j in (n .0, n .1, omega (arith, n .2)))
@@ -234,15 +70,15 @@ module _ (g : Graph) where
   }
     where
       fresh : drop (length seen) seen′ ≡ w .news
-      fresh = ap (drop (length seen)) (w .grown) ∙ drop-append-seam seen (w .news)
+      fresh = swept-level s (targetsOf g level) seen seen′ w
 
       passed : (y z : ℕ) → In y seen → In z (g .successors y) → (z ≢ s) × In z seen′
       passed y z i j = ⊎-elim
           (λ c. (c .0, rw (w .grown) (in-left z seen (w .news) (c .1))))
-          (λ c. w .each z (in-targets y z level c j)) (v .done y z i j)
+          (λ c. w .each z (in-targets g y z level c j)) (v .done y z i j)
 
       new-away : (y : ℕ) → In y (w .news) → Away g (suc d) a y
-      new-away y i = let t = targets-in y level (w .only y i) in away-snoc g d a (t .0) y (v .away (t .0) (t .1)) (t .2)
+      new-away y i = let t = targets-in g y level (w .only y i) in away-snoc g d a (t .0) y (v .away (t .0) (t .1)) (t .2)
 
       near-more : (y : ℕ) (xs : List ℕ) → Run g a xs y → length xs ≤ suc d → In y seen′
       near-more y [] r h = rw (w .grown) (in-left y seen (w .news) (v .near y ([], r, omega arith)))
@@ -261,22 +97,20 @@ module _ (g : Graph) (b : ℕ) where
   -- What l levels come to, from distance d on. None came back: the states seen are those at most D = d + l moves away.
   levels-through : (l a s d D : ℕ) (level seen : List ℕ) (n : ℕ) (seen′ : List ℕ) (m : ℕ) → d + l ≡ D → Level g a s d level seen → levels g b l s level seen n ≡ through seen′ m
       → (level′ : List ℕ) × Level g a s D level′ seen′
-  unfolding levels
-  levels-through zero a s d D level seen n seen′ m h v e = let k : d ≡ D = omega arith in (level, rw (← same-through e .0, ← k) v)
-  levels-through (suc l) a s d D level seen n seen′ m h v e = ⊎-elim
-      (λ r. levels-through l a s (suc d) D (drop (length seen) (r .0)) (r .0) (r .1) seen′ m (omega arith)
-      (level-next g b a s d level seen (r .0) v (swept b s (targetsOf g level) seen n (r .0) (r .1) (r .2))) (sym (levels-on g b l s level seen n (r .0) (r .1) (r .2)) ∙ e))
-      (⊎-elim (λ r. absurd (through-back _ e (levels-back g b l s level seen n r))) (λ r. absurd (through-stopped _ e (levels-stop g b l s level seen n r))))
-      (sweep-cases (sweep b s (targetsOf g level) seen n))
+  levels-through zero a s d D level seen n seen′ m h v e =
+      let k : d ≡ D = omega arith in
+      (level, rw (← same-through (sym (levels-over g b s level seen n) ∙ e) .0, ← k) v)
+  levels-through (suc l) a s d D level seen n seen′ m h v e =
+      let (ys, k, p, q) = levels-went g b l s level seen n seen′ m e in
+      levels-through l a s (suc d) D (drop (length seen) ys) ys k seen′ m (omega arith) (level-next g a s d level seen ys v (swept b s (targetsOf g level) seen n ys k p)) q
 
   -- A look came back: a run of one or more moves leads from a to s, of at most D moves.
   levels-return : (l a s d D : ℕ) (level seen : List ℕ) (n : ℕ) → d + l ≡ D → Level g a s d level seen → levels g b l s level seen n ≡ back
       → (k : ℕ) × Away g k a s × (1 ≤ k) × (k ≤ D)
-  unfolding levels
-  levels-return zero a s d D level seen n h v e = absurd (through-back _ refl e)
+  levels-return zero a s d D level seen n h v e = absurd (through-back _ (levels-over g b s level seen n) e)
   levels-return (suc l) a s d D level seen n h v e = ⊎-elim
       (λ r. levels-return l a s (suc d) D (drop (length seen) (r .0)) (r .0) (r .1) (omega arith)
-      (level-next g b a s d level seen (r .0) v (swept b s (targetsOf g level) seen n (r .0) (r .1) (r .2))) (sym (levels-on g b l s level seen n (r .0) (r .1) (r .2)) ∙ e))
+      (level-next g a s d level seen (r .0) v (swept b s (targetsOf g level) seen n (r .0) (r .1) (r .2))) (sym (levels-on g b l s level seen n (r .0) (r .1) (r .2)) ∙ e))
       (⊎-elim
       (λ r.
       let t = targets-in g s level (swept-back b s (targetsOf g level) seen n r) in
@@ -293,8 +127,7 @@ module _ (g : Graph) (b : ℕ) where
 
   -- No look comes back to what is the target of no move.
   pub levels-never-back : (s : ℕ) → ((y z : ℕ) → In z (g .successors y) → z ≢ s) → (l : ℕ) (level seen : List ℕ) (n : ℕ) → levels g b l s level seen n ≢ back
-  unfolding levels
-  levels-never-back s away zero level seen n e = through-back _ refl e
+  levels-never-back s away zero level seen n e = through-back _ (levels-over g b s level seen n) e
   levels-never-back s away (suc l) level seen n e = ⊎-elim
       (λ r. levels-never-back s away l (drop (length seen) (r .0)) (r .0) (r .1) (sym (levels-on g b l s level seen n (r .0) (r .1) (r .2)) ∙ e))
       (⊎-elim
@@ -315,34 +148,20 @@ module _ (g : Graph) (b : ℕ) where
 module _ (g : Graph) (b : ℕ) where
   -- A length that is ruled out: every closed run from the states has more moves.
   pub attempt-ruled : (l : ℕ) (rs : List ℕ) (n m : ℕ) → attempt g b l rs n ≡ ruledOut m → (s : ℕ) → In s rs → Farther g l s s
-  unfolding attempt
   attempt-ruled l [] n m e s i = absurd (in-nil s i)
-  attempt-ruled l (r ∷ rs) n m e s i = ⊎-elim
-      (λ o. ⊎-elim
-      (λ z. rw z (search-through g b l r n (o .0) (o .1) (o .2)))
-      (attempt-ruled l rs (o .1) m (sym (attempt-on g b l r rs n (o .0) (o .1) (o .2)) ∙ e) s) (in-cases s r rs i))
-      (⊎-elim (λ o. absurd (ruled-succeeded _ e (attempt-back g b l r rs n o))) (λ o. absurd (ruled-ran _ e (attempt-stop g b l r rs n o))))
-      (sweep-cases (searchFrom g b l r n))
+  attempt-ruled l (r ∷ rs) n m e s i =
+      let (seen, k, p, q) = attempt-went g b l r rs n m e in
+      ⊎-elim (λ z. rw z (search-through g b l r n seen k p)) (attempt-ruled l rs k m q s) (in-cases s r rs i)
 
   -- A success: one of the states has a closed run of at least 1 and at most l moves.
   pub attempt-found : (l : ℕ) (rs : List ℕ) (n : ℕ) → attempt g b l rs n ≡ succeeded → (s : ℕ) × In s rs × (k : ℕ) × Away g k s s × (1 ≤ k) × (k ≤ l)
-  unfolding attempt
-  attempt-found l [] n e = absurd (ruled-succeeded _ refl e)
+  attempt-found l [] n e = absurd (ruled-succeeded _ (attempt-over g b l n) e)
   attempt-found l (r ∷ rs) n e = ⊎-elim
       (λ o. let q = attempt-found l rs (o .1) (sym (attempt-on g b l r rs n (o .0) (o .1) (o .2)) ∙ e) in (q .0, in-tail (q .0) r rs (q .1), q .2, q .3, q .4, q .5))
       (⊎-elim
       (λ o. let q = search-back g b l r n o in (r, in-head r rs, q .0, q .1, q .2, q .3))
       (λ o. absurd (succeeded-ran _ e (attempt-stop g b l r rs n o))))
       (sweep-cases (searchFrom g b l r n))
-
-found-left : {k l : ℕ} → (r : Hunt) → r ≡ foundAt k → r ≡ leftAt l → ⊥
-found-left r p q = let z : _≡_ {A = ℕ} 0 1 = cc in omega arith
-
-same-found : {k l : ℕ} → foundAt k ≡ foundAt l → k ≡ l
-same-found e = cc
-
-same-left : {k l : ℕ} → leftAt k ≡ leftAt l → k ≡ l
-same-left e = cc
 
 -- of closed runs, which have one or more moves, from some states
 module _ (g : Graph) (rs : List ℕ) where
@@ -364,8 +183,7 @@ module _ (g : Graph) (rs : List ℕ) where
   module _ (b : ℕ) where
     -- Found: a closed run has that many moves, and none has fewer.
     pub hunt-finds : (k l n m : ℕ) → AtLeast l → hunt g b rs k l n ≡ foundAt m → (l ≤ m) × Closes m × AtLeast m
-    unfolding hunt
-    hunt-finds zero l n m h e = absurd (found-left _ e refl)
+    hunt-finds zero l n m h e = absurd (found-left _ e (hunt-over g b rs l n))
     hunt-finds (suc k) l n m h e = ⊎-elim
         (λ o. let q = hunt-finds k (suc l) (o .0) m (attempt-ruled g b l rs n (o .0) (o .1)) (sym (hunt-on g b rs k l n (o .0) (o .1)) ∙ e) in (omega (arith, q .0), q .1, q .2))
         (⊎-elim
@@ -380,8 +198,7 @@ module _ (g : Graph) (rs : List ℕ) where
 
     -- Left: none has fewer.
     pub hunt-leaves : (k l n m : ℕ) → AtLeast l → hunt g b rs k l n ≡ leftAt m → (l ≤ m) × AtLeast m
-    unfolding hunt
-    hunt-leaves zero l n m h e = let z : l ≡ m = same-left e in (omega arith, rw z at h)
+    hunt-leaves zero l n m h e = let z : l ≡ m = same-left (sym (hunt-over g b rs l n) ∙ e) in (omega arith, rw z at h)
     hunt-leaves (suc k) l n m h e = ⊎-elim
         (λ o. let q = hunt-leaves k (suc l) (o .0) m (attempt-ruled g b l rs n (o .0) (o .1)) (sym (hunt-on g b rs k l n (o .0) (o .1)) ∙ e) in (omega (arith, q .0), q .1))
         (⊎-elim
