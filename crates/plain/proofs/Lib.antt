@@ -43,5 +43,6 @@ pub mod Reached
 pub mod ShortLooks
 pub mod Shortest
 pub mod ShortBudget
+pub mod ShortRight
 pub mod Answers
 pub mod Loops

@@ -10,13 +10,14 @@ use Rattle.plain.specs.Search.{Graph, Verdict, none, lasso, unfinished, 
 use Rattle.plain.specs.Table.{Table, graphOf, final}
 use Rattle.plain.specs.Shortest.{roots, noted, stopped, sweep, targetsOf, levels, searchFrom, ranOut, attempt, Hunt, foundAt, leftAt, hunt}
 use Rattle.plain.specs.Refusals.{Trial, accepted, refused}
-use Rattle.plain.specs.Questions.{short, noReply, shortest, noRound, questionTrial, huntIn, lengthsFor, shortReply, questionReply, replyTo}
+use Rattle.plain.specs.Questions.{short, noReply, shortest, questionTrial, huntIn, lengthsFor, shortReply, questionReply, replyTo}
 use Rattle.plain.proofs.Upto.{upto, upto-in, once-upto}
 use Rattle.plain.proofs.Tables.{Valid}
 use Rattle.plain.proofs.Demands.{total-le, target-below}
 use Rattle.plain.proofs.Sweeps.{sweep-cases, attempt-cases, through-stopped, back-stopped, ruled-ran, succeeded-ran, found-left, sweep-none, looked, not-taken, returned, gone-on, sweep-returns, sweep-goes, levels-over, levels-on, levels-back, levels-stop, attempt-over, attempt-on, attempt-back, attempt-stop, hunt-over, hunt-on, hunt-found, hunt-left}
 use Rattle.plain.proofs.Reached.{roots-below}
 use Rattle.plain.proofs.ShortLooks.{hunt-within}
+use Rattle.plain.proofs.Shortest.{shortest-none}
 
 -- ---- more looks
 
@@ -134,16 +135,13 @@ more-looks t b c best least best′ least′ more = by-trial (questionTrial (sho
     refusal-apart : {n : ℕ} → noReply n ≡ shortest best least → ⊥
     refusal-apart e = let z : _≡_ {A = ℕ} 0 1 = cc in omega arith
 
-    none-apart : noRound ≡ shortest best least → ⊥
-    none-apart e = let z : _≡_ {A = ℕ} 0 1 = cc in omega arith
-
     by-verdict : (v : Verdict) → shortReply v b t ≡ shortest best least → shortReply v c t ≡ shortest best′ least′ → (best′ ≤ best) × (least ≤ least′)
-    by-verdict none x y = absurd (none-apart x)
+    by-verdict none x y = absurd (shortest-none (sym x))
     by-verdict (lasso stem cycle) x y =
         let rs = roots (graphOf t) (t .size) in
         let k = length cycle in
         lengths-more k (huntIn t b k) (huntIn t c k) best least best′ least′ (hunt-more (graphOf t) b c more rs k 1 0) (hunt-least (graphOf t) c rs k 1 0) x y
-    by-verdict unfinished x y = absurd (none-apart x)
+    by-verdict unfinished x y = absurd (shortest-none (sym x))
 
     by-trial : (r : Trial) → questionReply r (short b) t ≡ shortest best least → questionReply r (short c) t ≡ shortest best′ least′ → (best′ ≤ best) × (least ≤ least′)
     by-trial accepted x y = by-verdict (verdict (final t)) x y

@@ -182,28 +182,28 @@ module _ (g : Graph) (rs : List ℕ) where
 
   module _ (b : ℕ) where
     -- Found: a closed run has that many moves, and none has fewer.
-    pub hunt-finds : (k l n m : ℕ) → AtLeast l → hunt g b rs k l n ≡ foundAt m → (l ≤ m) × Closes m × AtLeast m
+    pub hunt-finds : (k l n m : ℕ) → AtLeast l → hunt g b rs k l n ≡ foundAt m → Closes m × AtLeast m
     hunt-finds zero l n m h e = absurd (found-left _ e (hunt-over g b rs l n))
     hunt-finds (suc k) l n m h e = ⊎-elim
-        (λ o. let q = hunt-finds k (suc l) (o .0) m (attempt-ruled g b l rs n (o .0) (o .1)) (sym (hunt-on g b rs k l n (o .0) (o .1)) ∙ e) in (omega (arith, q .0), q .1, q .2))
+        (λ o. hunt-finds k (suc l) (o .0) m (attempt-ruled g b l rs n (o .0) (o .1)) (sym (hunt-on g b rs k l n (o .0) (o .1)) ∙ e))
         (⊎-elim
         (λ o.
         let z : l ≡ m = same-found (sym (hunt-found g b rs k l n o) ∙ e) in
         let q = attempt-found g b l rs n o in
         let c = closes (q .0) (q .2) (q .1) (q .3) (q .4) in
         let d : q .2 ≡ m = omega (arith, h (c .0) (c .1) (c .2) (c .3) (c .4), c .5, q .5) in
-        (omega arith, rw d at c, rw z at h))
+        (rw d at c, rw z at h))
         (λ o. absurd (found-left _ e (hunt-left g b rs k l n o))))
         (attempt-cases (attempt g b l rs n))
 
     -- Left: none has fewer.
-    pub hunt-leaves : (k l n m : ℕ) → AtLeast l → hunt g b rs k l n ≡ leftAt m → (l ≤ m) × AtLeast m
-    hunt-leaves zero l n m h e = let z : l ≡ m = same-left (sym (hunt-over g b rs l n) ∙ e) in (omega arith, rw z at h)
+    pub hunt-leaves : (k l n m : ℕ) → AtLeast l → hunt g b rs k l n ≡ leftAt m → AtLeast m
+    hunt-leaves zero l n m h e = let z : l ≡ m = same-left (sym (hunt-over g b rs l n) ∙ e) in rw z at h
     hunt-leaves (suc k) l n m h e = ⊎-elim
-        (λ o. let q = hunt-leaves k (suc l) (o .0) m (attempt-ruled g b l rs n (o .0) (o .1)) (sym (hunt-on g b rs k l n (o .0) (o .1)) ∙ e) in (omega (arith, q .0), q .1))
+        (λ o. hunt-leaves k (suc l) (o .0) m (attempt-ruled g b l rs n (o .0) (o .1)) (sym (hunt-on g b rs k l n (o .0) (o .1)) ∙ e))
         (⊎-elim
         (λ o. absurd (found-left _ (hunt-found g b rs k l n o) e))
-        (λ o. let z : l ≡ m = same-left (sym (hunt-left g b rs k l n o) ∙ e) in (omega arith, rw z at h)))
+        (λ o. let z : l ≡ m = same-left (sym (hunt-left g b rs k l n o) ∙ e) in rw z at h))
         (attempt-cases (attempt g b l rs n))
 
 -- ---- rounds, and closed runs from a state that is searched from
@@ -281,7 +281,7 @@ short-accepted : (t : Table) (b : ℕ) → t .kinds ≡ 1 → replyTo (short b) 
 unfolding replyTo questionTrial questionReply firstHeld
 short-accepted t b one = ap (λ w. questionReply w (short b) t) (held-later (17, ltb 1 (t .kinds)) [] (le-ltb 1 (t .kinds) (omega (arith, one))))
 
-shortest-none : {best least : ℕ} → shortest best least ≡ noRound → ⊥
+pub shortest-none : {best least : ℕ} → shortest best least ≡ noRound → ⊥
 shortest-none e = let z : _≡_ {A = ℕ} 0 1 = cc in omega arith
 
 refusal-none : {n : ℕ} → noReply n ≡ noRound → ⊥
@@ -314,15 +314,15 @@ module _ (t : Table) (v : Valid t) where
     unfolding huntIn
     lengths-found b k l e =
         let h = hunt-finds (graphOf t) (rootsOf t) b k 1 0 l (λ s i x xs r. omega arith) e in
-        let f = root-round t v one l (h .1) in
-        record { round = f .0; best-is = f .1; none-shorter = none-shorter l (h .2); ordered = omega arith }
+        let f = root-round t v one l (h .0) in
+        record { round = f .0; best-is = f .1; none-shorter = none-shorter l (h .1); ordered = omega arith }
 
     lengths-left : (b l : ℕ) (stem cycle : List ℕ) → verdict (final t) ≡ lasso stem cycle → huntIn t b (length cycle) ≡ leftAt l → LengthsTrue t (length cycle) l
     unfolding huntIn
     lengths-left b l stem cycle w e =
         let h = hunt-leaves (graphOf t) (rootsOf t) b (length cycle) 1 0 l (λ s i x xs r. omega arith) e in
         let f = present-round stem cycle w in
-        let n = none-shorter l (h .1) in
+        let n = none-shorter l h in
         record { round = f .0; best-is = f .1; none-shorter = n; ordered = omega (arith, n (f .0), f .1) }
 
   -- "Found within B, both are the shortest length.", over all free rounds of the table
