@@ -18,9 +18,9 @@ use Rattle.plain.specs.Shortest.{leads, roots, through, back, sweep, tar
 use Rattle.plain.specs.Refusals.{firstHeld}
 use Rattle.plain.specs.Questions.{short, noReply, shortest, noRound, questionTrial, huntIn, lengthsFor, shortReply, questionReply, replyTo, replyLine}
 use Rattle.plain.specs.Claims.{Arises, LengthsTrue, LineTrue}
-use Rattle.plain.proofs.Tests.{in-nil, in-head, in-tail, in-cases, in-one, in-append, in-left, in-right, to-end}
+use Rattle.plain.proofs.Tests.{in-nil, in-head, in-tail, in-cases, in-one, in-append, in-left, to-end}
 use Rattle.plain.proofs.Runs.{some-first, run-join, reach-join, Away, last-move, run-split}
-use Rattle.plain.proofs.Passing.{run-last}
+use Rattle.plain.proofs.Passing.{run-last, roundFrom}
 use Rattle.plain.proofs.Trials.{held-first, held-later}
 use Rattle.plain.proofs.Tables.{Valid, valid}
 use Rattle.plain.proofs.Demands.{inside-game, verdict-right}
@@ -219,20 +219,8 @@ module _ (g : Graph) where
 -- the round of a walk has as many moves as it has states
 pub walk-round : (a : Kinded) (stem cycle : List ℕ) → FullLasso a stem cycle → (f : FullRound a) × (roundLength a f ≡ length cycle)
 walk-round a stem cycle w =
-    let (y, ys, e) = some-first (w .others) (w .entry) in (
-      record {
-        origin = w .entry;
-        first = y;
-        others = ys;
-        closed = rw e at (w .closes);
-        passes-all = rw e at all;
-        way = w .way;
-        entry = w .entry;
-        leads = w .leads;
-        enters = rw e at (in-right (w .entry) (w .others) (w .entry ∷ []) (in-head (w .entry) []));
-      },
-      omega (arith, ap length e, ap length (w .cycle-is), length-append (w .others) (w .entry ∷ [])),
-    )
+    let (y, ys, e) = some-first (w .others) (w .entry) in
+    (roundFrom a (w .entry) y ys (w .way) (rw e at (w .closes)) (rw e at all) (w .leads), omega (arith, ap length e, ap length (w .cycle-is), length-append (w .others) (w .entry ∷ [])))
   where
     all : PassesAll a (w .others ++ (w .entry ∷ []))
     all kind h = let q = w .passes-all kind h in (q .0, to-end (w .entry) (q .0) (w .others) (rw (w .cycle-is) at (q .1)), q .2)
@@ -259,20 +247,9 @@ module _ (t : Table) (v : Valid t) (one : t .kinds ≡ 1) where
   root-round k (s, j, x, xs, r, e) =
       let i = inside-game t v in
       let h = root-reached (graphOf t) (t .size) (i .begins) (i .stays) s j in
-      let last = run-last (graphOf t) xs s x s r in (
-        record {
-          origin = s;
-          first = x;
-          others = xs;
-          closed = r;
-          passes-all = λ kind d. let z : kind ≡ 0 = omega (arith, one) in (s, last, ap (λ m. carriedBy (t .marks) m s) z ∙ h .0);
-          way = h .1 .0;
-          entry = s;
-          leads = h .1 .1;
-          enters = last;
-        },
-        e,
-      )
+      let last = run-last (graphOf t) xs s x s r in
+      let all : PassesAll (gameOf t) (x ∷ xs) = λ kind d. let z : kind ≡ 0 = omega (arith, one) in (s, last, ap (λ m. carriedBy (t .marks) m s) z ∙ h .0) in
+      (roundFrom (gameOf t) s x xs (h .1 .0) r all (h .1 .1), e)
 
 -- ---- the line `short`
 
