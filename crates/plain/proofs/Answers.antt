@@ -14,6 +14,7 @@ use Rattle.plain.specs.Claims.{Arises, loaded, reportOf, ReportRight, Co
 use Rattle.plain.proofs.Trials.{never-handed}
 use Rattle.plain.proofs.Demands.{report-right}
 use Rattle.plain.proofs.Calls.{command-arises, command-counts, command-never-7}
+use Rattle.plain.proofs.Shortest.{short-told}
 
 -- the first line of some
 unfoldable pub first-line : List Line → Line
@@ -69,11 +70,11 @@ call-told c t l a e = by-trial (trialOf c t) refl e
       counts = subst (λ (x : Line). LineCounted x (c .command) t) (ap first-line f) tt;
     }
 
--- of every question
-pub reply-told : (q : Question) (t : Table) → ((b : ℕ) → LineTrue (replyLine (replyTo (short b) t)) t) → LineTrue (replyLine (replyTo q t)) t
+-- of every question on such a table
+pub reply-told : (q : Question) (t : Table) → Arises t → LineTrue (replyLine (replyTo q t)) t
 unfolding elem replyTo questionTrial questionReply replyLine
-reply-told (short b) t h = h b
-reply-told (ways s) t h = by-trial (firstHeld ((6, beyond (t .size) s) ∷ [])) refl
+reply-told (short b) t a = short-told t a b
+reply-told (ways s) t a = by-trial (firstHeld ((6, beyond (t .size) s) ∷ [])) refl
   where
     by-trial : (x : Trial) → firstHeld ((6, beyond (t .size) s) ∷ []) ≡ x → LineTrue (replyLine (questionReply x (ways s) t)) t
     by-trial accepted k = (refl, refl)

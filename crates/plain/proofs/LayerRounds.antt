@@ -15,7 +15,7 @@ use Rattle.plain.proofs.Upto.{upto, upto-in, length-upto}
 use Rattle.plain.proofs.Runs.{run-join, run-split}
 use Rattle.plain.proofs.Bounds.{once-short}
 use Rattle.plain.proofs.Lifting.{copyAt, Inside, layerAfter, lifted, state-at, layer-at, lands-below, after-below, after-join, accepting-at, run-below, lifted-run, lower}
-use Rattle.plain.proofs.Passing.{Leaves, LeavesAccepting, passed-all, leaves-cases, leaves-left, leaves-right, leaves-passes, passes-leaves, rank, climbs, run-last}
+use Rattle.plain.proofs.Passing.{Leaves, LeavesAccepting, passed-all, leaves-cases, leaves-left, leaves-right, leaves-passes, passes-leaves, rank, climbs, run-last, roundFrom}
 
 module _ (a : Kinded) (i : Inside a) where
   same-layer : (l m s t : ℕ) → l < a .kinds → m < a .kinds → s < a .size → t < a .size → copyAt a l s ≡ copyAt a m t → l ≡ m
@@ -93,17 +93,7 @@ module _ (a : Kinded) (i : Inside a) where
   full-round : (xs : List ℕ) (l x : ℕ) (ws : List ℕ) (v : ℕ) → In v (lifted a l x xs) → PassesAll a xs → Run (a .graph) x xs x → Run (a .graph) (a .graph .start) ws x → FullRound a
   unfolding lifted
   full-round [] l x ws v j c r w = absurd (in-nil v j)
-  full-round (y ∷ ys) l x ws v j c r w = record {
-    origin = x;
-    first = y;
-    others = ys;
-    closed = r;
-    passes-all = c;
-    way = ws;
-    entry = x;
-    leads = w;
-    enters = run-last (a .graph) ys x y x r;
-  }
+  full-round (y ∷ ys) l x ws v j c r w = roundFrom a x y ys ws r c w
 
   -- a reachable accepting cycle of the layers, in the game
   pub layers-game : FreeRound (layers a) → FullRound a

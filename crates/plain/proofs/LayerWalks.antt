@@ -1,22 +1,14 @@
 -- The walk of a search on the layers, in plain states. Assumes nothing.
 use mathlib.Core.Path.{_≡_, sym, ap, _∙_}
-use mathlib.Core.Logic.{⊎-elim}
 use mathlib.Core.List.{List, [], _∷_, _++_, map}
 use Prim.Native.Nat.{ℕ, _<_}
 use Rattle.plain.specs.Lists.{elem, In}
 use Rattle.plain.specs.Search.{Graph}
 use Rattle.plain.specs.Cycles.{Run, Lasso, Kinded, PassesAll, FullLasso}
 use Rattle.plain.specs.Layers.{stateAt, layers}
-use Rattle.plain.proofs.Tests.{in-head, in-tail, in-cases, in-append, in-left, in-right, in-one}
+use Rattle.plain.proofs.Tests.{to-head, to-end}
 use Rattle.plain.proofs.Lifting.{map-join, copyAt, Inside, layerAfter, lifted, state-at, after-below, run-below, lower, lifted-states}
 use Rattle.plain.proofs.LayerRounds.{closed, closed-passes}
-
--- what stands at the end of a list stands as well at its head
-to-head : (x s : ℕ) (xs : List ℕ) → In s (xs ++ (x ∷ [])) → In s (x ∷ xs)
-to-head x s xs i = ⊎-elim (in-tail s x xs) (λ j. rw (in-one s x j) (in-head x xs)) (in-append s xs (x ∷ []) i)
-
-to-end : (x s : ℕ) (xs : List ℕ) → In s (x ∷ xs) → In s (xs ++ (x ∷ []))
-to-end x s xs i = ⊎-elim (λ e. rw e (in-right x xs (x ∷ []) (in-head x []))) (in-left s xs (x ∷ [])) (in-cases s x xs i)
 
 passes-from-head : (a : Kinded) (x : ℕ) (xs run cycle : List ℕ) → run ≡ xs ++ (x ∷ []) → cycle ≡ x ∷ xs → PassesAll a run → PassesAll a cycle
 passes-from-head a x xs run cycle e f c kind h = let q = c kind h in (q .0, rw f (to-head x (q .0) xs (ap (elem (q .0)) (sym e) ∙ q .1)), q .2)

@@ -39,5 +39,10 @@ pub mod Degrees
 pub mod Views
 pub mod Orders
 pub mod Sweeps
+pub mod Reached
+pub mod ShortLooks
+pub mod Shortest
+pub mod ShortBudget
+pub mod ShortRight
 pub mod Answers
 pub mod Loops

@@ -9,7 +9,7 @@ use lib.Dec.{eqb}
 use borrow.Author.Tests.{eqb-false, ne-eqb}
 use Rattle.plain.specs.Lists.{In}
 use Rattle.plain.specs.Search.{Graph}
-use Rattle.plain.specs.Cycles.{Run, Kinded}
+use Rattle.plain.specs.Cycles.{Run, Kinded, PassesAll, FullRound}
 use Rattle.plain.specs.Layers.{next, lands}
 use Rattle.plain.proofs.Tests.{contra, either, same, in-nil, in-head, in-tail, in-cases}
 use Rattle.plain.proofs.Copies.{next-last, next-up}
@@ -21,6 +21,20 @@ run-last g [] x z y r = rw (r .1) (in-head y [])
 run-last g (w ∷ xs) x z y r = in-tail y z (w ∷ xs) (run-last g xs z w y (r .1))
 
 module _ (a : Kinded) where
+  -- a closed run that passes all kinds, from a state to which a run from the start state leads
+  abbrev pub roundFrom : (x y : ℕ) (ys ws : List ℕ) → Run (a .graph) x (y ∷ ys) x → PassesAll a (y ∷ ys) → Run (a .graph) (a .graph .start) ws x → FullRound a
+  roundFrom x y ys ws r c w = record {
+    origin = x;
+    first = y;
+    others = ys;
+    closed = r;
+    passes-all = c;
+    way = ws;
+    entry = x;
+    leads = w;
+    enters = run-last (a .graph) ys x y x r;
+  }
+
   -- a move of the run leaves a state that carries the kind
   abbrev pub Leaves : ℕ → ℕ → List ℕ → Type 0
   Leaves kind x [] = ⊥

@@ -1,4 +1,4 @@
--- The numbers below a number. Assumes nothing.
+-- The numbers below a number, in falling and in rising order. Assumes nothing.
 use mathlib.Core.Path.{_≡_, refl}
 use mathlib.Core.Logic.{_≢_, ⊎-elim}
 use mathlib.Core.List.{List, [], _∷_}
@@ -7,8 +7,8 @@ use native.Mathlib.Omega.{arith}
 use lib.Dec.{eqb}
 use lib.ListN.{length}
 use borrow.Author.Tests.{eqb-false}
-use Rattle.plain.specs.Lists.{elem, In, Once}
-use Rattle.plain.proofs.Tests.{either, not-in, in-nil, in-tail, in-cases, or-first}
+use Rattle.plain.specs.Lists.{elem, In, Once, below}
+use Rattle.plain.proofs.Tests.{either, same, not-in, in-nil, in-head, in-tail, in-cases, in-one, in-append, in-left, in-right, or-first}
 
 unfoldable pub upto : ℕ → List ℕ
 upto zero = []
@@ -35,3 +35,15 @@ pub length-upto : (n : ℕ) → length (upto n) ≡ n
 unfolding upto
 length-upto zero = refl
 length-upto (suc n) = omega (arith, length-upto n)
+
+pub in-below : (x n : ℕ) → In x (below n) → x < n
+unfolding below
+in-below x zero i = absurd (in-nil x i)
+in-below x (suc n) i = ⊎-elim (λ j. omega (arith, in-below x n j)) (λ j. omega (arith, in-one x n j)) (in-append x (below n) (n ∷ []) i)
+
+pub below-in : (x n : ℕ) → x < n → In x (below n)
+unfolding below
+below-in x zero h = absurd (omega arith)
+below-in x (suc n) h = ⊎-elim
+    (λ e. let z : x ≡ n = same e in in-right x (below n) (n ∷ []) (rw z (in-head n [])))
+    (λ f. let ne : x ≢ n = eqb-false x n f in in-left x (below n) (n ∷ []) (below-in x n (omega arith))) (either (eqb x n))
