@@ -3,3 +3,4 @@ pub mod Looking
 pub mod Levels
 pub mod Searching
 pub mod Trying
+pub mod Rooting

@@ -3,7 +3,7 @@ use Prim.Native.Nat.{ℕ, suc, _≤_, _<_}
 use mathlib.Core.Path.{_≡_}
 use mathlib.Core.Bool.{Bool, true, false, _&&_}
 use mathlib.Core.List.{List, [], _∷_}
-use lib.ListN.{length, getD, drop}
+use lib.ListN.{length, getD, set, drop}
 use Rattle.plain.specs.Lists.{In, Once, Begins}
 use Rattle.plain.specs.Search.{Graph}
 use Rattle.plain.specs.Table.{Table, accepts, carriedBy, row, graphOf}
@@ -11,6 +11,7 @@ use Rattle.plain.specs.Shortest.{noted, targetsOf, roots, Sweep as PlainSweep, 
 use Rattle.plain.specs.Questions.{huntIn}
 use Rattle.plain.specs.Claims.{Arises}
 use Rattle.rows.specs.Rows.{entries}
+use Rattle.look.specs.Numbers.{further}
 use Rattle.look.specs.Scan.{rowIn}
 use Rattle.look.specs.Sets.{Members}
 use Rattle.shortest.specs.declared.Sweep.{Sweep}
@@ -116,6 +117,11 @@ pub record Holds (t : Table) (targets starts words : List ℕ) (size start : ℕ
   pub start-is : start ≡ t .start
   pub rows-are : (v : ℕ) → rowIn targets starts v ≡ row (t .edges) v
   pub marks-are : (s : ℕ) → s < t .size → accepts words s ≡ carriedBy (t .marks) 0 s
+
+-- a state is filed where it is a root
+pub record FilesRoot (root : Bool) (roots : List ℕ) (count s : ℕ) (roots′ : List ℕ) (r : ℕ) : Type 0 where
+  pub filed : root ≡ true → (roots′ ≡ set roots count s) × (r ≡ further count)
+  pub unfiled : root ≡ false → (roots′ ≡ roots) × (r ≡ count)
 
 -- the reachable paying states in rising order, and how many they are
 pub record FindsRoots (targets starts words : List ℕ) (size start : ℕ) (queue′ roots′ : List ℕ) (r : ℕ) : Type 0 where

@@ -5,7 +5,7 @@ ghost use mathlib.Core.Bool.{false};
 ghost use lib.ListN.{length, replicate};
 ghost use Rattle.plain.specs.Table.{Table};
 ghost use Rattle.rows.specs.Rows.{Tabled};
-ghost use Rattle.shortest.specs.Model.{goesOn, rootIn, boardOf, Sized, Notes, LooksThrough, LooksLevel, Searches, TriesLength, lengthsAt, TriesLengths, FindsRoots, Shortens};
+ghost use Rattle.shortest.specs.Model.{goesOn, rootIn, boardOf, Sized, Notes, LooksThrough, LooksLevel, Searches, TriesLength, lengthsAt, TriesLengths, FilesRoot, FindsRoots, Shortens};
 
 // What looks at some edges have come to: all were looked at, one came back, or the budget does not allow the next.
 enum Sweep {
@@ -278,6 +278,24 @@ fn is_root(words: &[u64; 8], seen: &[bool; 512], s: u16) -> bool
     false
 }
 
+// A state that is a root comes behind those before it. It returns how many there then are.
+fn file_root(
+    words: &[u64; 8],
+    seen: &[bool; 512],
+    roots: &mut [u16; 512],
+    count: u16,
+    s: u16,
+) -> u16
+    requires { ⌜ (length (now seen) ≡ 512) × (length (now roots) ≡ 512) ⌝ }
+    ensures { λ r. ⌜ FilesRoot (rootIn (now (words .entry)) (now (seen .entry)) s) (now (roots .entry)) count s (now (roots .exit)) r ⌝ }
+{
+    if !is_root(words, seen, s) {
+        return count;
+    }
+    look::put(roots, count, s);
+    look::further(count)
+}
+
 // The accepting states that can be reached, in rising order, and how many they are. The looks by which they are found are counted for no one.
 fn find_roots(
     targets: &[u16; 2048],
@@ -307,10 +325,7 @@ fn find_roots(
     let mut count: u16 = 0;
     let mut s: u16 = 0;
     while s < size {
-        if is_root(words, &seen, s) {
-            look::put(roots, count, s);
-            count = look::further(count);
-        }
+        count = file_root(words, &seen, roots, count, s);
         s += 1;
     }
     count

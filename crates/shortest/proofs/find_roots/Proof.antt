@@ -1,53 +1,49 @@
+-- `find_roots` meets its contract: what the search has seen can be reached, and each turn files a state that is a root. Assumes nothing.
+use mathlib.Core.Path.{_≡_, refl}
+use Prim.Native.Nat.{_-_, _≤_}
+use native.Mathlib.Omega.{arith}
+use lib.ListN.{length}
+use Rattle.shortest.proofs.Rooting.{FiledAll, filed-none, filed-size, filed-next, filed-end}
 use Rattle.shortest.proofs.find_roots.Statement.{statement}
 use Rattle.shortest.proofs.find_roots.Tie as tie
-use Rattle.shortest.proofs.find_roots.Reads as reads
-use Rattle.shortest.proofs.find_roots.Lts as lts
-use Rattle.look.proofs.further.Reads as further-reads
-use Rattle.look.proofs.put.Reads as put-reads
-use Rattle.shortest.proofs.is_root.Reads as is-root-reads
-use Rattle.shortest.proofs.search.Reads as search-reads
 
 abbrev Inv-loop : tie.InvT-loop
-Inv-loop targets starts words size start queue roots₀ seen unused count₀ s₀ roots count s = ?
+Inv-loop targets starts words size start queue roots₀ seen unused count₀ s₀ roots count s =
+    (length roots ≡ 512) × (s ≤ size) × FiledAll targets starts words size start roots count s
 
 abbrev μ-loop : tie.MeasureT-loop
-μ-loop targets starts words size start queue roots₀ seen unused count₀ s₀ roots count s = ?
+μ-loop targets starts words size start queue roots₀ seen unused count₀ s₀ roots count s = size - s
 
--- src/lib.rt:288:5
 search-requires : tie.Need-search-requires Inv-loop μ-loop
-search-requires c κs = ?
+search-requires c κs = let a = c .before .before .before in (a .pre .0, a .pre .1, refl)
 
--- src/lib.rt:301:5
 loop-holds : tie.Need-loop-holds Inv-loop μ-loop
-loop-holds c = ?
+loop-holds c = (c .before .before .before .before .pre .2, omega arith, filed-none _ _ _ _ _ _)
 
--- src/lib.rt:302:12
-is-root-requires : tie.Need-is-root-requires Inv-loop μ-loop
-is-root-requires c κs = ?
+file-root-requires : tie.Need-file-root-requires Inv-loop μ-loop
+file-root-requires c κs =
+    let h = c .before .before .before in
+    (h .before .search .ensures .sized .seen-size, h .loop .inv .0)
 
--- src/lib.rt:303:13
-put-requires : tie.Need-put-requires Inv-loop μ-loop
-put-requires c κs = ?
-
--- src/lib.rt:304:13
-further-requires : tie.Need-further-requires Inv-loop μ-loop
-further-requires c κs = ?
-
--- src/lib.rt:306:9
 add-s : tie.Need-add-s Inv-loop μ-loop
-add-s c = ?
+add-s c =
+    let i = c .before .before .before in
+    omega (arith, i .loop-test .taken, i .before .before .before .before .before .before .fits .size)
 
--- src/lib.rt:301:5
 loop-less : tie.Need-loop-less Inv-loop μ-loop
-loop-less c = ?
+loop-less c = let i = c .before .before .before in omega (arith, i .loop-test .taken)
 
--- src/lib.rt:301:5
 loop-again : tie.Need-loop-again Inv-loop μ-loop
-loop-again c = ?
+loop-again c =
+    let i = c .before .before .before in
+    let h = i .before in (
+      filed-size _ _ _ _ (h .loop .inv .0) _ _ (c .file-root .ensures),
+      omega (arith, i .loop-test .taken),
+      filed-next _ _ _ _ _ _ _ (h .before .search .ensures) _ _ _ (h .loop .inv .0) (i .loop-test .taken) (h .loop .inv .2) _ _ (c .file-root .ensures),
+    )
 
--- src/lib.rt:274:1
 returns : tie.Need-returns Inv-loop μ-loop
-returns c = ?
+returns c = let h = c .before in filed-end _ _ _ _ _ _ _ (h .before .search .ensures) _ _ _ (h .loop .inv .0) (c .loop-test .left) (h .loop .inv .1) (h .loop .inv .2)
 
 pub find-roots-spec : {M : Type 1} → statement M
 find-roots-spec =
@@ -57,9 +53,7 @@ find-roots-spec =
     μ-loop
     search-requires
     loop-holds
-    is-root-requires
-    put-requires
-    further-requires
+    file-root-requires
     add-s
     loop-less
     loop-again
