@@ -66,11 +66,18 @@ pub fn further(x: u16) -> u16
     if x < u16::MAX { x + 1 } else { x }
 }
 
+// A difference, at least 0.
+pub fn minus(a: u16, b: u16) -> u16
+    ensures { λ r. ⌜ r ≡ a - b ⌝ }
+{
+    if b < a { a - b } else { 0 }
+}
+
 // One less, at least 0.
 pub fn down(x: u16) -> u16
     ensures { λ r. ⌜ r ≡ x - 1 ⌝ }
 {
-    if 0 < x { x - 1 } else { 0 }
+    minus(x, 1)
 }
 
 // A product of two numbers of 16 bits.

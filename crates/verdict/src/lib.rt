@@ -30,15 +30,11 @@ fn answer_of(spent: u16, kept: u16, stem: u16, length: u16) -> Answer
     if length == 0 {
         return Answer::Clear { spent, kept };
     }
-    let mut cycle: u16 = 0;
-    if stem <= length {
-        cycle = length - stem;
-    }
     Answer::Round {
         spent,
         kept,
         stem,
-        cycle,
+        cycle: look::minus(length, stem),
     }
 }
 
