@@ -1,4 +1,4 @@
--- How the searches of ticket 11 go on, look by look, level by level and length by length. Assumes nothing.
+-- How the searches of ticket 11 go on, look by look, level by level and length by length; and what a sweep leaves. Assumes nothing.
 use mathlib.Core.Path.{_≡_, refl, sym, ap, _∙_}
 use mathlib.Core.Logic.{_≢_, _⊎_, inl, inr, ⊎-elim}
 use mathlib.Core.Bool.{Bool, true, false}
