@@ -1,4 +1,4 @@
--- The looks of the searches for a short round: no more than the budget; and a search sees each state once, and looks at each move at most once, so a budget can be enough. Assumes nothing.
+-- The looks of the searches for a short round: no more than the budget, and in one search at most one at each move, so that a budget can be enough. Assumes nothing.
 use mathlib.Core.Path.{_≡_, refl, sym, ap, _∙_}
 use mathlib.Core.Logic.{_≢_, _⊎_, inl, inr, ⊎-elim}
 use mathlib.Core.List.{List, [], _∷_, _++_}
