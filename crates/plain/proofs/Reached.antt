@@ -67,7 +67,7 @@ module _ (g : Graph) where
   -- the states that are searched from are among them
   pub roots-below : (size s : ℕ) → In s (roots g size) → s < size
   unfolding roots
-  roots-below size s i = in-below s size (filter-in (λ x. g .accepting x && reached g size x) s (below size) i .0)
+  roots-below size s i = in-below s size (filter-in _ s (below size) i .0)
 
   module _ (size : ℕ) (begins : g .start < size) (stays : (x y : ℕ) → x < size → In y (g .successors x) → y < size) where
     among : (x y : ℕ) → In x (upto size) → In y (g .successors x) → In y (upto size)

@@ -8,7 +8,7 @@ use native.Mathlib.Omega.{arith}
 use lib.ListN.{length, drop}
 use Rattle.plain.specs.Search.{Graph, Verdict, none, lasso, unfinished, verdict}
 use Rattle.plain.specs.Table.{Table, graphOf, final}
-use Rattle.plain.specs.Shortest.{roots, noted, stopped, sweep, targetsOf, levels, searchFrom, ranOut, attempt, Hunt, foundAt, leftAt, hunt}
+use Rattle.plain.specs.Shortest.{noted, stopped, sweep, targetsOf, levels, searchFrom, ranOut, attempt, Hunt, foundAt, leftAt, hunt}
 use Rattle.plain.specs.Refusals.{Trial, accepted, refused}
 use Rattle.plain.specs.Questions.{short, noReply, shortest, questionTrial, huntIn, lengthsFor, shortReply, questionReply, replyTo}
 use Rattle.plain.proofs.Upto.{upto, upto-in, once-upto}
@@ -17,7 +17,7 @@ use Rattle.plain.proofs.Demands.{total-le, target-below}
 use Rattle.plain.proofs.Sweeps.{sweep-cases, attempt-cases, through-stopped, back-stopped, ruled-ran, succeeded-ran, found-left, sweep-none, looked, not-taken, returned, gone-on, sweep-returns, sweep-goes, levels-over, levels-on, levels-back, levels-stop, attempt-over, attempt-on, attempt-back, attempt-stop, hunt-over, hunt-on, hunt-found, hunt-left}
 use Rattle.plain.proofs.Reached.{roots-below}
 use Rattle.plain.proofs.ShortLooks.{hunt-within}
-use Rattle.plain.proofs.Shortest.{shortest-none}
+use Rattle.plain.proofs.Shortest.{rootsOf, shortest-none}
 
 -- ---- more looks
 
@@ -138,7 +138,7 @@ more-looks t b c best least best′ least′ more = by-trial (questionTrial (sho
     by-verdict : (v : Verdict) → shortReply v b t ≡ shortest best least → shortReply v c t ≡ shortest best′ least′ → (best′ ≤ best) × (least ≤ least′)
     by-verdict none x y = absurd (shortest-none (sym x))
     by-verdict (lasso stem cycle) x y =
-        let rs = roots (graphOf t) (t .size) in
+        let rs = rootsOf t in
         let k = length cycle in
         lengths-more k (huntIn t b k) (huntIn t c k) best least best′ least′ (hunt-more (graphOf t) b c more rs k 1 0) (hunt-least (graphOf t) c rs k 1 0) x y
     by-verdict unfinished x y = absurd (shortest-none (sym x))
@@ -148,13 +148,12 @@ more-looks t b c best least best′ least′ more = by-trial (questionTrial (sho
     by-trial (refused n) x y = absurd (refusal-apart x)
 
 -- Where the budget has, for each of k lengths and each state that is searched from, a look at each move, the hunt finds a round or rules all k lengths out.
-pub hunt-ends : (t : Table) → Valid t → (b k : ℕ) → k * (length (roots (graphOf t) (t .size)) * length (t .edges)) ≤ b
+pub hunt-ends : (t : Table) → Valid t → (b k : ℕ) → k * (length (rootsOf t) * length (t .edges)) ≤ b
     → ((m : ℕ) × (huntIn t b k ≡ foundAt m)) ⊎ (huntIn t b k ≡ leftAt (suc k))
 unfolding huntIn
 hunt-ends t v b k h =
     let g = graphOf t in
     let us = upto (t .size) in
-    let p = length (roots g (t .size)) in
-    let few = mul-le-mul-left k (mul-le-mul-left p (total-le (t .edges) us (once-upto (t .size)))) in
+    let few = mul-le-mul-left k (mul-le-mul-left (length (rootsOf t)) (total-le (t .edges) us (once-upto (t .size)))) in
     let z : 1 + k ≡ suc k = omega arith in
-    rw (← z) (hunt-within g us (λ x y i j. upto-in y (t .size) (target-below t v x y j)) b (roots g (t .size)) k 1 0 (λ x i. upto-in x (t .size) (roots-below g (t .size) x i)) (omega arith))
+    rw (← z) (hunt-within g us (λ x y i j. upto-in y (t .size) (target-below t v x y j)) b (rootsOf t) k 1 0 (λ x i. upto-in x (t .size) (roots-below g (t .size) x i)) (omega arith))

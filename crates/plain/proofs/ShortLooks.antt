@@ -1,4 +1,4 @@
--- The looks of the searches for a short round: a search sees each state once, and looks at each move at most once, so a budget can be enough. Assumes nothing.
+-- The looks of the searches for a short round: no more than the budget, and in one search at most one at each move, so that a budget can be enough. Assumes nothing.
 use mathlib.Core.Path.{_≡_, refl, sym, ap, _∙_}
 use mathlib.Core.Logic.{_≢_, _⊎_, inl, inr, ⊎-elim}
 use mathlib.Core.List.{List, [], _∷_, _++_}
@@ -13,12 +13,12 @@ use Rattle.plain.proofs.Tests.{out-nil, in-head, in-tail, in-one, in-ap
 use Rattle.plain.proofs.Bounds.{left, left-drop}
 use Rattle.plain.proofs.Sweeps.{sweep-cases, attempt-cases, through-stopped, back-stopped, ruled-ran, succeeded-ran, same-through, same-ruled, sweep-none, looked, not-taken, returned, gone-on, sweep-went, swept, swept-level, targets-in, levels-over, levels-on, levels-back, levels-went, attempt-over, attempt-on, attempt-back, attempt-went, hunt-over, hunt-on, hunt-found}
 
--- ---- one sweep
+-- ---- the budget
 
 -- A sweep that goes through makes a look at each move.
 pub sweep-count : (b s : ℕ) (ts seen : List ℕ) (n : ℕ) (seen′ : List ℕ) (m : ℕ) → sweep b s ts seen n ≡ through seen′ m → m ≡ n + length ts
 sweep-count b s [] seen n seen′ m h = omega (arith, same-through (sym (sweep-none b s seen n) ∙ h) .1)
-sweep-count b s (t ∷ ts) seen n seen′ m h = omega (arith, sweep-count b s ts (noted t seen) (suc n) seen′ m (sweep-went b s t ts seen n seen′ m h .1))
+sweep-count b s (t ∷ ts) seen n seen′ m h = omega (arith, sweep-count b s ts (noted t seen) (suc n) seen′ m (sweep-went b s t ts seen n seen′ m h .2))
 
 -- Where the budget has a look for each move, it is not stopped.
 pub sweep-within : (b s : ℕ) (ts seen : List ℕ) (n : ℕ) → n + length ts ≤ b → sweep b s ts seen n ≢ stopped
@@ -28,6 +28,26 @@ sweep-within b s (t ∷ ts) seen n h e = elim (looked b s t ts seen n) [
   | returned k z f ↦ back-stopped _ f e
   | gone-on k z f ↦ sweep-within b s ts (noted t seen) (suc n) (omega arith) (sym f ∙ e)
 ]
+
+-- "the search stops before look B + 1": no more looks than the budget are ever counted
+pub sweep-budget : (b s : ℕ) (ts seen : List ℕ) (n : ℕ) (seen′ : List ℕ) (m : ℕ) → n ≤ b → sweep b s ts seen n ≡ through seen′ m → m ≤ b
+sweep-budget b s [] seen n seen′ m h e = omega (arith, same-through (sym (sweep-none b s seen n) ∙ e) .1)
+sweep-budget b s (t ∷ ts) seen n seen′ m h e = let w = sweep-went b s t ts seen n seen′ m e in sweep-budget b s ts (noted t seen) (suc n) seen′ m (omega arith) (w .2)
+
+module _ (g : Graph) (b : ℕ) where
+  pub levels-budget : (l s : ℕ) (level seen : List ℕ) (n : ℕ) (last : List ℕ) (k : ℕ) → n ≤ b → levels g b l s level seen n ≡ through last k → k ≤ b
+  levels-budget zero s level seen n last k h e = omega (arith, same-through (sym (levels-over g b s level seen n) ∙ e) .1)
+  levels-budget (suc l) s level seen n last k h e =
+      let (seen′, m, p, q) = levels-went g b l s level seen n last k e in
+      levels-budget l s (drop (length seen) seen′) seen′ m last k (sweep-budget b s (targetsOf g level) seen n seen′ m h p) q
+
+  pub attempt-budget : (l : ℕ) (rs : List ℕ) (n m : ℕ) → n ≤ b → attempt g b l rs n ≡ ruledOut m → m ≤ b
+  attempt-budget l [] n m h e = omega (arith, same-ruled (sym (attempt-over g b l n) ∙ e))
+  attempt-budget l (s ∷ ss) n m h e =
+      let (seen, k, p, q) = attempt-went g b l s ss n m e in
+      attempt-budget l ss k m (levels-budget l s (s ∷ []) (s ∷ []) n seen k h p) q
+
+-- ---- the states seen
 
 -- us: states among which the searches stay
 module _ (us : List ℕ) where

@@ -30,22 +30,28 @@ module _ (t : Table) (v : Valid t) (one : t .kinds ≡ 1) (b : ℕ) where
       (λ r. r)
       (λ e. absurd (omega (arith, none-shorter t v one _ (hunt-leaves (graphOf t) (rootsOf t) b k 1 0 _ (λ s i x xs r. omega arith) e) f))) (hunt-ends t v b k few)
 
-  enough : (f : FullRound (gameOf t)) → roundLength (gameOf t) f * each ≤ b → (l : ℕ) × (replyTo (short b) t ≡ shortest l l) × LengthsTrue t l l
+  -- the reply is the shortest length, twice
+  abbrev Shortest : Type 0
+  Shortest = (l : ℕ) × (replyTo (short b) t ≡ shortest l l) × LengthsTrue t l l
+
+  enough : (f : FullRound (gameOf t)) → roundLength (gameOf t) f * each ≤ b → Shortest
   unfolding huntIn
   enough f few = by-verdict (verdict (final t)) refl
     where
-      told : (stem cycle : List ℕ) → verdict (final t) ≡ lasso stem cycle → (m : ℕ) × (huntIn t b (length cycle) ≡ foundAt m) → (l : ℕ) × (replyTo (short b) t ≡ shortest l l) × LengthsTrue t l l
-      told stem cycle e (m, h) = let r = found t v b m stem cycle one e h in (m, r .0, r .1)
+      -- a round is found among those that are not longer than the present walk's
+      within : (stem cycle : List ℕ) → verdict (final t) ≡ lasso stem cycle → (m : ℕ) × (huntIn t b (length cycle) ≡ foundAt m)
+      within stem cycle e = let len = roundLength (gameOf t) f in elim (decLe len (length cycle)) [
+        | yes h ↦ let r = found-within len f (omega arith) few in
+            (r .0, hunt-shorter (graphOf t) b (rootsOf t) len (length cycle) 1 0 (r .0) h (r .1))
+        | no h ↦ let p = present-round t v one stem cycle e in
+            let z : length cycle ≤ len = omega arith in
+            found-within (length cycle) (p .0) (omega (arith, p .1)) (omega (arith, mul-le-mul-right each z))
+      ]
 
-      by-verdict : (w : Verdict) → verdict (final t) ≡ w → (l : ℕ) × (replyTo (short b) t ≡ shortest l l) × LengthsTrue t l l
+      by-verdict : (w : Verdict) → verdict (final t) ≡ w → Shortest
       by-verdict none e = absurd (verdict-right t v .none-only e f)
       by-verdict unfinished e = absurd (verdict-right t v .ends e)
-      by-verdict (lasso stem cycle) e = told stem cycle e (elim (decLe (roundLength (gameOf t) f) (length cycle)) [
-        | yes h ↦ let r = found-within (roundLength (gameOf t) f) f (omega arith) few in
-            (r .0, hunt-shorter (graphOf t) b (rootsOf t) (roundLength (gameOf t) f) (length cycle) 1 0 (r .0) h (r .1))
-        | no h ↦ let p = present-round t v one stem cycle e in
-            found-within (length cycle) (p .0) (omega (arith, p .1)) (omega (arith, mul-le-mul-right each (let z : length cycle ≤ roundLength (gameOf t) f = omega arith in z)))
-      ])
+      by-verdict (lasso stem cycle) e = let (m, h) = within stem cycle e in let r = found t v b m stem cycle one e h in (m, r .0, r .1)
 
 pub short-right : (t : Table) → Arises t → ShortRight t
 short-right t a =

@@ -220,7 +220,8 @@ module _ (g : Graph) where
 pub walk-round : (a : Kinded) (stem cycle : List ℕ) → FullLasso a stem cycle → (f : FullRound a) × (roundLength a f ≡ length cycle)
 walk-round a stem cycle w =
     let (y, ys, e) = some-first (w .others) (w .entry) in
-    (roundFrom a (w .entry) y ys (w .way) (rw e at (w .closes)) (rw e at all) (w .leads), omega (arith, ap length e, ap length (w .cycle-is), length-append (w .others) (w .entry ∷ [])))
+    let long = length-append (w .others) (w .entry ∷ []) in
+    (roundFrom a (w .entry) y ys (w .way) (rw e at (w .closes)) (rw e at all) (w .leads), omega (arith, ap length e, ap length (w .cycle-is)))
   where
     all : PassesAll a (w .others ++ (w .entry ∷ []))
     all kind h = let q = w .passes-all kind h in (q .0, to-end (w .entry) (q .0) (w .others) (rw (w .cycle-is) at (q .1)), q .2)

@@ -1,4 +1,4 @@
--- How the searches of ticket 11 go on, look by look, level by level and length by length. Assumes nothing.
+-- How the searches of ticket 11 go on, look by look, level by level and length by length; and what a sweep leaves. Assumes nothing.
 use mathlib.Core.Path.{_≡_, refl, sym, ap, _∙_}
 use mathlib.Core.Logic.{_≢_, _⊎_, inl, inr, ⊎-elim}
 use mathlib.Core.Bool.{Bool, true, false}
@@ -104,12 +104,13 @@ looked b s t ts xs n = elim (decLe b n) [
       (λ e. let z = eqb-false t s e in gone-on low z (sweep-goes b s t ts xs n low z)) (either (eqb t s))
 ]
 
--- a sweep that goes through goes on behind its first look, which does not come back
-pub sweep-went : (b s t : ℕ) (ts xs : List ℕ) (n : ℕ) (ys : List ℕ) (m : ℕ) → sweep b s (t ∷ ts) xs n ≡ through ys m → (t ≢ s) × (sweep b s ts (noted t xs) (suc n) ≡ through ys m)
+-- a sweep that goes through goes on behind its first look, which is within the budget and does not come back
+pub sweep-went : (b s t : ℕ) (ts xs : List ℕ) (n : ℕ) (ys : List ℕ) (m : ℕ) → sweep b s (t ∷ ts) xs n ≡ through ys m
+    → (n < b) × (t ≢ s) × (sweep b s ts (noted t xs) (suc n) ≡ through ys m)
 sweep-went b s t ts xs n ys m e = elim (looked b s t ts xs n) [
   | not-taken h f ↦ absurd (through-stopped _ e f)
   | returned h z f ↦ absurd (through-back _ e f)
-  | gone-on h z f ↦ (z, sym f ∙ e)
+  | gone-on h z f ↦ (h, z, sym f ∙ e)
 ]
 
 pub sweep-none : (b s : ℕ) (xs : List ℕ) (n : ℕ) → sweep b s [] xs n ≡ through xs n
@@ -183,7 +184,7 @@ pub swept : (b s : ℕ) (ts xs : List ℕ) (n : ℕ) (ys : List ℕ) (m : ℕ) �
 swept b s [] xs n ys m e =
     let z = same-through (sym (sweep-none b s xs n) ∙ e) .0 in
     record { news = []; grown = sym z ∙ sym (append-nil xs); each = λ t i. absurd (in-nil t i); only = λ t i. i; once = λ o. rw z at o }
-swept b s (t ∷ ts) xs n ys m e = let w = sweep-went b s t ts xs n ys m e in swept-more s t ts xs ys (w .0) (swept b s ts (noted t xs) (suc n) ys m (w .1))
+swept b s (t ∷ ts) xs n ys m e = let w = sweep-went b s t ts xs n ys m e in swept-more s t ts xs ys (w .1) (swept b s ts (noted t xs) (suc n) ys m (w .2))
 
 pub sweep-begins : (b s : ℕ) (ts xs ys : List ℕ) (n m : ℕ) → sweep b s ts xs n ≡ through ys m → Begins xs ys
 sweep-begins b s ts xs ys n m e = let w = swept b s ts xs n ys m e in (w .news, w .grown)
