@@ -12,7 +12,7 @@ use lib.Dec.{ltb}
 use lib.ListN.{length, getD, take, drop, set, length-append, length-drop, take-append-drop}
 use lib.Seq.{length-take-le, take-append-seam, drop-append-add, drop-drop, take-length, set-split, paste}
 use Rattle.plain.proofs.Tests.{and-true}
-use Rattle.plain.specs.Machine.{numbered, atLine, gameLine, roundLine, noneLine, noLine, waysLine}
+use Rattle.plain.specs.Machine.{numbered, atLine, gameLine, roundLine, noneLine, noLine, waysLine, shortLine, noRoundLine}
 use Rattle.line.specs.Fields.{bytes, newline}
 use Rattle.line.specs.Numbers.{all, isDigit, valueFrom, value, leadingZero, isNumber}
 use Rattle.answer.specs.Bytes.{overwritten, Put}
@@ -273,3 +273,11 @@ length-no-at n i p q = length-line (bytes "no") (n ∷ i ∷ []) (short-cons p (
 pub length-ways : (s leaving entering : ℕ) → s < 65536 → leaving < 65536 → entering < 65536 → length (render (waysLine s leaving entering)) ≤ 23
 unfolding render bytes
 length-ways s leaving entering p q r = length-line (bytes "ways") (s ∷ leaving ∷ entering ∷ []) (short-cons p (short-cons q (short-cons r short-nil)) .below)
+
+pub length-short : (best least : ℕ) → best < 65536 → least < 65536 → length (render (shortLine best least)) ≤ 18
+unfolding render bytes
+length-short best least p q = length-line (bytes "short") (best ∷ least ∷ []) (short-cons p (short-cons q short-nil) .below)
+
+pub length-no-round : length (render noRoundLine) ≤ 5
+unfolding render bytes
+length-no-round = length-line (bytes "none") [] (short-nil .below)

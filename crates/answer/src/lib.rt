@@ -2,11 +2,11 @@
 ghost use mathlib.Core.List.{_∷_, [], _++_};
 ghost use Prim.Native.Nat.{_+_, _≤_, _<_};
 ghost use lib.ListN.{length};
-ghost use Rattle.plain.specs.Machine.{numbered, atLine, gameLine, roundLine, noneLine, noLine, waysLine};
+ghost use Rattle.plain.specs.Machine.{numbered, atLine, gameLine, roundLine, noneLine, noLine, waysLine, shortLine, noRoundLine};
 ghost use Rattle.answer.specs.Bytes.{Put};
 ghost use Rattle.answer.specs.Rendering.{decimal, fieldOf, fieldsOf, lineOf, render};
 
-// The words of the output lines, beside `game` and `ways`.
+// The words of the output lines, beside `game`, `ways` and `short`.
 const ROUND_WORD: [u8; 5] = *b"round";
 
 const NONE_WORD: [u8; 4] = *b"none";
@@ -126,6 +126,23 @@ pub fn put_ways(out: &mut [u8], at: usize, state: u16, leaving: u16, entering: u
 {
     let head: [u16; 3] = [state, leaving, entering];
     put_line(out, at, &line::WAYS, &head, &EMPTY)
+}
+
+// The answer of `short`: the length of the best round known, and the smallest length not ruled out.
+pub fn put_short(out: &mut [u8], at: usize, best: u16, least: u16) -> usize
+    requires { ⌜ at + length (render (shortLine best least)) ≤ length (now out) ⌝ }
+    ensures { λ r. ⌜ Put (now (out .entry)) at (render (shortLine best least)) (now (out .exit)) r ⌝ }
+{
+    let head: [u16; 2] = [best, least];
+    put_line(out, at, &line::SHORT, &head, &EMPTY)
+}
+
+// The answer of `short` where there is no round: `none` alone.
+pub fn put_no_round(out: &mut [u8], at: usize) -> usize
+    requires { ⌜ at + length (render noRoundLine) ≤ length (now out) ⌝ }
+    ensures { λ r. ⌜ Put (now (out .entry)) at (render noRoundLine) (now (out .exit)) r ⌝ }
+{
+    put_line(out, at, &NONE_WORD, &EMPTY, &EMPTY)
 }
 
 // A refusal.

@@ -12,7 +12,7 @@ use Rattle.line.specs.Numbers.{all, isDigit, value, leadingZero, isNumbe
 use Rattle.line.specs.Words.{formOf, isWord}
 use Rattle.line.specs.Records.{unreadable, wordOf, isKind, fieldsFit, worded, fromFields, recordOf}
 use Rattle.line.specs.declared.Word.{Word}
-use Rattle.line.specs.declared.Word.the-variants.{Game, Pay, Move, Go, Add, Cut, Mark, Unmark, Begin, End, Ways, Kinds, Unreadable}
+use Rattle.line.specs.declared.Word.the-variants.{Game, Pay, Move, Go, Add, Cut, Mark, Unmark, Begin, End, Ways, Kinds, Short, Unreadable}
 use Rattle.line.specs.declared.Record.{Record}
 
 -- a line that has one word has no other
@@ -78,6 +78,7 @@ worded-fits w fs = by-fit (fieldsFit w fs) refl
     by-word End e = not-pay End _ _ refl
     by-word Ways e = not-pay Ways _ _ refl
     by-word Kinds e = not-pay Kinds _ _ refl
+    by-word Short e = not-pay Short _ _ refl
     by-word Unreadable e = not-pay Unreadable _ _ refl
 
     by-fit : (b : Bool) → fieldsFit w fs ≡ b

@@ -19,7 +19,7 @@ use Rattle.line.specs.declared.Item.{Item}
 use Rattle.line.specs.declared.Item.the-variants as I
 use Rattle.line.specs.declared.Number.the-variants as N
 use Rattle.line.specs.declared.Word.{Word}
-use Rattle.line.specs.declared.Word.the-variants.{Game, Pay, Move, Go, Add, Cut, Mark, Unmark, Begin, End, Ways, Kinds, Unreadable}
+use Rattle.line.specs.declared.Word.the-variants.{Game, Pay, Move, Go, Add, Cut, Mark, Unmark, Begin, End, Ways, Kinds, Short, Unreadable}
 use Rattle.line.proofs.Fields.{behind-none, fieldsBehind, field-within, fields-at, behind-field}
 
 -- ---- what stands behind a field
@@ -85,6 +85,7 @@ takes Begin = numbers refl (omega arith)
 takes End = numbers refl (omega arith)
 takes Ways = numbers refl (omega arith)
 takes Kinds = numbers refl (omega arith)
+takes Short = numbers refl (omega arith)
 takes Unreadable = numbers refl (omega arith)
 
 pub two-at-most : (w : Word) → countOf w ≤ 2

@@ -3,7 +3,7 @@ use Prim.Native.Nat.{ℕ}
 use mathlib.Core.Bool.{Bool}
 use lib.Dec.{eqb, ltb}
 use Rattle.line.specs.declared.Word.{Word}
-use Rattle.line.specs.declared.Word.the-variants.{Game, Pay, Move, Go, Add, Cut, Mark, Unmark, Begin, End, Ways, Kinds, Unreadable}
+use Rattle.line.specs.declared.Word.the-variants.{Game, Pay, Move, Go, Add, Cut, Mark, Unmark, Begin, End, Ways, Kinds, Short, Unreadable}
 use Rattle.line.specs.declared.Form.{Form}
 
 abbrev pub form : ℕ → ℕ → ℕ → ℕ → Form
@@ -11,8 +11,8 @@ form tag count limit kind = record { tag = tag; count = count; limit = limit; ki
 
 -- "`game` (N, start), `pay` (state), `move` (from, to), `go`, `add` (from, to) and `cut` (from, to)": a number for each word, how many numbers follow it, and
 -- the largest that each may be: "at most 65,535; in `pay` at most 511". `mark` (state) and `unmark` (state) come with document 02, ticket 2, `begin`
--- and `end` with ticket 5, `ways` (state) with ticket 8, `kinds` (K) with ticket 9. Ticket 9: "`pay`, `mark` and `unmark` take a kind after the state, 1 if left out":
--- the last number is that kind, and 0 for a word that takes none.
+-- and `end` with ticket 5, `ways` (state) with ticket 8, `kinds` (K) with ticket 9, `short` (budget) with ticket 11: "a budget B of 0 to 65,535 looks". Ticket 9: "`pay`,
+-- `mark` and `unmark` take a kind after the state, 1 if left out": the last number is that kind, and 0 for a word that takes none.
 abbrev pub formOf : Word → Form
 formOf Game = form 0 2 65535 0
 formOf Pay = form 1 1 511 1
@@ -26,7 +26,8 @@ formOf Begin = form 8 0 65535 0
 formOf End = form 9 0 65535 0
 formOf Ways = form 10 1 65535 0
 formOf Kinds = form 11 1 65535 0
-formOf Unreadable = form 12 0 65535 0
+formOf Short = form 12 1 65535 0
+formOf Unreadable = form 13 0 65535 0
 
 abbrev pub countOf : Word → ℕ
 countOf w = formOf w .count

@@ -33,6 +33,8 @@ pub const WAYS: [u8; 4] = *b"ways";
 
 pub const KINDS: [u8; 5] = *b"kinds";
 
+pub const SHORT: [u8; 5] = *b"short";
+
 pub const TAB: u8 = 9;
 
 pub const NEWLINE: u8 = 10;
@@ -57,6 +59,7 @@ pub enum Word {
     End,
     Ways,
     Kinds,
+    Short,
     Unreadable,
 }
 
@@ -186,6 +189,8 @@ fn read_word(s: &[u8]) -> Word
         Word::Ways
     } else if same(s, &KINDS) {
         Word::Kinds
+    } else if same(s, &SHORT) {
+        Word::Short
     } else {
         Word::Unreadable
     }
@@ -219,7 +224,8 @@ fn form_of(word: Word) -> Form
         Word::End => row(9, 0, 65535, 0),
         Word::Ways => row(10, 1, 65535, 0),
         Word::Kinds => row(11, 1, 65535, 0),
-        Word::Unreadable => row(12, 0, 65535, 0),
+        Word::Short => row(12, 1, 65535, 0),
+        Word::Unreadable => row(13, 0, 65535, 0),
     }
 }
 

@@ -101,12 +101,21 @@ past-kinds : (c : tie.Else12) → Past 12 (start-kinds c)
 unfolding bytes words
 past-kinds c = row-miss _ _ _ (c .before .same12 .ensures) (c .if12 .left) (past-ways (c .before .before .before))
 
+abbrev start-short : tie.Else13 → tie.Start
+start-short c = start-kinds (c .before .before .before)
+
+past-short : (c : tie.Else13) → Past 13 (start-short c)
+unfolding bytes words
+past-short c = row-miss _ _ _ (c .before .same13 .ensures) (c .if13 .left) (past-kinds (c .before .before .before))
+
 -- what `same` asks, for each row; then the word of each row, and that of none
 pub read-word-spec : {M : Type 1} → statement M
 unfolding bytes words
 read-word-spec =
     tie.close
     (tie.spec
+    (λ c. search needs)
+    (λ c κs. search needs)
     (λ c. search needs)
     (λ c κs. search needs)
     (λ c. search needs)
@@ -143,4 +152,5 @@ read-word-spec =
     (λ c. row-hit _ _ _ (c .before .same10 .ensures) (c .if10 .taken) (past-begin (c .before .before .before)))
     (λ c. row-hit _ _ _ (c .before .same11 .ensures) (c .if11 .taken) (past-end (c .before .before .before)))
     (λ c. row-hit _ _ _ (c .before .same12 .ensures) (c .if12 .taken) (past-ways (c .before .before .before)))
-    (λ c. no-rows _ (past-kinds c)))
+    (λ c. row-hit _ _ _ (c .before .same13 .ensures) (c .if13 .taken) (past-kinds (c .before .before .before)))
+    (λ c. no-rows _ (past-short c)))
