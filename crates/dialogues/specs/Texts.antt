@@ -215,4 +215,29 @@ games =
     ∷ dialogue "game\t2\t0\npay\t0\nkinds\t2\n" ("no\t1\n" ∷ [])
     ∷ dialogue "game\t2\t0\nkinds\t5\ngo\n" ("no\t16\n" ∷ [])
     ∷ dialogue "game\t2\t0\nkinds\t2\npay\t0\t3\ngo\n" ("no\t4\n" ∷ [])
+    -- Ticket 11: a paying state with a move to itself, beside a longer round that is found first: the second look at its moves comes back; lines that cannot be read, and inside a batch; the round of two
+    -- moves alone, length 1 ruled out with the first look; no round; several kinds
+    ∷ dialogue "game\t2\t0\npay\t1\nmove\t0\t1\nmove\t1\t0\nmove\t1\t1\ngo\nshort\t0\nshort\t1\nshort\t2\nshort\t65535\nshort\nshort\t65536\nbegin\nshort\t1\nend\ncut\t1\t1\nshort\t0\nshort\t1\nshort\t2\nshort\t3\nunmark\t1\nshort\t3\nkinds\t2\nshort\t3\n"
+    ("game\t2\t3\t1\n"
+    ∷ "round\t4\t0\t0\t2\t0\t1\n"
+    ∷ "short\t2\t1\n"
+    ∷ "short\t2\t1\n"
+    ∷ "short\t1\t1\n"
+    ∷ "short\t1\t1\n"
+    ∷ "no\t1\n"
+    ∷ "no\t1\n"
+    ∷ "no\t1\t1\n"
+    ∷ "round\t2\t1\t0\t2\t0\t1\n"
+    ∷ "short\t2\t1\n"
+    ∷ "short\t2\t2\n"
+    ∷ "short\t2\t2\n"
+    ∷ "short\t2\t2\n"
+    ∷ "none\t1\t1\n"
+    ∷ "none\n"
+    ∷ "none\t2\t0\n"
+    ∷ "no\t17\n"
+    ∷ [])
+    -- a paying state that cannot be reached, with a move to itself: it is not searched from
+    ∷ dialogue "game\t4\t0\npay\t1\npay\t3\nmove\t0\t1\nmove\t1\t2\nmove\t2\t0\nmove\t3\t3\ngo\nshort\t0\nshort\t1\nshort\t2\nshort\t3\nshort\t6\n"
+    ("game\t4\t4\t2\n" ∷ "round\t5\t0\t0\t3\t0\t1\t2\n" ∷ "short\t3\t1\n" ∷ "short\t3\t2\n" ∷ "short\t3\t2\n" ∷ "short\t3\t3\n" ∷ "short\t3\t3\n" ∷ [])
     ∷ []

@@ -20,7 +20,8 @@ use Rattle.table.specs.declared.Position.the-variants.{Alone}
 use Rattle.batch.specs.declared.BatchLine.{BatchLine}
 use Rattle.batch.specs.Batches.{lineFor, lineTo}
 use Rattle.question.specs.declared.Question.{Question}
-use Rattle.question.specs.declared.Topic.the-variants.{Ways}
+use Rattle.question.specs.declared.Topic.{Topic}
+use Rattle.question.specs.declared.Topic.the-variants.{Ways, Short}
 use Rattle.lead.specs.declared.Stage.{Stage}
 use Rattle.lead.specs.declared.Stage.the-variants.{Waiting, Opened, Gathering, Playing, Batching, Over}
 use Rattle.lead.specs.declared.Lead.{Lead}
@@ -106,8 +107,12 @@ askedOpened l r = cond (isWord (r .word) Kinds)
     (noTask (record { stage = Gathering; size = l .size; start = l .start; kinds = r .first; count = 0 }))
     (askedBefore l r)
 
--- ".. then `add` and `cut`"; ticket 2: "Lines `mark` and `unmark` name a state"; ticket 5: `begin` and `end`; ticket 8: `ways`; ticket 10: `kinds`, "after `go` as well". Any other word is
--- misplaced.
+-- a question about a topic, with the number that goes with it
+abbrev pub asking : Topic → ℕ → Request
+asking topic n = R.Question (record { topic = topic; number = n })
+
+-- ".. then `add` and `cut`"; ticket 2: "Lines `mark` and `unmark` name a state"; ticket 5: `begin` and `end`; ticket 8: `ways`; ticket 10: `kinds`, "after `go` as well"; ticket 11: `short`.
+-- Any other word is misplaced.
 abbrev pub requestBy : Word → ℕ → ℕ → Request
 requestBy Word.Add first second = R.Change (Add first second)
 requestBy Word.Cut first second = R.Change (Cut first second)
@@ -116,7 +121,8 @@ requestBy Word.Unmark first second = R.Change (Unmark first second)
 requestBy Word.Begin first second = R.Begin
 requestBy Word.End first second = R.End
 requestBy Word.Kinds first second = R.Kinds first
-requestBy Word.Ways first second = R.Question (record { topic = Ways; number = first })
+requestBy Word.Ways first second = asking Ways first
+requestBy Word.Short first second = asking Short first
 requestBy Word.Game first second = R.Unknown
 requestBy Word.Pay first second = R.Unknown
 requestBy Word.Move first second = R.Unknown

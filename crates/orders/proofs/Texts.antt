@@ -10,7 +10,7 @@ use Rattle.plain.specs.Search.{Verdict, none, lasso, unfinished, verdict, count
 use Rattle.plain.specs.Table.{Table, acceptingCount, printedVerdict, final}
 use Rattle.plain.specs.Refusals.{Trial, accepted, refused, Load, loadTrial}
 use Rattle.plain.specs.Machine.{Change, add, cut, BatchLine, makes, other, changesIn, Update, single, batch, changesOf, toKinds, Command, update, setKinds, commanded, Refusal, Answer, answer, answerLine, loadAnswer, tableOf, Call, callFor, trialOf, answerTo, tableAfter, Line, gameLine, noLine, numbered}
-use Rattle.plain.specs.Questions.{Reply, noReply, degrees, replyTo, replyLine}
+use Rattle.plain.specs.Questions.{Reply, noReply, degrees, shortest, noRound, replyTo, replyLine}
 use Rattle.plain.specs.Claims.{Arises, loaded, totalled, loadFrom, AsLoaded, tableBehind}
 use Rattle.plain.specs.Orders.{SameView, Apart, changesAsked, Switching, EachAccepted, totalLine}
 use Rattle.plain.proofs.Demands.{demand-2}
@@ -81,6 +81,8 @@ reply-last : (v : List Line) (r : Reply) → newer v (replyLine r) ≡ v
 unfolding replyLine
 reply-last v (noReply n) = refl
 reply-last v (degrees s leaving entering) = refl
+reply-last v (shortest best least) = refl
+reply-last v noRound = refl
 
 play-telling : (q : Request) (p : Play) (v : List Line) → Arises (p .table) → Tells (playing p) v → Telling v (playStep q p)
 unfolding lastVerdict

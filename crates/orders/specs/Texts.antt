@@ -5,7 +5,7 @@ use mathlib.Core.List.{List, [], _∷_, _++_, map}
 use lib.ListN.{length}
 use Rattle.plain.specs.Search.{Edge}
 use Rattle.plain.specs.Table.{acceptingCount}
-use Rattle.plain.specs.Machine.{Change, add, cut, toKinds, Refusal, Line, gameLine, roundLine, noneLine, noLine, waysLine}
+use Rattle.plain.specs.Machine.{Change, add, cut, toKinds, Refusal, Line, gameLine, roundLine, noneLine, noLine, waysLine, shortLine, noRoundLine}
 use Rattle.plain.specs.Claims.{loadFrom}
 use Rattle.plain.specs.Orders.{Apart, Permutation, totalLine}
 use Rattle.line.specs.declared.Word.the-variants.{Go}
@@ -20,6 +20,8 @@ NotNo (roundLine spent kept stem cycle walk) = Unit {0}
 NotNo (noneLine spent kept) = Unit {0}
 NotNo (noLine r) = ⊥
 NotNo (waysLine s leaving entering) = Unit {0}
+NotNo (shortLine best least) = Unit {0}
+NotNo noRoundLine = Unit {0}
 
 -- what a line requests behind `go`
 abbrev pub requested : List ℕ → Request
@@ -47,6 +49,8 @@ newer before (roundLine spent kept stem cycle walk) = totalLine (roundLine spent
 newer before (noneLine spent kept) = totalLine (noneLine spent kept) ∷ []
 newer before (noLine r) = before
 newer before (waysLine s leaving entering) = before
+newer before (shortLine best least) = before
+newer before noRoundLine = before
 
 unfoldable pub lastVerdict : List Line → List Line → List Line
 lastVerdict before [] = before

@@ -1,5 +1,5 @@
 -- Replies read off arrays that hold a table are the plain table's. Assumes nothing.
-use mathlib.Core.Path.{_≡_, refl, sym, ap, subst⁻¹, _∙_}
+use mathlib.Core.Path.{_≡_, refl, sym, ap, _∙_}
 use mathlib.Core.Logic.{_≢_, ⊎-elim}
 use mathlib.Core.Bool.{Bool, true, false, cond}
 use mathlib.Core.List.{List}
@@ -14,7 +14,7 @@ use Rattle.plain.specs.Table.{Table, accepts, final}
 use Rattle.plain.specs.Layers.{copy}
 use Rattle.plain.specs.Refusals.{badSize, firstHeld, beyond}
 use Rattle.plain.specs.Shortest.{Hunt, foundAt, leftAt}
-use Rattle.plain.specs.Questions.{Question as PlainQuestion, ways, short, outDegree, Reply as PlainReply, noReply, degrees, shortest, noRound, questionTrial, huntIn, lengthsFor, shortReply, questionReply, replyTo, replyLine}
+use Rattle.plain.specs.Questions.{ways, short, outDegree, Reply as PlainReply, noReply, degrees, shortest, noRound, questionTrial, huntIn, lengthsFor, shortReply, questionReply, replyTo, replyLine}
 use Rattle.plain.specs.Claims.{Arises}
 use Rattle.plain.proofs.Tests.{contra, either, or-first}
 use Rattle.plain.proofs.Tables.{Valid, valid}
@@ -28,11 +28,9 @@ use Rattle.shortest.specs.declared.Lengths.{Lengths}
 use Rattle.shortest.specs.Model.{lengthsOf, Holds, Shortens}
 use Rattle.table.specs.Trials.{Arrays}
 use Rattle.table.specs.Filing.{Stored}
-use Rattle.question.specs.declared.Topic.{Topic}
-use Rattle.question.specs.declared.Topic.the-variants.{Ways, Short}
 use Rattle.question.specs.declared.Reply.{Reply}
 use Rattle.question.specs.declared.Reply.the-variants.{Refused, Degrees, Shortest, NoRound}
-use Rattle.question.specs.Replies.{topicOf, replied, replyShown, waysIn, RoundOf, ShortIn, RepliedIn}
+use Rattle.question.specs.Replies.{replied, replyShown, waysIn, RoundOf, ShortIn}
 
 -- ---- any arrays
 
@@ -92,47 +90,13 @@ module _ (budget size kinds start present : ℕ) (targets starts words : List �
       told (foundAt l) = refl
       told (leftAt l) = refl
 
--- ---- by what is asked about
-
-module _ (size kinds start present : ℕ) (targets starts words indegree : List ℕ) (r : Reply) where
-  abbrev By : Topic → ℕ → Type 0
-  By topic n = RepliedIn topic n size kinds start present targets starts words indegree r
-
-  pub asked-ways : (topic : Topic) (n : ℕ) → topic ≡ Ways → r ≡ waysIn n size starts indegree → By topic n
-  asked-ways topic n e h = subst⁻¹ (λ (x : Topic). By x n) e h
-
-  pub asked-short : (topic : Topic) (n : ℕ) → topic ≡ Short → ShortIn n size kinds start present targets starts words r → By topic n
-  asked-short topic n e h = subst⁻¹ (λ (x : Topic). By x n) e h
-
-  -- a question about a state outside is refused
-  pub state-outside : (topic : Topic) (n s : ℕ) → topicOf topic n ≡ ways s → size ≤ s → By topic n → r ≡ Refused 6
-  state-outside Ways n s e h z = z ∙ ap (λ (m : ℕ). waysIn m size starts indegree) (ap stateIn e) ∙ ways-outside s size starts indegree h
-    where
-      stateIn : PlainQuestion → ℕ
-      stateIn (ways m) = m
-      stateIn (short m) = m
-  state-outside Short n s e h z = absurd (contra refl (ap isShort e))
-    where
-      isShort : PlainQuestion → Bool
-      isShort (ways m) = false
-      isShort (short m) = true
-
-  -- the shortest round of a game with several kinds, and where there is no game
-  pub short-refused : (topic : Topic) (n b : ℕ) → topicOf topic n ≡ short b → By topic n → (1 < kinds → r ≡ Refused 17) × (kinds ≤ 1 → size ≡ 0 → r ≡ Refused 2)
-  short-refused Ways n b e z = absurd (contra refl (ap isWays e))
-    where
-      isWays : PlainQuestion → Bool
-      isWays (ways m) = true
-      isWays (short m) = false
-  short-refused Short n b e z = (z .several-kinds, z .no-game)
-
 -- ---- arrays that hold a table
 
 module _ (t : Table) (a : Arrays) (arises : Arises t) (f : Stored t a) where
   leaving-is : (s : ℕ) → degreeAt (a .rows .starts) s ≡ outDegree (t .edges) s
   leaving-is s = sym (row-length (a .rows .targets) (a .rows .starts) s) ∙ ap length (f .filed .rows-are s) ∙ sym (out-row (t .edges) s)
 
-  ways-same : (s : ℕ) → waysIn s (t .size) (a .rows .starts) (a .indegree) ≡ replied (replyTo (ways s) t)
+  pub ways-same : (s : ℕ) → waysIn s (t .size) (a .rows .starts) (a .indegree) ≡ replied (replyTo (ways s) t)
   unfolding replyTo questionTrial firstHeld beyond questionReply
   ways-same s = ⊎-elim
       (λ e. ways-by s (t .size) (a .rows .starts) (a .indegree) true e ∙ rw e refl)
@@ -153,7 +117,7 @@ module _ (t : Table) (a : Arrays) (arises : Arises t) (f : Stored t a) where
     marks-are = λ s low. ap (accepts (a .words)) (sym (first-copy s)) ∙ packed-bit (t .size) (t .kinds) (t .marks) (a .words) 0 s (omega arith) low (f .packed);
   }
 
-  short-same : (b present : ℕ) (r : Reply) → RoundOf present (verdict (final t)) → ShortIn b (t .size) (t .kinds) (t .start) present (a .rows .targets) (a .rows .starts) (a .words) r
+  pub short-same : (b present : ℕ) (r : Reply) → RoundOf present (verdict (final t)) → ShortIn b (t .size) (t .kinds) (t .start) present (a .rows .targets) (a .rows .starts) (a .words) r
       → r ≡ replied (replyTo (short b) t)
   unfolding replyTo questionTrial firstHeld questionReply shortReply
   short-same b present r p z = ⊎-elim
@@ -169,11 +133,6 @@ module _ (t : Table) (a : Arrays) (arises : Arises t) (f : Stored t a) where
           let short-walk : length stem + length cycle ≤ t .size * t .kinds = demand-2 t arises .short stem cycle e in
           z .lengths few (omega (arith, q .0, q .1)) (omega (arith, q .0, short-walk, ok .states-few, mul-comm (t .size) (t .kinds))) t (holds (omega (arith, ok .some-kind))) ∙ ap (λ (n : ℕ). replied (lengthsFor n (huntIn t b n))) (q .0)
       one-kind few unfinished e q = absurd q
-
-  pub replies : (topic : Topic) (n present : ℕ) (r : Reply) → RoundOf present (verdict (final t))
-      → RepliedIn topic n (t .size) (t .kinds) (t .start) present (a .rows .targets) (a .rows .starts) (a .words) (a .indegree) r → r ≡ replied (replyTo (topicOf topic n) t)
-  replies Ways n present r p z = z ∙ ways-same n
-  replies Short n present r p z = short-same n present r p z
 
 -- the line that tells a reply is the plain table's
 pub reply-shown : (r : PlainReply) → replyShown (replied r) ≡ replyLine r

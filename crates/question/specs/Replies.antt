@@ -55,7 +55,3 @@ pub record ShortIn (budget size kinds start present : ℕ) (targets starts words
   pub no-game : kinds ≤ 1 → size ≡ 0 → r ≡ Refused 2
   pub no-round : kinds ≤ 1 → 0 < size → present ≡ 0 → r ≡ NoRound
   pub lengths : kinds ≤ 1 → 0 < present → present ≤ 512 → (t : Table) → Holds t targets starts words size start → r ≡ replied (lengthsFor present (huntIn t budget present))
-
-abbrev pub RepliedIn : Topic → ℕ → ℕ → ℕ → ℕ → ℕ → List ℕ → List ℕ → List ℕ → List ℕ → Reply → Type 0
-RepliedIn Ways n size kinds start present targets starts words indegree r = r ≡ waysIn n size starts indegree
-RepliedIn Short n size kinds start present targets starts words indegree r = ShortIn n size kinds start present targets starts words r

@@ -2,7 +2,7 @@
 ghost use mathlib.Core.Path.{_≡_};
 ghost use lib.ListN.{length};
 ghost use Rattle.rows.specs.Rows.{Tabled};
-ghost use Rattle.question.specs.Replies.{waysIn, ShortIn, RepliedIn};
+ghost use Rattle.question.specs.Replies.{waysIn, ShortIn};
 
 // What is asked about: the moves that leave and enter a state, or the shortest round.
 pub enum Topic {
@@ -33,7 +33,7 @@ pub enum Reply {
 }
 
 // How many moves leave and enter a state: the one count is between the ends of its row, the other is held.
-fn ways(size: u16, starts: &[u16; 513], indegree: &[u16; 512], state: u16) -> Reply
+pub fn ways(size: u16, starts: &[u16; 513], indegree: &[u16; 512], state: u16) -> Reply
     requires { ⌜ (length (now starts) ≡ 513) × (length (now indegree) ≡ 512) ⌝ }
     ensures { λ r. ⌜ r ≡ waysIn state size (now (starts .entry)) (now (indegree .entry)) ⌝ }
 {
@@ -50,7 +50,7 @@ fn ways(size: u16, starts: &[u16; 513], indegree: &[u16; 512], state: u16) -> Re
 }
 
 // The shortest round within a budget of looks, where the present one has so many moves, 0 if there is none. Where there is no game, nothing is said of its rounds.
-fn short(
+pub fn short(
     size: u16,
     kinds: u16,
     start: u16,
@@ -76,36 +76,5 @@ fn short(
     Reply::Shortest {
         best: n.best,
         least: n.least,
-    }
-}
-
-// What a table replies to a question, read off its arrays. Its present round has so many moves, 0 if there is none.
-pub fn reply_to(
-    question: Question,
-    size: u16,
-    kinds: u16,
-    start: u16,
-    present: u16,
-    targets: &[u16; 2048],
-    starts: &[u16; 513],
-    words: &[u64; 8],
-    indegree: &[u16; 512],
-) -> Reply
-    requires { ⌜ Tabled (now targets) (now starts) × (length (now indegree) ≡ 512) ⌝ }
-    ensures { λ r. ⌜ RepliedIn (question .topic) (question .number) size kinds start present (now (targets .entry)) (now (starts .entry)) (now (words .entry)) (now (indegree .entry)) r ⌝ }
-{
-    let topic = question.topic;
-    match topic {
-        Topic::Ways => ways(size, starts, indegree, question.number),
-        Topic::Short => short(
-            size,
-            kinds,
-            start,
-            present,
-            targets,
-            starts,
-            words,
-            question.number,
-        ),
     }
 }

@@ -4,7 +4,7 @@
 // - a load: 1, size, start, kinds of pay, a count, the paying words of so many kinds (at most 4) as 32 numbers each, a count, so many numbers of moves, room
 // - a change: 2 (add) or 3 (cut) and two states, or 4 (mark) or 5 (unmark) and a state and a kind, room
 // - a batch: 6, room, a count, so many lines of three numbers: 2 to 5 as above, or any other for a line that makes no change, and two more
-// - a question: 7, a state
+// - a question: 7, a state; or 9, a budget of looks for a short round
 // - another count of kinds: 8, the count, room
 // - 0 at the end
 // The room says how much of the list is lent.
@@ -13,7 +13,7 @@
 // - of no round 1, and the probes spent and kept
 // - of a round 2, the probes, the lengths of stem and cycle, and the walk
 // - behind each of these a sum of the lent list
-// - of a question, which lends no list, 4, the state, and the counts of moves that leave and enter it; or 0 and the refusal's number
+// - of a question, which lends no list, 4, the state, and the counts of moves that leave and enter it; 5 and the two lengths, or 6 where there is no round; or 0 and the refusal's number
 use batch::Command;
 use batch::Update;
 use question::Question;
@@ -30,8 +30,10 @@ ghost use Prim.Native.Nat.{_≤_, _<_};
 // A batch begins with this number.
 const BATCH: u16 = 6;
 
-// And a question.
-const QUESTION: u16 = 7;
+// And a question about a state, and one about a short round.
+const WAYS: u16 = 7;
+
+const SHORT: u16 = 9;
 
 // And another count of kinds.
 const NEW_KINDS: u16 = 8;
@@ -346,19 +348,38 @@ fn print_reply(reply: Reply) {
             print_line(long(leaving));
             print_line(long(entering));
         }
+        Reply::Shortest { best, least } => {
+            print_line(5);
+            print_line(long(best));
+            print_line(long(least));
+        }
+        Reply::NoRound => {
+            print_line(6);
+        }
     }
 }
 
+// Is it a question?
+fn is_question(what: u16) -> bool {
+    if what == WAYS {
+        return true;
+    }
+    what == SHORT
+}
+
+// What a question is about.
+fn topic_of(what: u16) -> Topic {
+    if what == WAYS {
+        return Topic::Ways;
+    }
+    Topic::Short
+}
+
 // The question at a place is asked of the session, and its reply printed.
-fn ask_at(text: &[u8], at: usize, s: Session) {
-    let state = number_at(text, at, 2);
-    print_reply(session::ask(
-        s,
-        Question {
-            topic: Topic::Ways,
-            number: state,
-        },
-    ));
+fn ask_at(text: &[u8], at: usize, what: u16, s: Session) {
+    let number = number_at(text, at, 2);
+    let topic = topic_of(what);
+    print_reply(session::ask(s, Question { topic, number }));
 }
 
 // How many bytes the call at a place has.
@@ -372,7 +393,7 @@ fn size_at(text: &[u8], at: usize, what: u16) -> usize
     if what == BATCH {
         return 6 + line_count(text, at, what) * 6;
     }
-    if what == QUESTION {
+    if is_question(what) {
         return 4;
     }
     if what == NEW_KINDS {
@@ -392,8 +413,8 @@ fn replay_block(text: &[u8]) {
         if what == 0 {
             return;
         }
-        if what == QUESTION {
-            ask_at(text, at, c.session);
+        if is_question(what) {
+            ask_at(text, at, what, c.session);
             at += size_at(text, at, what);
             continue;
         }

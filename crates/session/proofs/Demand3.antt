@@ -34,7 +34,7 @@ call-right x s t r h c e =
 question-right : (q : Question) (s : Session) (t : Table) (r : Reply) → Holds s t → Replies q s r → QuestionRight q r t
 question-right q s t r h c =
     let e = c .replies t h in
-    record { replies = e; truth = subst⁻¹ (λ (y : Reply). LineTrue (replyShown y) t) e (subst⁻¹ (λ (l : Line). LineTrue l t) (reply-shown (replyTo q t)) (reply-told q t)) }
+    record { replies = e; truth = subst⁻¹ (λ (y : Reply). LineTrue (replyShown y) t) e (subst⁻¹ (λ (l : Line). LineTrue l t) (reply-shown (replyTo q t)) (reply-told q t (h .arises))) }
 
 -- every call and question of a list, from a session that holds a table
 pub all-right : (s : Session) (t : Table) (xs : List Event) → Holds s t → Served s xs → AllRight xs t

@@ -7,4 +7,5 @@ pub mod Accepted
 pub mod Afresh
 pub mod Loaded
 pub mod Performing
+pub mod Questions
 pub mod Demand3

@@ -1,5 +1,5 @@
 -- What load, the calls behind it and questions promise, in terms of the plain table. Assumes nothing.
-use Prim.Native.Nat.{ℕ, suc, _≤_}
+use Prim.Native.Nat.{ℕ, suc, _≤_, _<_}
 use mathlib.Core.Path.{_≡_}
 use mathlib.Core.Logic.{_≢_}
 use mathlib.Core.Bool.{Bool, false, cond}
@@ -10,7 +10,7 @@ use Rattle.plain.specs.Search.{Config, outer, nested, exhausted, found, unfinis
 use Rattle.plain.specs.Table.{Table, searched, final}
 use Rattle.plain.specs.Refusals.{Load, accepted, refused, loadTrial}
 use Rattle.plain.specs.Machine.{Change, add, cut, mark, unmark, misnamed, BatchLine, changesIn, callFor, batchCall, Update as PlainUpdate, single, batch, Command as PlainCommand, update, setKinds, loadAnswer, tableOf, Call, answerTo, tableAfter, answers, Line, answerLine, answerLines}
-use Rattle.plain.specs.Questions.{Question, ways, replyTo, Operation, call as calling, question, tableNext, toldAll}
+use Rattle.plain.specs.Questions.{Question, ways, short, replyTo, Operation, call as calling, question, tableNext, toldAll}
 use Rattle.plain.specs.Claims.{Arises, OneByOne, LineTrue, LineCounted, LoopTold}
 use Rattle.search.specs.Archive.{Archived}
 use Rattle.verdict.specs.declared.Answer.{Answer}
@@ -100,12 +100,14 @@ pub record Updates (c : PlainCommand) (s : Session) (lent : List ℕ) (r : Outco
   pub refused : (n : Refusal) → r .answer ≡ Refused n → (r .session ≡ s) × (lent′ ≡ lent)
   pub no-game : s .size ≡ 0 → r .answer ≡ Refused (refusedWithoutGame (s .kinds) c)
 
--- A QUESTION. For every plain table that the session holds, the reply is the plain table's. For every session, forged too: a state that is not below its count of states is
--- refused with 6, so every state where there is no game. The counts replied of any other state of a forged session are left open. The operation takes the session and the question
--- and gives back the reply alone: it lends no list, and the session is as it was.
+-- A QUESTION. For every plain table that the session holds, the reply is the plain table's. For every session, forged too: of `ways`, a state that is not below its count of states is
+-- refused with 6, so every state where there is no game; `short` is refused with 17 where there is more than one kind, and with 2 where there is no game. What else is replied of a forged
+-- session is left open. The operation takes the session and the question and gives back the reply alone: it lends no list, and the session is as it was.
 pub record Replies (q : Question) (s : Session) (r : Reply) : Type 0 where
   pub replies : (t : Table) → Holds s t → r ≡ replied (replyTo q t)
   pub outside : (state : ℕ) → q ≡ ways state → s .size ≤ state → r ≡ Reply.Refused 6
+  pub several-kinds : (budget : ℕ) → q ≡ short budget → 1 < s .kinds → r ≡ Reply.Refused 17
+  pub no-game : (budget : ℕ) → q ≡ short budget → s .kinds ≤ 1 → s .size ≡ 0 → r ≡ Reply.Refused 2
 
 -- ---- a list of calls and questions
 

@@ -4,6 +4,7 @@ use batch::Command;
 use batch::Update;
 use question::Question;
 use question::Reply;
+use question::Topic;
 use resumption::Resumption;
 use table::Position;
 use table::Trial;
@@ -661,11 +662,31 @@ pub fn update(s: Session, command: Command, lines: &[u16], lent: &mut [u16]) -> 
     }
 }
 
-// A question on a session. It changes nothing and lends no list. The two arrays are taken out of the session, so that the rest of it is not copied.
+// A question on a session. It changes nothing and lends no list. Of the session's arrays those are taken out that its topic reads, so that the rest is not copied.
 pub fn ask(s: Session, question: Question) -> Reply
     ensures { λ r. ⌜ Replies (questionOf question) s r ⌝ }
 {
+    let topic = question.topic;
     let starts = s.starts;
-    let indegree = s.indegree;
-    question::reply_to(question, s.size, &starts, &indegree)
+    match topic {
+        Topic::Ways => {
+            let indegree = s.indegree;
+            question::ways(s.size, &starts, &indegree, question.number)
+        }
+        Topic::Short => {
+            let targets = s.targets;
+            let words = s.words;
+            let present = look::minus(s.length, s.stem);
+            question::short(
+                s.size,
+                s.kinds,
+                s.start,
+                present,
+                &targets,
+                &starts,
+                &words,
+                question.number,
+            )
+        }
+    }
 }

@@ -309,13 +309,13 @@ fn find_roots(
     requires { ⌜ Tabled (now targets) (now starts) × (length (now queue) ≡ 512) × (length (now roots) ≡ 512) ⌝ }
     ensures { λ r. ⌜ FindsRoots (now (targets .entry)) (now (starts .entry)) (now (words .entry)) size start (now (queue .exit)) (now (roots .exit)) r ⌝ }
 {
-    let mut seen: [bool; 512] = [false; 512];
+    let mut reached: [bool; 512] = [false; 512];
     let mut unused: u16 = 0;
     search(
         targets,
         starts,
         queue,
-        &mut seen,
+        &mut reached,
         &mut unused,
         ALL_LOOKS,
         NO_STATE,
@@ -325,7 +325,7 @@ fn find_roots(
     let mut count: u16 = 0;
     let mut s: u16 = 0;
     while s < size {
-        count = file_root(words, &seen, roots, count, s);
+        count = file_root(words, &reached, roots, count, s);
         s += 1;
     }
     count

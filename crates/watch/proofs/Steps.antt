@@ -13,7 +13,7 @@ use lib.Seq.{take-all, take-append-le, length-take-le}
 use Rattle.plain.specs.Search.{Edge, Verdict, none, lasso, unfinished, verdict, count}
 use Rattle.plain.specs.Table.{printedVerdict, final, withMark, byKind, acceptingCount}
 use Rattle.plain.specs.Refusals.{Trial, accepted, refused, flat, loadTrial}
-use Rattle.plain.specs.Machine.{BatchLine, makes, other, single, batch, Command, update, setKinds, Answer as PlainAnswer, answer, inKind, loadAnswer, tableOf, answerTo, Line, gameLine, roundLine, noneLine, noLine, waysLine, answerLine}
+use Rattle.plain.specs.Machine.{BatchLine, makes, other, single, batch, Command, update, setKinds, Answer as PlainAnswer, answer, inKind, loadAnswer, tableOf, answerTo, Line, gameLine, roundLine, noneLine, noLine, waysLine, shortLine, noRoundLine, answerLine}
 use Rattle.plain.specs.Questions.{replyTo}
 use Rattle.plain.proofs.Tests.{either, and-true}
 use Rattle.plain.proofs.OneByOne.{held-call}
@@ -112,6 +112,8 @@ tellsNo (roundLine spent kept stem cycle walk ∷ ls) = false
 tellsNo (noneLine spent kept ∷ ls) = false
 tellsNo (noLine r ∷ ls) = true
 tellsNo (waysLine s leaving entering ∷ ls) = false
+tellsNo (shortLine best least ∷ ls) = false
+tellsNo (noRoundLine ∷ ls) = false
 
 shown-no : (a : Answer) (walk : List ℕ) → isRefused a ≡ tellsNo (shown a walk ∷ [])
 unfolding shown tellsNo
@@ -233,6 +235,7 @@ by-word W.Begin a b = refl
 by-word W.End a b = refl
 by-word W.Ways a b = refl
 by-word W.Kinds a b = refl
+by-word W.Short a b = refl
 by-word W.Unreadable a b = refl
 
 same-request : (r : Record) → requested (leadRequest r) ≡ requestOf r
@@ -270,6 +273,7 @@ inside W.Begin a b = record { ends = λ e. no-word e; stays = λ e p xs. refl }
 inside W.End a b = record { ends = λ e. refl; stays = λ e. no-word (sym e) }
 inside W.Kinds a b = record { ends = λ e. no-word e; stays = λ e p xs. refl }
 inside W.Ways a b = record { ends = λ e. no-word e; stays = λ e p xs. refl }
+inside W.Short a b = record { ends = λ e. no-word e; stays = λ e p xs. refl }
 inside W.Unreadable a b = record { ends = λ e. no-word e; stays = λ e p xs. refl }
 
 -- three numbers more are a line more

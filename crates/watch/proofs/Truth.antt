@@ -8,7 +8,7 @@ use native.Mathlib.Omega.{arith}
 use Rattle.plain.specs.Search.{none, lasso, unfinished}
 use Rattle.plain.specs.Table.{Table}
 use Rattle.plain.specs.Refusals.{Trial, accepted, refused, loadTrial}
-use Rattle.plain.specs.Machine.{BatchLine, single, batch, Command, update, setKinds, commanded, Answer, refusal, answer, answerLine, loadAnswer, tableOf, Call, trialOf, answerTo, tableAfter, after, Line, gameLine, roundLine, noneLine, noLine, waysLine}
+use Rattle.plain.specs.Machine.{BatchLine, single, batch, Command, update, setKinds, commanded, Answer, refusal, answer, answerLine, loadAnswer, tableOf, Call, trialOf, answerTo, tableAfter, after, Line, gameLine, roundLine, noneLine, noLine, waysLine, shortLine, noRoundLine}
 use Rattle.plain.specs.Claims.{Arises, loaded, LineTrue, NotNone}
 use Rattle.plain.proofs.Trials.{load-never-7}
 use Rattle.plain.proofs.Calls.{command-arises}
@@ -76,7 +76,7 @@ play-right (changing c) p a = call-right (update (single c)) p a
 play-right beginning p a = (tt, a)
 play-right ending p a = ((early 1 (omega arith), tt), a)
 play-right (settingKinds k) p a = call-right (setKinds k) p a
-play-right (questioning q) p a = ((reply-told q (p .table), tt), a)
+play-right (questioning q) p a = ((reply-told q (p .table) a, tt), a)
 play-right unknown p a = ((early 1 (omega arith), tt), a)
 
 batch-right : (q : Request) (p : Play) (xs : List BatchLine) → Arises (p .table) → Right (batchStep q p xs)
@@ -123,6 +123,8 @@ no-verdict (roundLine spent kept stem cycle walk) h = tt
 no-verdict (noneLine spent kept) h = h
 no-verdict (noLine r) h = tt
 no-verdict (waysLine s leaving entering) h = tt
+no-verdict (shortLine best least) h = tt
+no-verdict noRoundLine h = h
 
 says-loop : (l : Line) (p : Held) → Says l p → SaysLoop l p
 says-loop l waiting h = no-verdict l h

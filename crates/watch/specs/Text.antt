@@ -10,11 +10,11 @@ use Rattle.plain.specs.Search.{Edge}
 use Rattle.plain.specs.Table.{Table, withMark, acceptingCount}
 use Rattle.plain.specs.Refusals.{Trial, accepted, refused, flat, Load, loadTrial}
 use Rattle.plain.specs.Machine.{Change, add, cut, mark, unmark, BatchLine, makes, other, single, batch, Command, update, setKinds, Call, numbered, inKind, tableOf, loadAnswer, answerTo, tableAfter, Line, gameLine, noLine, answerLine}
-use Rattle.plain.specs.Questions.{Question, ways, replyTo, replyLine}
+use Rattle.plain.specs.Questions.{Question, ways, short, replyTo, replyLine}
 use Rattle.line.specs.Fields.{newline, linesOf}
 use Rattle.line.specs.Words.{isWord}
 use Rattle.line.specs.Records.{recordOf}
-use Rattle.line.specs.declared.Word.the-variants.{Game, Pay, Move, Go, Add, Cut, Mark, Unmark, Begin, End, Ways, Kinds}
+use Rattle.line.specs.declared.Word.the-variants.{Game, Pay, Move, Go, Add, Cut, Mark, Unmark, Begin, End, Ways, Kinds, Short}
 use Rattle.line.specs.declared.Record.{Record}
 use Rattle.answer.specs.Bytes.{overwritten}
 use Rattle.answer.specs.Rendering.{render}
@@ -145,7 +145,7 @@ pub data Request : Type 0 where
   unknown : Request
 
 -- ".. then `add` and `cut`", "(from, to)"; document 02, ticket 2: "Lines `mark` and `unmark` name a state", by ticket 9 with a kind; ticket 5: `begin` and `end`; ticket 8:
--- "A line `ways` with a state"; ticket 10: "The line `kinds` is .. taken after `go` as well."
+-- "A line `ways` with a state"; ticket 10: "The line `kinds` is .. taken after `go` as well."; ticket 11: "A line `short` with a budget B"
 unfoldable pub requestOf : Record → Request
 requestOf r =
     cond (isWord (r .word) Add) (changing (add (r .first, r .second)))
@@ -156,7 +156,8 @@ requestOf r =
     (cond (isWord (r .word) End) ending
     (cond (isWord (r .word) Kinds) (settingKinds (r .first))
     (cond (isWord (r .word) Ways) (questioning (ways (r .first)))
-    unknown)))))))
+    (cond (isWord (r .word) Short) (questioning (short (r .first)))
+    unknown))))))))
 
 -- "after `go` the next line is read": an `end` outside a batch is misplaced
 abbrev pub playStep : Request → Play → Step

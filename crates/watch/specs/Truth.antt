@@ -1,22 +1,24 @@
 -- Demand 2 for texts: what is printed is true of the table that is then present. proofs/Truth.antt proves it. Assumes nothing.
 use mathlib.Core.Logic.{_≢_}
 use mathlib.Core.List.{List, [], _∷_}
-use Rattle.plain.specs.Machine.{Line, gameLine, roundLine, noneLine, noLine, waysLine}
+use Rattle.plain.specs.Machine.{Line, gameLine, roundLine, noneLine, noLine, waysLine, shortLine, noRoundLine}
 use Rattle.plain.specs.Claims.{LineTrue, NotNone, LoopTold}
 use Rattle.line.specs.declared.Record.{Record}
 use Rattle.watch.specs.Text.{Held, waiting, opened, gathering, playing, batching, ended, step}
 
--- a line that tells no verdict and no count of moves; of a `no` line: "refusal 7 no longer occurs" (document 02, ticket 1)
+-- a line that tells no verdict, no count of moves and no length; of a `no` line: "refusal 7 no longer occurs" (document 02, ticket 1)
 abbrev pub Verdictless : Line → Type 0
 Verdictless (gameLine size moves paying) = Unit {0}
 Verdictless (roundLine spent kept stem cycle walk) = ⊥
 Verdictless (noneLine spent kept) = ⊥
 Verdictless (noLine r) = r .number ≢ 7
 Verdictless (waysLine s leaving entering) = ⊥
+Verdictless (shortLine best least) = ⊥
+Verdictless noRoundLine = ⊥
 
 -- A line written is true of what is held behind its record: ""None" exactly when no free round can be reached from the start state; otherwise a walk that
--- the present table really has", of the lengths printed; and counts that "equal a count over the present moves" (document 02, ticket 8). Where no table is held, or a batch is open,
--- it tells neither.
+-- the present table really has", of the lengths printed; counts that "equal a count over the present moves" (document 02, ticket 8); and lengths of rounds that it has, or none
+-- where it has no round (ticket 11). Where no table is held, or a batch is open, it tells none of these.
 abbrev pub Says : Line → Held → Type 0
 Says l waiting = Verdictless l
 Says l (opened d) = Verdictless l

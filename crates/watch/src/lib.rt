@@ -153,6 +153,8 @@ fn put_reply(out: &mut [u8], reply: Reply) -> usize
             leaving,
             entering,
         } => answer::put_ways(out, 0, state, leaving, entering),
+        Reply::Shortest { best, least } => answer::put_short(out, 0, best, least),
+        Reply::NoRound => answer::put_no_round(out, 0),
     }
 }
 

@@ -8,11 +8,11 @@ use Rattle.shortest.proofs.find_roots.Statement.{statement}
 use Rattle.shortest.proofs.find_roots.Tie as tie
 
 abbrev Inv-loop : tie.InvT-loop
-Inv-loop targets starts words size start queue roots₀ seen unused count₀ s₀ roots count s =
+Inv-loop targets starts words size start queue roots₀ reached unused count₀ s₀ roots count s =
     (length roots ≡ 512) × (s ≤ size) × FiledAll targets starts words size start roots count s
 
 abbrev μ-loop : tie.MeasureT-loop
-μ-loop targets starts words size start queue roots₀ seen unused count₀ s₀ roots count s = size - s
+μ-loop targets starts words size start queue roots₀ reached unused count₀ s₀ roots count s = size - s
 
 search-requires : tie.Need-search-requires Inv-loop μ-loop
 search-requires c κs = let a = c .before .before .before in (a .pre .0, a .pre .1, refl)
