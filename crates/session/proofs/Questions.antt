@@ -1,5 +1,5 @@
 -- A question on a session: what is read off its arrays is the reply of the table that it holds. Assumes nothing.
-use mathlib.Core.Path.{_≡_, refl, ap, subst⁻¹, _∙_}
+use mathlib.Core.Path.{_≡_, refl, ap, subst⁻¹, transport, _∙_}
 use mathlib.Core.Bool.{Bool, true, false}
 use mathlib.Core.List.{List}
 use Prim.Native.Nat.{ℕ, _-_, _≤_}
@@ -36,19 +36,21 @@ numberOf (short n) = n
 
 module _ (s : Session) (topic : Topic) (n : ℕ) (r : Reply) where
   pub asked-ways : topic ≡ Ways → r ≡ waysIn n (s .size) (s .starts) (s .indegree) → Replies (topicOf topic n) s r
+  unfolding isShort numberOf
   asked-ways e z = subst⁻¹ (λ (x : Topic). Replies (topicOf x n) s r) e (record {
     replies = λ t h. z ∙ ap (λ (size : ℕ). waysIn n size (s .starts) (s .indegree)) (h .size-is) ∙ ways-same t (arraysHeld s) (h .arises) (h .stored) n;
     outside = λ state f out. z ∙ ap (λ (m : ℕ). waysIn m (s .size) (s .starts) (s .indegree)) (ap numberOf f) ∙ ways-outside state (s .size) (s .starts) (s .indegree) out;
-    several-kinds = λ b f k. absurd (contra refl (ap isShort f));
-    no-game = λ b f k empty. absurd (contra refl (ap isShort f));
+    several-kinds = λ b f k. absurd (contra (ap isShort f) refl);
+    no-game = λ b f k empty. absurd (contra (ap isShort f) refl);
   })
 
   pub asked-short : (present : ℕ) → present ≡ s .length - s .stem → topic ≡ Short
       → ShortIn n (s .size) (s .kinds) (s .start) present (s .targets) (s .starts) (s .words) r → Replies (topicOf topic n) s r
+  unfolding isShort
   asked-short present p e z = subst⁻¹ (λ (x : Topic). Replies (topicOf x n) s r) e (record {
     replies = λ t h. short-same t (arraysHeld s) (h .arises) (h .stored) n present r (round-held (s .stem) (s .length) present (s .walk) p (verdict (final t)) (h .told))
         (transport (λ i. ShortIn n (h .size-is i) (h .kinds-is i) (h .start-is i) present (s .targets) (s .starts) (s .words) r) z);
-    outside = λ state f out. absurd (contra (ap isShort f) refl);
+    outside = λ state f out. absurd (contra refl (ap isShort f));
     several-kinds = λ b f k. z .several-kinds k;
     no-game = λ b f k empty. z .no-game k empty;
   })
