@@ -108,8 +108,8 @@ askedOpened l r = cond (isWord (r .word) Kinds)
     (askedBefore l r)
 
 -- a question about a topic, with the number that goes with it
-abbrev pub asking : Topic → ℕ → Request
-asking topic n = R.Question (record { topic = topic; number = n })
+abbrev pub about : Topic → ℕ → Request
+about topic n = R.Question (record { topic = topic; number = n })
 
 -- ".. then `add` and `cut`"; ticket 2: "Lines `mark` and `unmark` name a state"; ticket 5: `begin` and `end`; ticket 8: `ways`; ticket 10: `kinds`, "after `go` as well"; ticket 11: `short`.
 -- Any other word is misplaced.
@@ -121,8 +121,8 @@ requestBy Word.Unmark first second = R.Change (Unmark first second)
 requestBy Word.Begin first second = R.Begin
 requestBy Word.End first second = R.End
 requestBy Word.Kinds first second = R.Kinds first
-requestBy Word.Ways first second = asking Ways first
-requestBy Word.Short first second = asking Short first
+requestBy Word.Ways first second = about Ways first
+requestBy Word.Short first second = about Short first
 requestBy Word.Game first second = R.Unknown
 requestBy Word.Pay first second = R.Unknown
 requestBy Word.Move first second = R.Unknown

@@ -13,7 +13,7 @@ use table::Position;
 use table::Refusal;
 ghost use mathlib.Core.Path.{_≡_};
 ghost use Rattle.line.specs.Records.{recordOf};
-ghost use Rattle.lead.specs.Asked.{firstLead, staged as Asked·staged, noTask, refusing as Asked·refusing, changing as Asked·changing, settingKinds, questioning as Asked·questioning, batching as Asked·batching, holding as Asked·holding, isFull, askedFirst, askedMove, askedBefore, askedOpened, asking as Asked·asking, requestOf, askedAfter, askedInside, asked, takesPay, filedPay, takesMove, filedMove, takesLine, lineRead, filedLine, filed, isOver};
+ghost use Rattle.lead.specs.Asked.{firstLead, staged as Asked·staged, noTask, refusing as Asked·refusing, changing as Asked·changing, settingKinds, questioning as Asked·questioning, batching as Asked·batching, holding as Asked·holding, isFull, askedFirst, askedMove, askedBefore, askedOpened, about as Asked·about, requestOf, askedAfter, askedInside, asked, takesPay, filedPay, takesMove, filedMove, takesLine, lineRead, filedLine, filed, isOver};
 
 // How far the lead has come: no line yet, straight behind `game`, before `go`, after it, inside a batch, or past a refusal that ends the run.
 pub enum Stage {
@@ -230,8 +230,8 @@ fn questioning(lead: Lead, question: Question) -> Plan
 }
 
 // A question about a topic, with the number that goes with it.
-fn asking(topic: Topic, number: u16) -> Request
-    ensures { λ q. ⌜ q ≡ Asked·asking topic number ⌝ }
+fn about(topic: Topic, number: u16) -> Request
+    ensures { λ q. ⌜ q ≡ Asked·about topic number ⌝ }
 {
     Request::Question(Question { topic, number })
 }
@@ -257,8 +257,8 @@ fn request_of(r: Record) -> Request
         Word::Begin => Request::Begin,
         Word::End => Request::End,
         Word::Kinds => Request::Kinds(from),
-        Word::Ways => asking(Topic::Ways, from),
-        Word::Short => asking(Topic::Short, from),
+        Word::Ways => about(Topic::Ways, from),
+        Word::Short => about(Topic::Short, from),
         Word::Game => Request::Unknown,
         Word::Pay => Request::Unknown,
         Word::Move => Request::Unknown,
