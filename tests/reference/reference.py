@@ -415,11 +415,14 @@ class Table:
         run = self._search()
         if not run.found:
             return ("none",)
+        least, found = shortest_round(*self.searched_for_rounds(), budget)
+        return ("short", least if found else len(run.round), least)
+
+    def searched_for_rounds(self):
+        """The targets of each state's moves, and the reachable paying states."""
         targets = targets_of(self.size, self.moves)
         reached = reached_from(self.start, targets)
-        paying = [s for s in range(self.size) if self.pays[s] and s in reached]
-        least, found = shortest_round(targets, paying, budget)
-        return ("short", least if found else len(run.round), least)
+        return targets, [s for s in range(self.size) if self.pays[s] and s in reached]
 
     @property
     def pays(self):
@@ -4048,14 +4051,21 @@ def check_short(table, budgets=None):
         assert said == [within(budget, len(run.round), bill.ends, bill.found) for budget in asked], (before, said, bill)
         assert all(best >= least for _, best, least in said)
         assert all(now[1] <= earlier[1] and now[2] >= earlier[2] for earlier, now in zip(said, said[1:]))
+        borders = [budget for budget, earlier, now in zip(asked[1:], said, said[1:]) if now != earlier]
+        assert budgets or borders_of(table) == borders
     assert table.run is run and held(table) == before
     return bill
 
 
 def short_load(rng, table, most):
-    """A game in which the walk's round is often longer than the shortest: each state's oldest move leads on along a ring, others
-    back. Some states are bare, some are not led to."""
-    size = rng.randint(2, most)
+    size, *game = short_game(rng, rng.randint(2, most))
+    return table.load(*load_args(size, *game), size)
+
+
+def short_game(rng, size):
+    """A game of so many states, with its start, the paying states and the moves, in which the walk's round is often longer than
+    the shortest: there is a ring, whose moves are older than others among its states, or not. Some states are bare, some are
+    not led to."""
     order = rng.sample(range(size), size)
     ring = order[:rng.randint(1, size)]
     moves = dict.fromkeys(zip(ring, ring[1:] + ring[:1]))
@@ -4066,8 +4076,23 @@ def short_load(rng, table, most):
     moves = list(moves)
     if rng.random() < 0.5:
         rng.shuffle(moves)
-    pay = {rng.choice(ring), *rng.choices(order, k=rng.choice((0, 1, 2, size)))}
-    return table.load(*load_args(size, ring[0], sorted(pay), moves), size)
+    return size, ring[0], sorted({rng.choice(ring), *rng.choices(order, k=rng.choice((0, 1, 2, size)))}), moves
+
+
+def borders_of(table):
+    """The budgets that are answered otherwise than those of one look fewer: at the end of each length that is ruled out, and where
+    a round is found that is shorter than the walk's."""
+    borders, looks = [], 0
+    if table.kinds > 1 or not table.run.found:
+        return borders
+    targets, paying = table.searched_for_rounds()
+    for length in itertools.count(1):
+        for comes_back in (back for state in paying for back in looks_around(targets, state, length)):
+            looks += 1
+            if looks > MOST_BUDGET or comes_back:
+                shorter = looks <= MOST_BUDGET and length < len(table.run.round)
+                return borders + [looks] if shorter else borders
+        borders.append(looks)
 
 
 def short_sorts(table, bill):
