@@ -323,7 +323,7 @@ class Table:
 
     def __init__(self):
         self.loaded = False
-        self.run = None       # the last run, for tests only
+        self.run = None       # the last run: that on the table as it is
 
     def load(self, size, start, kinds, words, numbers, room):
         """words: eight for each of four kinds, those of kind 1 first."""
@@ -412,11 +412,10 @@ class Table:
         self._need_session()
         if self.kinds > 1:
             return ("no", 17)
-        run = self._search()
-        if not run.found:
+        if not self.run.found:
             return ("none",)
         least, found = shortest_round(*self.searched_for_rounds(), budget)
-        return ("short", least if found else len(run.round), least)
+        return ("short", least if found else len(self.run.round), least)
 
     def searched_for_rounds(self):
         """The targets of each state's moves, and the reachable paying states."""
@@ -4093,6 +4092,26 @@ def borders_of(table):
                 shorter = looks <= MOST_BUDGET and length < len(table.run.round)
                 return borders + [looks] if shorter else borders
         borders.append(looks)
+
+
+def some_budgets(rng, table, *counts):
+    """So many, one of these counts, of such as make a difference or are beside them, 0, the most, and any."""
+    count = rng.choice(counts)
+    borders = count and borders_of(table) or [rng.randrange(20)]
+    for _ in range(count):
+        near = max(0, rng.choice(borders) + rng.choice((-1, -1, 0, 0, 1)))
+        yield min(MOST_BUDGET, rng.choice((near, near, near, near, 0, MOST_BUDGET, rng.randrange(40))))
+
+
+def long_ring(rng, size, count):
+    """The states in a hidden order, and so many moves that lead on in it to one of the next few, round and round: every round is
+    long."""
+    order = rng.sample(range(size), size)
+    moves = dict.fromkeys(zip(order, order[1:] + order[:1]))
+    while len(moves) < count:
+        at = rng.randrange(size)
+        moves[order[at], order[(at + rng.randint(2, 7)) % size]] = None
+    return order, rng.sample(list(moves), len(moves))
 
 
 def short_sorts(table, bill):

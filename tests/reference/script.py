@@ -20,8 +20,8 @@ from collections import Counter, namedtuple
 import reference
 from batches import KIND_NUMBERS, LENGTHS, NUMBERS, some_lines
 from reference import (MOST_BUDGET, MOST_KINDS, MOST_MOVES, MOST_STATES, MOVE_WORDS, Table, borders_of, called, carried, flat,
-                       given_marks, in_full, is_question, load_args, not_come_to, of_kinds, pairs, random_carried, random_kind,
-                       short_game, states_of, too_many)
+                       given_marks, in_full, is_question, load_args, long_ring, not_come_to, of_kinds, pairs, random_carried,
+                       random_kind, short_game, some_budgets, states_of, too_many)
 
 LENT = 600
 BLOCK = 65536                                   # bytes of a block, padded with zeros, but for the last
@@ -1288,16 +1288,11 @@ def make_short(s, rng, limit):
 
 
 def hidden_ring(s, rng, paying):
-    """As many states and moves as there may be. The moves lead on along a ring in a hidden order, to one of the next few states,
-    so that no budget goes so far as to find a round; then some lead back from a paying state. So many states pay."""
+    """As many states and moves as there may be, and so many of the states pay. No budget goes so far as to find a round; then some
+    moves lead back from a paying state."""
     size = MOST_STATES
-    order = rng.sample(range(size), size)
-    moves = dict.fromkeys(zip(order, order[1:] + order[:1]))
-    while len(moves) < MOST_MOVES:
-        at = rng.randrange(size)
-        moves[order[at], order[(at + rng.randint(2, 7)) % size]] = None
+    order, moves = long_ring(rng, size, MOST_MOVES)
     pay = sorted(rng.sample(order, paying))
-    moves = rng.sample(list(moves), len(moves))
     s.load(size, order[0], pay, flat(moves), want="round")
     at_borders(s, rng, 6)
     _, best, least = s.table.short(MOST_BUDGET)
@@ -1320,11 +1315,8 @@ def at_borders(s, rng, most):
 
 
 def some_short(s, rng):
-    """Questions between the calls of a random session: at a border, one look before it or behind, 0, the most, or any."""
-    borders = borders_of(s.table) or [rng.randrange(20)]
-    for _ in range(rng.choice((0, 1, 1, 2, 3))):
-        near = max(0, rng.choice(borders) + rng.choice((-1, -1, 0, 0, 1)))
-        s.short(rng.choice((near, near, near, near, 0, MOST_BUDGET, rng.randrange(40))))
+    """Questions between the calls of a random session."""
+    s.short(*some_budgets(rng, s.table, 0, 1, 1, 2, 3))
 
 
 def random_short(s, rng, limit):
