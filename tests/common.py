@@ -195,7 +195,7 @@ class Hall:
 REFUSED_LOADS = [as_lines(rows) for rows in (
     ["go"], ["game 2 2", "go"], ["game 2 0", "", "go"], ["game 2 0", "pay 512"], ["kinds 2"], ["game 2 0", "kinds 2", "kinds 2"],
     ["game 2 0", "kinds 65536"], ["game 2 0", "pay 0", "kinds 2"], ["game 2 0", "kinds 2", "pay 0 5"], ["game 2 0", "pay 0 2", "go"],
-    ["game 2 0", "kinds 5", "go"], ["game 257 0", "kinds 2", "go"])]
+    ["game 2 0", "kinds 5", "go"], ["game 257 0", "kinds 2", "go"], ["short 1"], ["game 2 0", "pay 0", "move 0 0", "short 1", "go"])]
 
 
 def ends_behind(program, what, text, wanted):

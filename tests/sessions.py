@@ -19,10 +19,11 @@ import sys
 import common
 from common import ROOT, STORED, as_lines, difference, fail, game_a
 from batches import KIND_NUMBERS, LENGTHS, NUMBERS, some_lines
-from reference import (BATCH_GAMES, CHANGES, FIELDS, GAMES, INSIDE, KIND_GAMES, MARK_GAMES, MOST_KINDS, MOST_MOVES, MOST_STATES,
-                       MOVE_WORDS, OUTSIDE, OVER_GAMES, SELF_GAMES, UNREACHED_GAMES, WAYS_GAMES, WITH_KIND, Table, answer_text,
-                       bench_answer, called, carried, carried_by, change_lines, game_rows, given_marks, in_full, load_args,
-                       load_lines, made, of_kinds, plain_search, random_kind, read_line, records, rows_of, states_of, too_many,
+from reference import (BATCH_GAMES, CHANGES, FIELDS, GAMES, INSIDE, KIND_GAMES, MARK_GAMES, MOST_BUDGET, MOST_KINDS, MOST_MOVES,
+                       MOST_STATES, MOVE_WORDS, OUTSIDE, OVER_GAMES, SELF_GAMES, SHORT_GAMES, UNREACHED_GAMES,
+                       WAYS_GAMES, WITH_KIND, Table, answer_text, bench_answer, called, carried, carried_by, change_lines,
+                       game_rows, given_marks, in_full, is_question, load_args, load_lines, long_ring, made, of_kinds,
+                       plain_search, random_kind, read_line, records, rows_of, short_game, some_budgets, states_of, too_many,
                        up_to_go)
 
 
@@ -202,7 +203,7 @@ def hostile_lines():
     lines += [one for line in right for one in distorted(line)]
     lines += [b"x" * length for length in (31, 32, 33, 64, 1000)]
     # Last, so that what was drawn from the others stays as it was.
-    lines += [*distorted(b"ways\t0"), b"way\t0", b"wayss\t0", b"ways0", b"ways\tways", b"short\t1", b"all", b"sheet"]
+    lines += [*distorted(b"ways\t0"), b"way\t0", b"wayss\t0", b"ways0", b"ways\tways", b"short", b"all", b"sheet"]
     return list(dict.fromkeys(lines))
 
 
@@ -213,6 +214,12 @@ def kind_lines():
     lines += [word + b"\t" + one for word in sorted(WITH_KIND) for one in named]
     lines += [b"kind\t2", b"kindss\t2", b"kinds2", b"kinds\tkinds", b"kinds\t1", b"kinds\t3", b"kinds\t4", b"kinds\t5",
               b"add\t0\t1\t2", b"cut\t0\t1\t2", b"move\t0\t1\t2", b"ways\t0\t2"]
+    return list(dict.fromkeys(lines))
+
+
+def short_lines():
+    """And about the shortest round."""
+    lines = [*distorted(b"short\t1"), b"shor\t1", b"shorts\t1", b"short1", b"short\tshort", b"short\t65534", b"shortest\t1"]
     return list(dict.fromkeys(lines))
 
 
@@ -232,12 +239,17 @@ TWO_KINDS = b"game\t2\t0\nkinds\t2\n"
 KIND_STAGES = [b"game\t2\t0\n", TWO_KINDS, TWO_KINDS + b"pay\t1\t2\n", TWO_KINDS + b"pay\t1\t2\nmove\t1\t0\n",
                TWO_KINDS + b"pay\t1\t2\nmove\t1\t0\ngo\n", TWO_KINDS + b"pay\t1\t2\nmove\t1\t0\ngo\nbegin\nadd\t0\t0\n"]
 KIND_ENDING = b"ways\t0\nadd\t0\t1\nmark\t0\nmark\t0\t2\nunmark\t1\t2\nunmark\t1\ncut\t0\t1"
+SHORT_HOSTILE = short_lines()
+NO_SHORT = [line for line in SHORT_HOSTILE if read_line(line, OUTSIDE) is None]
+SHORT_STAGES = [stage.replace(b"move\t1\t0\n", b"move\t1\t0\nmove\t0\t1\n") for stage in STAGES]        # with a round
+SHORT_ENDING = b"short\t0\nshort\t1\nadd\t0\t0\nmark\t0\nshort\t1\nshort\t2\nkinds\t2\nshort\t2\nkinds\t1\nshort\t65535\ncut\t0\t1"
 
 
 def staged(places=len(STAGES)):
     """Each hostile line at each of the first places of a small session, with lines behind it that show what became of it; and
-    those about kinds in one with two of them."""
-    sorts = ((HOSTILE + [b"x" * 70000, b"add\t0\t1\n" * 9000], STAGES, ENDING), (KIND_HOSTILE, KIND_STAGES, KIND_ENDING))
+    those about kinds in one with two of them; and those about the shortest round in one that has one, and with two kinds."""
+    sorts = ((HOSTILE + [b"x" * 70000, b"add\t0\t1\n" * 9000], STAGES, ENDING), (KIND_HOSTILE, KIND_STAGES, KIND_ENDING),
+             (SHORT_HOSTILE, SHORT_STAGES, SHORT_ENDING), (SHORT_HOSTILE, KIND_STAGES, KIND_ENDING))
     for lines, stages, ending in sorts:
         for line in lines:
             for before, behind in list(zip(stages, BEHIND))[:places]:
@@ -407,7 +419,8 @@ class Beside:
 
     def send(self, *call):
         self.text.rows += rows_of(call)
-        made(self.table, call, MOST_STATES)
+        if not is_question(call):              # it changes nothing
+            made(self.table, call, MOST_STATES)
         if call[0] in ("add", "cut", "mark", "unmark", "batch"):
             lines = call[1] if call[0] == "batch" else [call]
             self.named = [state for line in lines if isinstance(line, tuple) for state in states_of(*line)]
@@ -427,6 +440,11 @@ class Beside:
         else:
             state = rng.choice((size, size + 1, 511, 512, 65535))
         self.send("ways", state)
+
+    def ask_short(self, rng, *counts):
+        """So many questions about the shortest round, one of these counts of them."""
+        for budget in some_budgets(rng, self.table, *counts):
+            self.send("short", budget)
 
 
 def with_moves(text, more, count):
@@ -695,11 +713,15 @@ def over_game(rng, size, left_out):
     return Text(size, text.start, text.pays, list(text.moves)) if left_out else text
 
 
-def over_batch(rng, session):
-    """A batch with the line for another K somewhere in it, where it is no change."""
+def batch_with(rng, session, row, *numbers):
+    """A batch with this row somewhere in it, with a number from one to another, where it is no change."""
     lines = batch_of(rng, session.table)
-    lines.insert(rng.randint(0, len(lines)), "kinds %d" % rng.randint(0, MOST_KINDS + 1))
+    lines.insert(rng.randint(0, len(lines)), row % rng.randint(*numbers))
     session.send("batch", lines)
+
+
+def over_batch(rng, session):
+    batch_with(rng, session, "kinds %d", 0, MOST_KINDS + 1)
 
 
 def other_kinds(rng, session, among=(1, 2, 3, 4) * 4 + (0, 5, 65535)):
@@ -725,10 +747,69 @@ def over(rng, size=None, count=None, left_out=False):
     return text[:-1] if rng.random() < 0.2 else text + (unended(rng, session.table) if rng.random() < 0.1 else b"")
 
 
+# ------------------------------------------------- the shortest round
+
+def shortest_game(rng, size):
+    """A game whose walk often goes a longer way than it need; or, of the larger ones, one whose rounds are all long, some of them
+    with four moves a state, and some in which all states pay."""
+    if size < 13 or rng.random() < 0.3:
+        return Text(*short_game(rng, size))
+    order, moves = long_ring(rng, size, rng.choice((2, 4)) * size)
+    return Text(size, order[0], sorted(rng.sample(order, rng.choice((1, 3, size // 4, size)))), moves)
+
+
+def repaid(rng, session):
+    """A state that can be reached comes to pay, or a move leads back to one that does."""
+    table = session.table
+    met = list(table.run.met_after)
+    paying = [s for s in met if table.pays[s]]
+    move = rng.choice(met), rng.choice(paying or met)
+    if paying and move not in table.moves:
+        session.send("add", *move)
+    else:
+        kind_turned(rng, session)
+
+
+def shorter(rng, session):
+    """A move comes or goes that leads from a state of the round to another of it, seldom to itself."""
+    states = session.table.run.round
+    move = tuple(rng.sample(states, 2)) if len(states) > 1 and rng.random() < 0.9 else (states[0], states[0])
+    session.send("cut" if move in session.table.moves else "add", *move)
+
+
+def shortest(rng, size=None, count=None):
+    """Questions about the shortest round between changes, batches, refused lines and unreadable ones. Some sessions have several
+    kinds for a while. Some end without their last newline, or inside a batch."""
+    ranges = (1, 1), (2, 2), (3, 5), (3, 8), (3, 8), (6, 12), (6, 12), (9, 24), (13, 64), rng.choice(((65, 511), (512, 512)))
+    session = Beside(shortest_game(rng, size or rng.randint(*rng.choice(ranges))))
+    for _ in range(count or rng.randint(6, 20)):
+        session.ask_short(rng, 0, 1, 1, 2, 4)
+        dice, table = rng.random(), session.table
+        if dice < 0.04:
+            session.send("line", rng.choice(NO_SHORT))
+        elif dice < 0.07:
+            batch_with(rng, session, "short %d", 0, MOST_BUDGET)
+        elif dice < 0.17:
+            session.send("batch", batch_of(rng, table))
+        elif dice < 0.21:
+            session.send("kinds", rng.randint(0, MOST_KINDS))
+        elif table.kinds > 1 and dice < 0.5:
+            session.send("kinds", 1)
+        elif not table.run.found and dice < 0.85:
+            repaid(rng, session)
+        elif table.run.found and dice < 0.6:
+            shorter(rng, session)
+        else:
+            rng.choice((on_walk, kind_turned, line_alone, line_alone))(rng, session)
+    session.ask_short(rng, 3)
+    text = session.text.data()
+    return text[:-1] if rng.random() < 0.2 else text + (unended(rng, session.table) if rng.random() < 0.1 else b"")
+
+
 def twins(rng):
     """A random text with one kind at first and no line for it; the same with `kinds 1` behind `game`; and this with kind 1 written
     where it is left out. All three are answered alike."""
-    makers = small, small, mid, stems, batches, questions, refused, many, functools.partial(over, left_out=True)
+    makers = small, small, mid, stems, batches, questions, refused, many, shortest, functools.partial(over, left_out=True)
     first, *rest = lines = common.lines_of(rng.choice(makers)(rng))
     written = [first, b"kinds\t1\n"]
     return [b"".join(rows) for rows in (lines, written + rest, written + [with_kind(line) for line in rest])]
@@ -753,7 +834,7 @@ def hostile(rng):
     go = lines.index(b"go\n")
     first = 0 if rng.random() < 0.3 else go + 1
     for _ in range(rng.randint(1, 12)):
-        lines.insert(rng.randint(min(first, len(lines)), len(lines)), rng.choice(HOSTILE) + b"\n")
+        lines.insert(rng.randint(min(first, len(lines)), len(lines)), rng.choice(HOSTILE + SHORT_HOSTILE) + b"\n")
     return b"".join(lines)
 
 
@@ -779,13 +860,14 @@ def refused(rng):
         elif moves:
             moves.insert(at, rng.choice(moves))
     text = Text(size, start, pays)
-    text.rows[-1:] = ["move %d %d" % m for m in moves] + ["go", "add 0 1", "mark 0", "ways 0", "add 1 0", "add 0 0", "ways 0"]
+    text.rows[-1:] = ["move %d %d" % m for m in moves]
+    text.rows += ["go", "add 0 1", "mark 0", "ways 0", "add 1 0", "add 0 0", "ways 0", "short 9"]
     return text.data()
 
 
 def ended(rng):
     """A session that ends anywhere: before `go`, within a line, without the last newline."""
-    text = rng.choice((small, hostile, refused, batches, questions, kinds, over))(rng)
+    text = rng.choice((small, hostile, refused, batches, questions, kinds, over, shortest))(rng)
     return text[:rng.randrange(len(text))]
 
 
@@ -810,7 +892,7 @@ def many(rng):
 
 
 KINDS = {make.__name__: make for make in (small, mid, full, chain, stems, batches, questions, hostile, refused, ended, many,
-                                          kinds, over)}
+                                          kinds, over, shortest)}
 
 
 def session(seed, kind):
@@ -1032,6 +1114,19 @@ def stored_over():
         yield "over-random-%d" % size, over(random.Random(seed), size, count)
 
 
+def stored_short():
+    """The same of those with questions about the shortest round."""
+    for game in SHORT_GAMES:
+        yield game[0], known(game)
+    for at in range(BEFORE_GO):
+        yield "short-before-go-%d" % at, STAGES[at] + b"short\t0\ngo\n"
+    yield "short-hostile-lines", SHORT_STAGES[4] + as_bytes(SHORT_HOSTILE) + SHORT_ENDING
+    in_batches = as_bytes(row for line in SHORT_HOSTILE for row in ("begin", line, "end"))
+    yield "short-hostile-batches", SHORT_STAGES[4] + in_batches + SHORT_ENDING
+    for size, count, seed in ((3, 40, 33), (5, 40, 135), (8, 40, 140), (40, 24, 105), (200, 12, 57)):
+        yield "short-random-%d" % size, shortest(random.Random(seed), size, count)
+
+
 def stored_edges():
     """The same at the limits of states, moves and marks, and with loads that are refused."""
     yield "states-512", as_lines(["game 512 0", "pay 511", "move 0 511", "go", "add 511 0", "add 512 0", "cut 511 0"])
@@ -1079,6 +1174,7 @@ def stored():
     yield from stored_questions()
     yield from stored_kinds()
     yield from stored_over()
+    yield from stored_short()
     yield from stored_edges()
     yield "random-small", session(752, "small")
     yield "random-mid", session(668, "mid")
@@ -1091,21 +1187,23 @@ def stored():
 
 SEPARATOR = b"\x1e"                            # parts the texts that crates/texts is run on
 BLOCK = 65536                                  # bytes that it reads at a time, and answers before the next
-# Five blocks are enough. What moves-2048 asks is asked in self-move-2048 and in batch-full too. same-move-2049 is a shorter text
+# Six blocks are enough. What moves-2048 asks is asked in self-move-2048 and in batch-full too. same-move-2049 is a shorter text
 # for what moves-2049, self-move-2049 and kinds-line-2049 ask. random-stems asks on a walk of 6 states what random-stems-512 asks
 # on one of 487, and random-batches on 8 states what random-batches-512 asks. kinds-moves-513 is a shorter text for what
 # kinds-moves-683 and kinds-moves-1025 ask, kinds-full-4 for what kinds-full-2 asks, over-moves-4 for what over-moves-2 and
 # over-moves-3 ask; and the games kinds-full and kinds-walk stand for the texts at the limits of each K, over-moves and over-walk
-# for those that go over to it there.
+# for those that go over to it there. short-ring-362 asks what short-ring-363 asks.
 TOO_LONG = {"random-full", "random-chain", "moves-2048", "moves-2049", "self-move-2049", "random-stems-512", "random-batches-512",
             "kinds-line-2049", "kinds-moves-683", "kinds-moves-1025", "kinds-full-2", *(name for name, _ in kind_limits()),
-            "over-moves-2", "over-moves-3", *(name for name, _ in over_limits())}
+            "over-moves-2", "over-moves-3", *(name for name, _ in over_limits()), "short-ring-363"}
 SECOND = {"random-mid-changes", "self-moves-512", "marks-all-of-512", "random-batches"}
 THIRD = {"batch-hostile-lines", "random-questions"}
 
 
 def block_of(name):
     """The place of the block that a text stands in."""
+    if name.startswith("short-"):
+        return 5
     if name.startswith("over-"):
         return 4
     if name.startswith("kinds-"):
@@ -1117,7 +1215,7 @@ def block_of(name):
 
 def blocks():
     """The texts of each block. One that is no line to read fills up each but the last."""
-    parted = [[text for name, text in stored() if name not in TOO_LONG and block_of(name) == at] for at in range(5)]
+    parted = [[text for name, text in stored() if name not in TOO_LONG and block_of(name) == at] for at in range(6)]
     left = [BLOCK - len(SEPARATOR.join(texts + [b""])) for texts in parted]
     if min(left) <= 32:
         fail("the texts do not fit into their blocks")

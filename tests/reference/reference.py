@@ -8,7 +8,8 @@ pay is turned on and off by `mark` and `unmark`. Where a move comes or goes, the
 search is also run on the table as it was: what that run had not come to keeps
 every look. A batch of changes is done as a whole, with one answer, or not at all.
 A question about a state counts, over the moves present, those that leave it and
-those that enter it, and changes nothing.
+those that enter it; another looks for the shortest round as far as a budget of
+looks goes. Both change nothing.
 
 With several kinds of pay in use, 1 to K, the search runs on K layers of the game.
 A move out of a state that carries its layer's kind lands in the next layer, and
@@ -34,6 +35,7 @@ MOST_STATES = 512
 MOST_MOVES = 2048
 MOST_CHANGES = 64      # in a batch
 MOST_KINDS = 4
+MOST_BUDGET = 65535
 WORDS = 8              # for the marks of each kind
 MOVE_WORDS = "add", "cut"      # of changes that name a move; the others name a state and a kind
 
@@ -55,12 +57,18 @@ class Run:
         self.layered = None   # of a run that is told in plain states: that on the layers
 
 
+def targets_of(size, moves):
+    """Of each state the targets of its moves, oldest first."""
+    targets = [[] for _ in range(size)]
+    for a, b in moves:
+        targets[a].append(b)
+    return targets
+
+
 def plain_search(size, start, pays, moves):
     """pays: a list of size truth values; moves: pairs, oldest first."""
     run = Run()
-    targets = [[] for _ in range(size)]       # of each state, oldest first
-    for a, b in moves:
-        targets[a].append(b)
+    targets = targets_of(size, moves)
     open_path = []
     is_open = [False] * size
     marked = [False] * size                   # inner marks; they stay
@@ -160,6 +168,48 @@ def keeps_all(run, word, *named):
     if word in MOVE_WORDS:
         return not_come_to(run, word, named)
     return named[0] not in run.met_after
+
+
+# ------------------------------------------------------- the shortest round
+
+def reached_from(start, targets):
+    """The states that a run of zero or more moves leads to. This is not counted."""
+    reached, left = {start}, [start]
+    while left:
+        new = set(targets[left.pop()]) - reached
+        reached |= new
+        left += new
+    return reached
+
+
+def looks_around(targets, state, length):
+    """A breadth-first search over the states fewer than so many moves away from this one, a state's moves oldest first. Of each
+    look, as it is taken, whether it comes back. What was seen before is looked at, and not searched again."""
+    seen, away = {state}, [state]
+    for _ in range(length):
+        further = []
+        for source in away:
+            for target in targets[source]:
+                yield target == state
+                if target not in seen:
+                    seen.add(target)
+                    further.append(target)
+        away = further
+
+
+def shortest_round(targets, paying, budget):
+    """Where there is a round: the smallest length that so many looks do not rule out, and whether one of that length is found.
+    paying: the reachable paying states in rising order. Each search begins anew. The stop is before the look that would be one
+    too many; what needs no look is done."""
+    looks = 0
+    for length in itertools.count(1):
+        for state in paying:
+            for comes_back in looks_around(targets, state, length):
+                if looks == budget:
+                    return length, False
+                looks += 1
+                if comes_back:
+                    return length, True
 
 
 # --------------------------------------------- the search on the examiner's desk
@@ -267,12 +317,13 @@ class Table:
 
     Answers: ("no", n), ("none", spent, kept)
     or ("round", spent, kept, stem, round); of a batch ("no", n, position) too;
-    of a question ("ways", state, leaving, entering) or ("no", 6).
+    of a question about a state ("ways", state, leaving, entering) or ("no", 6);
+    of one about the shortest round ("short", best, least), ("none",) or ("no", 17).
     """
 
     def __init__(self):
         self.loaded = False
-        self.run = None       # the last run, for tests only
+        self.run = None       # the last run: that on the table as it is
 
     def load(self, size, start, kinds, words, numbers, room):
         """words: eight for each of four kinds, those of kind 1 first."""
@@ -309,7 +360,7 @@ class Table:
         self._need_session()
         *named, room = numbers
         change = in_full(word, *named)
-        number = 1 if no_kind(*change) else self._refusal(*change) or self._short(room)
+        number = 1 if no_kind(*change) else self._refusal(*change) or self._room_refusal(room)
         if number:
             return ("no", number)
         spared = word in MOVE_WORDS and not_come_to(self._search(), word, change[1:])
@@ -320,7 +371,7 @@ class Table:
         """lines: changes, each a word and what it names, and None for a line that is no change.
         A refusal tells the position of its line too, from 1; that of the lent list, tried ahead of them, is 0."""
         self._need_session()
-        number = self._short(room)
+        number = self._room_refusal(room)
         if number:
             return ("no", number, 0)
         changes = [line and in_full(*line) for line in lines]
@@ -353,6 +404,24 @@ class Table:
         if state >= self.size:
             return ("no", 6)
         return ("ways", state, sum(a == state for a, _ in self.moves), sum(b == state for _, b in self.moves))
+
+    def short(self, budget):
+        """The length of the best round known and the smallest that is not ruled out, by so many looks; nothing changes, and these
+        looks are neither spent nor kept. Both are the shortest length if such a round is found, or else the first is that
+        of the present walk's round."""
+        self._need_session()
+        if self.kinds > 1:
+            return ("no", 17)
+        if not self.run.found:
+            return ("none",)
+        least, found = shortest_round(*self.searched_for_rounds(), budget)
+        return ("short", least if found else len(self.run.round), least)
+
+    def searched_for_rounds(self):
+        """The targets of each state's moves, and the reachable paying states."""
+        targets = targets_of(self.size, self.moves)
+        reached = reached_from(self.start, targets)
+        return targets, [s for s in range(self.size) if self.pays[s] and s in reached]
 
     @property
     def pays(self):
@@ -389,7 +458,7 @@ class Table:
             return 0 if move in self.moves else 10
         return 8 if move in self.moves else 9 if (len(self.moves) + 1) * self.kinds > MOST_MOVES else 0
 
-    def _short(self, room):
+    def _room_refusal(self, room):
         return too_short(room, self.size, self.kinds)
 
     def _need_session(self):
@@ -473,12 +542,13 @@ def words_of(*carriers):
 
 LONGEST_INPUT = 4294967295
 FIELDS = {b"game": [3], b"kinds": [2], b"pay": [2, 3], b"move": [3], b"go": [1], b"add": [3], b"cut": [3], b"mark": [2, 3],
-          b"unmark": [2, 3], b"begin": [1], b"end": [1], b"ways": [2]}       # how many there may be
+          b"unmark": [2, 3], b"begin": [1], b"end": [1], b"ways": [2], b"short": [2]}       # how many there may be
 BEHIND = {b"game": {b"kinds", b"pay", b"move", b"go"}, b"kinds": {b"pay", b"move", b"go"}, b"pay": {b"pay", b"move", b"go"},
           b"move": {b"move", b"go"}}           # the words that may follow, up to `go`
 CHANGES = {b"add", b"cut", b"mark", b"unmark"}
-OUTSIDE = CHANGES | {b"begin", b"kinds", b"ways"}      # behind `go`, outside a batch
-INSIDE = CHANGES | {b"end"}                    # inside one; `kinds` and `ways` are no changes
+QUESTIONS = {b"ways", b"short"}
+OUTSIDE = CHANGES | QUESTIONS | {b"begin", b"kinds"}   # behind `go`, outside a batch
+INSIDE = CHANGES | {b"end"}                    # inside one; `kinds` and the questions are no changes
 WITH_KIND = {b"pay", b"mark", b"unmark"}       # name a state and, if it is not left out, a kind
 
 
@@ -574,15 +644,19 @@ def change_lines(line, rest, table):
         batch = batch_lines(rest)
         if batch is not None:
             yield answer_line(table.batch(batch, MOST_STATES))
-    elif word == b"ways":
-        yield answer_line(table.ways(*args))
     else:
-        yield answer_line(called(table, word.decode(), *args, MOST_STATES))
+        lent = [] if word in QUESTIONS else [MOST_STATES]
+        yield answer_line(called(table, word.decode(), *args, *lent))
 
 
 def called(table, word, *args):
     """The call that a word stands for, made. What `kinds` names is held by the table, so its call has another name."""
     return getattr(table, "set_kinds" if word == "kinds" else word)(*args)
+
+
+def is_question(call):
+    """Whether this call, a word and what it names, is one. No list is lent for it."""
+    return call[0].encode() in QUESTIONS
 
 
 def batch_lines(lines):
@@ -2085,7 +2159,286 @@ OVER_GAMES = [
     *[over_states(kinds) for kinds in (2, 3, 4)],
 ]
 
-WORKED = SINGLES + BATCH_GAMES + WAYS_GAMES + KIND_GAMES + OVER_GAMES
+# The same for questions about the shortest round, worked by hand. Such a call has the budget: ("short", B, answer). The looks
+# stand in their order, with a bar where the search of the next paying state begins, a dash for one without moves and a
+# semicolon where the next length begins.
+def afforded(walk, ends, found=None):
+    """Questions about one table with their answers, at and beside each budget that makes a difference. walk: the length of the
+    present walk's round; ends: the looks up to the end of length 1, of length 2 and so on, of which there is no round; found:
+    the look that finds one of the next length, or None where no budget goes so far. Of many ends some are taken."""
+    borders = {0, *ends[:3], *ends[-1:], found or 0, MOST_BUDGET}
+    for budget in sorted({border + beside for border in borders for beside in (-1, 0, 1)}):
+        if 0 <= budget <= MOST_BUDGET:
+            yield "short", budget, within(budget, walk, ends, found)
+
+
+def within(budget, walk, ends, found):
+    """The answer for one of these budgets."""
+    if found is not None and budget >= found:
+        return "short", len(ends) + 1, len(ends) + 1
+    return "short", walk, 1 + sum(end <= budget for end in ends)
+
+
+def at_any_price(*answer):
+    """Questions that have this answer for every budget."""
+    return [("short", budget, answer) for budget in (0, 1, 2, 100, MOST_BUDGET)]
+
+
+def ring_ends(count):
+    """On a ring that has one paying state, length L takes L looks."""
+    return [length * (length + 1) // 2 for length in range(1, count + 1)]
+
+
+# A ring of 359 states, of which 0 pays, and another way from 0 to 1 by state 359. The walk goes that way, so that its round has
+# 360. Length 1 takes two looks, length L two more than on the ring; and one more where a state that has a move to itself is
+# fewer than L moves away.
+WAY_ROUND = [(0, 359), (359, 1)] + [(s, (s + 1) % 359) for s in range(359)]
+WAY_ROUND_WALK = [], [0, 359, *range(1, 359)]
+
+
+def way_round_ends(own):
+    """Where this state has the move to itself."""
+    return [end + 2 * length - 1 + max(0, length - own) for length, end in enumerate(ring_ends(358), 1)]
+
+
+# As many states and moves as there may be: each state leads to the next four, and all of them pay. For length 1 a search takes 4
+# looks, and for each length more it takes 16 more, at the moves of four states more.
+NEXT_FOUR = [(s, (s + far) % 512) for far in range(1, 5) for s in range(512)]
+
+
+BAD_SHORT = ("short", "short ", "short 65536", "short 99999", "short 100000", "short 01", "short 00", "short 1 2", "short 1 ",
+             "short  1", "short +1", "short -1", "short 1\r", "short 1\0", "short x", "short 1.0", " short 1", "\0short 1",
+             "short\v1", "Short 1", "SHORT 1", "shor 1", "shorts 1", "short1", "short" + " " * 30 + "1")   # cannot be read
+
+
+def turned_back(old, new):
+    """The last state's newest move is to lead here now."""
+    return "batch", [("cut", 511, old), ("add", 511, new)], ("round", 5, 511, [], list(range(512)))
+
+
+SHORT_GAMES = [
+    # Game A, with questions between its lines
+    ("short-a", 4, [2], [(0, 1), (1, 2)], ("none", 2, 0), [
+        *at_any_price("none"),
+        ("add", 2, 1, ("round", 2, 2, [0], [1, 2])),
+        ("short", 0, ("short", 2, 1)),
+        ("short", 1, ("short", 2, 2)),
+        *afforded(2, [1], 3),                                   # 2>1; 2>1 1>2
+        ("add", 2, 3, ("round", 3, 2, [0], [1, 2])),
+        ("short", 1, ("short", 2, 1)),
+        *afforded(2, [2], 5),                                   # 2>1 2>3; 2>1 2>3 1>2
+        ("cut", 1, 2, ("none", 0, 1)),
+        *at_any_price("none"),
+        ("cut", 1, 2, ("no", 10)),
+        ("short", 5, ("none",)),
+        ("add", 2, 0, ("none", 0, 1)),
+        *at_any_price("none"),
+    ]),
+    # a game's only state
+    ("short-alone", 1, [], [], ("none", 0, 0), [
+        *at_any_price("none"),
+        ("add", 0, 0, ("none", 1, 0)),
+        *at_any_price("none"),
+        ("mark", 0, ("round", 2, 0, [], [0])),
+        *at_any_price("short", 1, 1),                           # 0>0, found or not
+        ("cut", 0, 0, ("none", 0, 0)),
+        *at_any_price("none"),
+    ]),
+    # closed runs that pass no paying state, and such as nothing leads to
+    ("short-none", 5, [0, 3], F_MOVES + [(3, 4), (4, 3), (3, 3)], ("none", 6, 0), [
+        *at_any_price("none"),
+        ("add", 2, 2, ("none", 6, 2)),
+        *at_any_price("none"),
+        ("unmark", 0, ("none", 4, 0)),
+        *at_any_price("none"),
+        ("add", 2, 3, ("round", 8, 2, [0, 1, 2], [3, 4])),      # 0>1 1>2 2>1 2>2 2>3 3>4 4>3 3>3 | 3>4 4>3
+        *afforded(2, [], 2),                                    # 3>4 3>3
+    ]),
+    # moves from a state to itself: length 1, while the walk's round has two
+    ("short-self", 3, [0, 1], [(0, 1), (1, 2), (2, 1), (0, 0)], ("round", 5, 0, [0], [1, 2]), [
+        ("short", 1, ("short", 2, 1)),
+        ("short", 2, ("short", 1, 1)),
+        *afforded(2, [], 2),                                    # 0>1 0>0
+        ("cut", 0, 0, ("round", 0, 5, [0], [1, 2])),
+        *afforded(2, [2], 6),                                   # 0>1 | 1>2; 0>1 1>2 | 1>2 2>1
+        ("add", 1, 1, ("round", 5, 1, [0], [1, 2])),
+        *afforded(2, [], 3),                                    # 0>1 | 1>2 1>1
+        ("add", 0, 0, ("round", 0, 6, [0], [1, 2])),
+        *afforded(2, [], 2),                                    # 0>1 0>0
+        ("unmark", 0, ("round", 6, 0, [0], [1, 2])),
+        *afforded(2, [], 2),                                    # 1>2 1>1
+        ("cut", 1, 2, ("round", 2, 1, [0], [1])),
+        *at_any_price("short", 1, 1),                           # 1>1, as long as the walk's
+        ("unmark", 1, ("none", 2, 1)),
+        *at_any_price("none"),
+    ]),
+    # the walk's round is the shortest: found or not, it is the best known, and the second number tells what is ruled out
+    ("short-walk", 4, [0, 3], RING_4, ("round", 5, 0, [], [0, 1, 2, 3]), [
+        # 0>1 | 3>0; 0>1 1>2 | 3>0 0>1; 0>1 1>2 2>3 | 3>0 0>1 1>2; 0>1 1>2 2>3 3>0
+        *[("short", budget, ("short", 4, least)) for budget, least in ((0, 1), (1, 1), (2, 2), (5, 2), (6, 3), (11, 3), (12, 4),
+                                                                       (13, 4), (15, 4), (16, 4), (17, 4), (MOST_BUDGET, 4))],
+        *afforded(4, [2, 6, 12], 16),
+        ("unmark", 0, ("round", 5, 0, [], [0, 1, 2, 3])),
+        *afforded(4, [1, 3, 6], 10),                            # 3>0; 3>0 0>1; 3>0 0>1 1>2; 3>0 0>1 1>2 2>3
+    ]),
+    # rounds of the same length past several paying states, of which the run has met the first alone
+    ("short-ties", 5, [2, 3, 4], [(0, 1), (1, 2), (2, 0), (0, 3), (3, 0), (0, 4), (4, 0)], ("round", 4, 0, [], [0, 1, 2]), [
+        *afforded(3, [3], 10),                                  # 2>0 | 3>0 | 4>0; 2>0 0>1 0>3 0>4 | 3>0 0>1 0>3
+        ("cut", 0, 3, ("round", 0, 4, [], [0, 1, 2])),          # nothing leads to 3 now
+        *afforded(3, [2], 8),                                   # 2>0 | 4>0; 2>0 0>1 0>4 | 4>0 0>1 0>4
+        ("add", 0, 3, ("round", 0, 4, [], [0, 1, 2])),          # newest now
+        *afforded(3, [3], 11),                                  # 2>0 | 3>0 | 4>0; 2>0 0>1 0>4 0>3 | 3>0 0>1 0>4 0>3
+        ("unmark", 3, ("round", 0, 4, [], [0, 1, 2])),
+        *afforded(3, [2], 9),                                   # 2>0 | 4>0; 2>0 0>1 0>4 0>3 | 4>0 0>1 0>4
+        ("mark", 1, ("round", 3, 1, [], [0, 1, 2])),
+        *afforded(3, [3], 12),                                  # 1>2 | 2>0 | 4>0; 1>2 2>0 | 2>0 0>1 0>4 0>3 | 4>0 0>1 0>4
+        ("mark", 0, ("round", 4, 0, [], [0, 1, 2])),
+        *afforded(3, [6], 11),                                  # 0>1 0>4 0>3 | 1>2 | 2>0 | 4>0; 0>1 0>4 0>3 1>2 4>0
+    ]),
+    # paying states that nothing leads to, with moves to themselves; and then something does
+    ("short-unreached", 6, [1, 3, 5], [(1, 1), (0, 2), (2, 3), (3, 0), (1, 0), (5, 5), (5, 0)], ("round", 4, 0, [], [0, 2, 3]), [
+        *afforded(3, [1, 3], 6),                                # 3>0; 3>0 0>2; 3>0 0>2 2>3
+        ("add", 0, 1, ("round", 0, 4, [], [0, 2, 3])),          # the run does not come to it
+        *afforded(3, [], 1),                                    # 1>1
+        ("cut", 1, 1, ("round", 0, 4, [], [0, 2, 3])),
+        *afforded(3, [2], 5),                                   # 1>0 | 3>0; 1>0 0>2 0>1
+        ("cut", 0, 1, ("round", 0, 4, [], [0, 2, 3])),
+        *afforded(3, [1, 3], 6),
+        ("mark", 4, ("round", 0, 4, [], [0, 2, 3])),
+        *afforded(3, [1, 3], 6),
+        ("add", 3, 4, ("round", 3, 2, [], [0, 2, 3])),          # it has no moves
+        *afforded(3, [2, 5], 9),                                # 3>0 3>4 | -; 3>0 3>4 0>2 | -; 3>0 3>4 0>2 2>3
+        ("batch", [("cut", 3, 4), ("add", 0, 4), ("add", 4, 5)], ("round", 4, 0, [], [0, 2, 3])),
+        *afforded(3, [], 3),                                    # 3>0 | 4>5 | 5>5
+    ]),
+    # paying states without moves before, between and behind the others: what needs no look is done when the looks are used up
+    ("short-bare", 7, [1, 2, 4, 6], [(0, 1), (0, 2), (2, 3), (3, 0), (0, 4), (4, 0), (0, 6)], ("round", 6, 0, [], [0, 2, 3]), [
+        *afforded(3, [2], 8),                                   # - | 2>3 | 4>0 | -; - | 2>3 3>0 | 4>0 0>1 0>2 0>4
+        ("cut", 4, 0, ("round", 0, 6, [], [0, 2, 3])),
+        ("short", 1, ("short", 3, 2)),                          # 4 and 6 have no moves
+        *afforded(3, [1, 3], 7),                                # - | 2>3 | - | -; - | 2>3 3>0 | - | -; - | 2>3 3>0 0>1 0>2
+        ("add", 3, 3, ("round", 4, 3, [], [0, 2, 3])),
+        *afforded(3, [1, 4], 9),                                # 2>3; 2>3 3>0 3>3; 2>3 3>0 3>3 0>1 0>2
+        ("add", 4, 6, ("round", 0, 7, [], [0, 2, 3])),
+        *afforded(3, [2, 6], 11),                               # 2>3 | 4>6; 2>3 3>0 3>3 | 4>6; 2>3 3>0 3>3 0>1 0>2
+    ]),
+    # a state that was seen is looked at and not searched again: 3 by way of 1 and of 2, and 2 from itself
+    ("short-seen", 5, [0], [(0, 1), (0, 2), (1, 3), (2, 3), (3, 4), (2, 4), (4, 0)], ("round", 11, 0, [], [0, 1, 3, 4]), [
+        *afforded(4, [2, 7], 14),                               # 0>1 0>2; 0>1 0>2 1>3 2>3 2>4; 0>1 0>2 1>3 2>3 2>4 3>4 4>0
+        ("add", 1, 0, ("round", 11, 1, [], [0, 1, 3, 4])),
+        *afforded(4, [2], 6),                                   # 0>1 0>2; 0>1 0>2 1>3 1>0
+        ("cut", 1, 0, ("round", 10, 1, [], [0, 1, 3, 4])),
+        ("add", 2, 2, ("round", 7, 5, [], [0, 1, 3, 4])),
+        *afforded(4, [2, 8], 16),                               # as at first, with 2>2 behind each 2>4
+        ("add", 3, 2, ("round", 11, 2, [], [0, 1, 3, 4])),
+        *afforded(4, [2, 8], 17),                               # and in length 3 with 3>2 behind 3>4
+    ]),
+    # the walk goes the longer way; a move that is cut and added again is the newest, and looked at last
+    ("short-order", 4, [0], [(0, 1), (1, 3), (3, 0), (1, 0)], ("round", 7, 0, [], [0, 1, 3]), [
+        *afforded(3, [1], 4),                                   # 0>1; 0>1 1>3 1>0
+        ("cut", 1, 3, ("round", 3, 1, [], [0, 1])),
+        *afforded(2, [1], 3),                                   # 0>1; 0>1 1>0
+        ("add", 1, 3, ("round", 5, 1, [], [0, 1])),
+        *afforded(2, [1], 3),
+        ("cut", 1, 0, ("round", 5, 1, [], [0, 1, 3])),
+        *afforded(3, [1, 3], 6),                                # 0>1; 0>1 1>3; 0>1 1>3 3>0
+        ("add", 1, 2, ("round", 6, 1, [], [0, 1, 3])),
+        ("add", 1, 0, ("round", 7, 1, [], [0, 1, 3])),
+        *afforded(3, [1], 5),                                   # 0>1; 0>1 1>3 1>2 1>0
+    ]),
+    # the last states of one word and the first of the next, and the last of all
+    ("short-words", 512, [2, 63, 64, 511], RING_3 + [(0, 511), (0, 64), (0, 63), (63, 0), (64, 0), (511, 0)],
+     ("round", 4, 0, [], [0, 1, 2]), [
+        # 2>0 | 63>0 | 64>0 | 511>0; 2>0 0>1 0>511 0>64 0>63 | 63>0 0>1 0>511 0>64 0>63
+        *afforded(3, [4], 14),
+        ("unmark", 63, ("round", 0, 4, [], [0, 1, 2])),
+        *afforded(3, [3], 12),                                  # the second search ends with 0>64
+        ("unmark", 64, ("round", 0, 4, [], [0, 1, 2])),
+        *afforded(3, [2], 10),                                  # with 0>511
+        ("mark", 510, ("round", 0, 4, [], [0, 1, 2])),
+        *afforded(3, [2], 10),
+        ("unmark", 511, ("round", 0, 4, [], [0, 1, 2])),
+        *afforded(3, [1, 6], 12),                               # 2>0; 2>0 0>1 0>511 0>64 0>63; these and 1>2
+    ]),
+    # among batches; inside one it is no change
+    ("short-batch", 4, [3], RING_4, ("round", 5, 0, [], [0, 1, 2, 3]), [
+        *afforded(4, [1, 3, 6], 10),                            # 3>0; 3>0 0>1; 3>0 0>1 1>2; 3>0 0>1 1>2 2>3
+        ("batch", [], ("round", 0, 5, [], [0, 1, 2, 3])),
+        ("short", 6, ("short", 4, 4)),
+        ("batch", ["short 6"], ("no", 1, 1)),
+        ("batch", [("add", 0, 3), "short 0", ("add", 1, 3)], ("no", 1, 2)),
+        ("batch", [("add", 0, 3), ("add", 1, 3), ("add", 1, 3)], ("no", 8, 3)),
+        ("batch", [("mark", 1), ("unmark", 1)] * 32 + ["short 65535"], ("no", 1, 65)),
+        *afforded(4, [1, 3, 6], 10),
+        ("batch", [("add", 0, 3), ("add", 1, 3)], ("round", 0, 5, [], [0, 1, 2, 3])),
+        *afforded(4, [1], 4),                                   # 3>0; 3>0 0>1 0>3
+        ("batch", [("cut", 0, 3), ("mark", 1)], ("round", 5, 0, [], [0, 1, 2, 3])),
+        # 1>2 1>3 | 3>0; 1>2 1>3 2>3 3>0 | 3>0 0>1; 1>2 1>3 2>3 3>0 0>1
+        *afforded(4, [3, 9], 14),
+        ("batch", [("unmark", 1), ("unmark", 3), ("mark", 0), ("cut", 2, 3)], ("round", 8, 0, [], [0, 1, 3])),
+        *afforded(3, [1, 4], 8),                                # 0>1; 0>1 1>2 1>3; 0>1 1>2 1>3 3>0
+        ("batch", [("cut", 3, 0), ("add", 3, 3)], ("none", 5, 3)),
+        *at_any_price("none"),
+    ]),
+    # with several kinds in use there is no such question, whether there is a round or none
+    ("short-kinds", 2, of_kinds(2, [0], [1]), C_MOVES, ("round", 4, 0, [], [0, 1]), [
+        *at_any_price("no", 17),
+        ("unmark", 1, 2, ("none", 5, 1)),
+        *at_any_price("no", 17),
+        ("line", "short", ("no", 1)),
+        ("line", "short 65536", ("no", 1)),
+        ("batch", ["short 1"], ("no", 1, 1)),
+        ("kinds", 1, ("round", 4, 0, [], [0, 1])),
+        *afforded(2, [1], 3),                                   # 0>1; 0>1 1>0
+        ("add", 0, 0, ("round", 5, 0, [], [0, 1])),
+        *afforded(2, [], 2),                                    # 0>1 0>0
+        ("kinds", 5, ("no", 16)),
+        *afforded(2, [], 2),
+        ("kinds", 2, ("none", 10, 0)),                          # 0.1>1.2 1.2>0.2 0.2>1.2 0.2>0.2 0.1>0.2 | the same five
+        *at_any_price("no", 17),
+        ("kinds", 0, ("no", 16)),
+        ("short", 3, ("no", 17)),
+        *[step for kinds in (3, 4) for step in (("kinds", kinds, ("none", 10, 0)), ("short", 3, ("no", 17)))],
+        ("kinds", 1, ("round", 5, 0, [], [0, 1])),
+        *afforded(2, [], 2),
+        ("unmark", 0, ("none", 3, 0)),
+        *at_any_price("none"),
+        ("kinds", 2, ("none", 3, 0)),
+        *at_any_price("no", 17),
+    ]),
+    # lines that cannot be read
+    ("short-lines", 2, [1], C_MOVES, ("round", 3, 0, [], [0, 1]), [
+        *[("line", row, ("no", 1)) for row in BAD_SHORT],
+        *afforded(2, [1], 3),                                   # 1>0; 1>0 0>1
+        *[("short", budget, ("short", 2, 2)) for budget in (9, 10, 511, 512, 9999, 10000, 65534, 65535)],
+        ("cut", 0, 1, ("none", 0, 0)),
+        *at_any_price("none"),
+    ]),
+    # rings: that of 362 states is not found, though all shorter ones are ruled out; of 363 not even these are
+    *[("short-ring-%d" % size, size, [0], [(s, (s + 1) % size) for s in range(size)], ("round", 2 * size, 0, [], list(range(size))),
+       [*afforded(size, ring_ends(361))]) for size in (362, 363)],
+    # found with the last look that there can be; and with one look more it is not
+    ("short-last-look", 360, [0], WAY_ROUND + [(161, 161)], ("round", 722, 0, *WAY_ROUND_WALK), [
+        *afforded(360, way_round_ends(161), 65535),
+        ("cut", 161, 161, ("round", 559, 162, *WAY_ROUND_WALK)),
+        ("add", 160, 160, ("round", 561, 161, *WAY_ROUND_WALK)),
+        *afforded(360, way_round_ends(160)),
+    ]),
+    # a full table
+    ("short-full", 512, list(range(512)), NEXT_FOUR, ("round", 516, 0, [], list(range(512))), [
+        *afforded(512, [2048, 12288, 30720, 57344]),
+        turned_back(3, 507),                                    # 2,048; 20 for each of 507, and 20 from 507
+        *afforded(512, [2048], 12208),
+        turned_back(507, 503),                                  # 12,288; 36 for each of 503, and 36 from 503
+        *afforded(512, [2048, 12288], 30432),
+        # for length 3 the searches from 508, 509 and 510 see 499 besides, and that from 511 four states behind it; 52 for each of
+        # 499, and 52 from 499
+        turned_back(503, 499),
+        *afforded(512, [2048, 12288, 30748], 56748),
+    ]),
+]
+
+WORKED = SINGLES + BATCH_GAMES + WAYS_GAMES + KIND_GAMES + OVER_GAMES + SHORT_GAMES
 
 # N, paying states, moves; and, worked by hand, the looks, with a bar where an inner search begins and where it ends
 # without success; stem and round, if there are any. Start is 0. With kinds, those that carry each are parted by a comma, and
@@ -2132,8 +2485,8 @@ def made(table, call, room):
     word, *named = call
     if word == "line":
         return ("no", 1)
-    if word == "ways":
-        return table.ways(*named)
+    if is_question(call):
+        return called(table, *call)
     if word == "batch":
         named = [[line if isinstance(line, tuple) else None for line in named[0]]]
     return called(table, word, *named, room)
@@ -2546,7 +2899,8 @@ def test_games():
         for *call, answer in calls:
             got = worked_call(table, call)
             assert got == answer, (name, call, got)
-            check_table(table)
+            if not is_question(call):
+                check_table(table)
             rows += rows_of(call)
             lines += answer_line(answer)
         text = as_text("|".join(rows))
@@ -2931,11 +3285,7 @@ def test_batch_numbers():
     assert t.moves == FULL_MOVES and t.pays == [True, True] + [False] * 62
     assert t.batch([], 64) == t.batch(back, 600) == ("none", 0, 0)
     for lines in ([], [None], [("mark", 0)]):
-        try:
-            Table().batch(lines, 600)
-        except RuntimeError:
-            continue
-        assert False, "a batch without a session"
+        needs_session("batch", lines, 600)
 
 
 def random_lines(rng, table, count):
@@ -3032,18 +3382,29 @@ def test_ways_lines():
         says(head + "begin|cut 0 1|add 2 1|%s|cut 0 1|end|ways 1|ways 2" % row, heard + "no 1 3|ways 1 1 1|ways 2 0 0|")
         says(head + "ways 1|begin|cut 0 1|" + row, heard + "ways 1 1 1|")
         says(head + "begin|" + "mark 2|unmark 2|" * 32 + row + "|end", heard + "no 1 65|")
-    for word in ("short 1", "all", "why", "sheet"):
+    for word in ("all", "why", "sheet"):
         says(head + word + "|ways 0", heard + "no 1|ways 0 1 1|")
-    given, wanted = as_text(head + "ways 0|ways 9|ways 2"), as_text(heard + "ways 0 1 1|no 6|ways 2 0 0|")
+    fits_in_part(head + "ways 0|ways 9|ways 2", heard + "ways 0 1 1|no 6|ways 2 0 0|", 3)
+    needs_session("ways", 0)
+
+
+def fits_in_part(given, wanted, count):
+    """A bench program hears all that fits: each of the last lines, so many, is left out where one byte is missing for it."""
+    given, wanted = as_text(given), as_text(wanted)
     assert bench_answer(given, 65536) == bench_answer(given, len(wanted)) == (wanted, 2 * len(wanted))
-    for line in (wanted[-11:], wanted[-16:-11], wanted[-27:-16]):
-        assert bench_answer(given, len(wanted) - 1) == (wanted[:-len(line)], 2 * (len(wanted) - len(line)) + 1)
-        wanted = wanted[:-len(line)]
+    for line in wanted.splitlines(True)[:-count - 1:-1]:
+        whole = wanted[:-len(line)]
+        assert bench_answer(given, len(wanted) - 1) == (whole, 2 * len(whole) + 1)
+        wanted = whole
+
+
+def needs_session(word, *args):
+    """Such a call without a session raises an error."""
     try:
-        Table().ways(0)
-        assert False, "a question without a session"
+        called(Table(), word, *args)
     except RuntimeError:
-        pass
+        return
+    assert False, word + " without a session"
 
 
 class Tally:
@@ -3113,12 +3474,18 @@ def answered(rows, calls):
 
 def questions_matter_not(rng, size, rows, calls):
     """Every other line is answered alike without the questions, with these, and with more at every place."""
-    load, plain = answered(rows, [call for call in calls if call[0] != "ways"])
-    more = [("ways", rng.choice((rng.randrange(size), rng.randrange(size), size, 65535))) for _ in range(2 * len(calls) + 2)]
+    load, plain = answered(rows, [call for call in calls if not is_question(call)])
+    more = [some_question(rng, size) for _ in range(2 * len(calls) + 2)]
     sprinkled = more[-2:] + [row for call, *two in zip(calls, more[0::2], more[1::2]) for row in (call, *two)]
     for asking in (calls, sprinkled):
         first, lines = answered(rows, asking)
-        assert first == load and [line for call, line in zip(asking, lines) if call[0] != "ways"] == plain, (rows, asking)
+        assert first == load and [line for call, line in zip(asking, lines) if not is_question(call)] == plain, (rows, asking)
+
+
+def some_question(rng, size):
+    if rng.random() < 0.5:
+        return "ways", rng.choice((rng.randrange(size), rng.randrange(size), size, 65535))
+    return "short", rng.choice((0, 1, 2, rng.randrange(20), rng.randrange(200), 65535))
 
 
 def test_questions():
@@ -3520,11 +3887,7 @@ def test_over_lines():
     says("game 257 0|kinds 2|go|kinds 1", "no 16|")
     says("game 257 0|go|kinds 2|kinds 1|ways 257", "game 257 0 0|none 0 0|no 16|none 0 0|no 6|")
     # its answer is one line, and the list that the box lends is long enough for every K
-    given, wanted = as_text(KINDS_HEAD + "kinds 1|kinds 2"), as_text(KINDS_HEARD + "round 4 0 0 2 0 1|none 6 0|")
-    assert bench_answer(given, 65536) == bench_answer(given, len(wanted)) == (wanted, 2 * len(wanted))
-    for line in (wanted[-9:], wanted[-27:-9]):
-        assert bench_answer(given, len(wanted) - 1) == (wanted[:-len(line)], 2 * (len(wanted) - len(line)) + 1)
-        wanted = wanted[:-len(line)]
+    fits_in_part(KINDS_HEAD + "kinds 1|kinds 2", KINDS_HEARD + "round 4 0 0 2 0 1|none 6 0|", 2)
 
 
 def some_step(rng, table, behind=False):
@@ -3611,11 +3974,185 @@ def test_over_numbers():
                 heard[old, kinds, answer[1] if answer[0] == "no" else 0] += 1
     for old, kinds in itertools.product((1, 2, 3, 4), repeat=2):
         assert heard[old, kinds, 0] and heard[old, kinds, 11], heard
-    try:
-        Table().set_kinds(1, 600)
-        assert False, "another K without a session"
-    except RuntimeError:
-        pass
+    needs_session("kinds", 1, 600)
+
+
+def test_short_lines():
+    head, heard = "game 3 0|pay 1|move 0 1|move 1 2|move 2 1|go|", "game 3 3 1|round 5 0 1 2 0 1 2|"
+    says(head + "short 0|short 1|short 2|short 3|short 65535|cut 2 1|short 0|short 65535|unmark 1|short 7",
+         heard + "short 2 1|" + "short 2 2|" * 4 + "none 1 2|none|none|none 1 1|none|")
+    for row in BAD_SHORT:
+        says(head + row + "|short 1|unmark 1", heard + "no 1|short 2 2|none 2 1|")
+        says(KINDS_HEAD + row + "|unmark 1 2", KINDS_HEARD + "no 1|none 5 1|")       # 1 comes before 17
+    for row in ("short 0", "short 9", "short 65535"):
+        says(KINDS_HEAD + row + "|unmark 1 2|%s|kinds 1|%s" % (row, row),
+             KINDS_HEARD + "no 17|none 5 1|no 17|round 4 0 0 2 0 1|short 2 %d|" % (1 if row == "short 0" else 2))
+        says(KINDS_HEAD + "begin|%s|end|unmark 1 2" % row, KINDS_HEARD + "no 1 1|none 5 1|")
+    for row, at in itertools.product(("short 0", "short 65535", "short"), range(6)):
+        says("|".join(head.split("|")[:at] + [row, "go", "short 1"]), "no 1|")        # misplaced before `go`
+    for row in ("short 0", "short 65535", "short", "short 65536"):     # and inside a batch, of which it is no end
+        says(head + "begin|%s|end|short 0" % row, heard + "no 1 1|short 2 1|")
+        says(head + "begin|add 0 0|add 1 1|%s|add 1 1|end|short 1" % row, heard + "no 1 3|short 2 2|")
+        says(head + "short 0|begin|add 1 1|" + row, heard + "short 2 1|")
+        says(head + "begin|" + "mark 2|unmark 2|" * 32 + row + "|end", heard + "no 1 65|")
+    says("game 2 2|go|short 1", "no 3|")
+    fits_in_part(head + "short 1|cut 2 1|short 1|kinds 2|short 1", heard + "short 2 2|none 1 2|none|none 3 0|no 17|", 5)
+    needs_session("short", 0)
+
+
+def moves_away(size, moves):
+    """Of each two states how many moves lead from the one to the other at the least, by way of any between; size where none do."""
+    far = [[0 if a == b else size for b in range(size)] for a in range(size)]
+    for a, b in moves:
+        far[a][b] = min(far[a][b], 1)
+    for by, a, b in itertools.product(range(size), repeat=3):
+        far[a][b] = min(far[a][b], far[a][by] + far[by][b])
+    return far
+
+
+# Of a table with a round: its reachable paying states; the first of them that has a shortest one; the looks up to the end of each
+# length that is shorter; the look that finds it.
+Bill = namedtuple("Bill", "paying first ends found")
+
+
+def bill_of(table):
+    """By the distances between all states, without a search."""
+    size, moves = table.size, table.moves
+    far, leaving = moves_away(size, moves), Counter(a for a, _ in moves)
+    paying = [s for s in range(size) if table.pays[s] and far[table.start][s] < size]
+    back = {s: min((far[b][s] + 1 for a, b in moves if a == s), default=size + 1) for s in paying}
+    shortest = min(back.values())
+
+    def looks(state, length):
+        return sum(leaving[s] for s in range(size) if far[state][s] < length)
+    ends = list(itertools.accumulate(sum(looks(s, length) for s in paying) for length in range(1, shortest)))
+    first = next(s for s in paying if back[s] == shortest)
+    found = (ends or [0])[-1] + sum(looks(s, shortest) for s in paying if s < first) + looks(first, shortest - 1)
+    row = [first]           # the states so many moves away, in the order in which each is seen by the first move that leads to it
+    for distance in range(1, shortest):
+        leads = [(row.index(a), at, b) for at, (a, b) in enumerate(moves) if a in row and far[first][b] == distance]
+        row = list(dict.fromkeys(b for _, _, b in sorted(leads)))
+    closing = [b for s in row for a, b in moves if a == s]
+    return Bill(paying, first, ends, found + 1 + closing.index(first))
+
+
+def check_short(table, budgets=None):
+    """The answers for these budgets, or for every one that makes a difference; the table is left as it was. The bill, if there is
+    a round."""
+    before, run = held(table), table.run
+    if table.kinds > 1 or not run.found:
+        said, bill = {table.short(budget) for budget in budgets or (0, 1, 9, 65535)}, None
+        assert said == {("no", 17) if table.kinds > 1 else ("none",)}, (before, said)
+    else:
+        bill = bill_of(table)
+        asked = sorted(budgets or {*range(bill.found + 3), 65535})
+        said = [table.short(budget) for budget in asked]
+        assert said == [within(budget, len(run.round), bill.ends, bill.found) for budget in asked], (before, said, bill)
+        assert all(best >= least for _, best, least in said)
+        assert all(now[1] <= earlier[1] and now[2] >= earlier[2] for earlier, now in zip(said, said[1:]))
+        borders = [budget for budget, earlier, now in zip(asked[1:], said, said[1:]) if now != earlier]
+        assert budgets or borders_of(table) == borders
+    assert table.run is run and held(table) == before
+    return bill
+
+
+def short_load(rng, table, most):
+    size, *game = short_game(rng, rng.randint(2, most))
+    return table.load(*load_args(size, *game), size)
+
+
+def short_game(rng, size):
+    """A game of so many states, with its start, the paying states and the moves, in which the walk's round is often longer than
+    the shortest: there is a ring, whose moves are older than others among its states, or not. Some states are bare, some are
+    not led to."""
+    order = rng.sample(range(size), size)
+    ring = order[:rng.randint(1, size)]
+    moves = dict.fromkeys(zip(ring, ring[1:] + ring[:1]))
+    if rng.random() < 0.2:
+        del moves[rng.choice(list(moves))]
+    moves.update(dict.fromkeys((rng.choice(ring), rng.choice(order)) for _ in range(rng.randint(0, size))))
+    moves.update(dict.fromkeys((rng.choice(order), rng.choice(ring)) for _ in range(rng.choice((0, 0, 1, 2)))))
+    moves = list(moves)
+    if rng.random() < 0.5:
+        rng.shuffle(moves)
+    return size, ring[0], sorted({rng.choice(ring), *rng.choices(order, k=rng.choice((0, 1, 2, size)))}), moves
+
+
+def borders_of(table):
+    """The budgets that are answered otherwise than those of one look fewer: at the end of each length that is ruled out, and where
+    a round is found that is shorter than the walk's."""
+    borders, looks = [], 0
+    if table.kinds > 1 or not table.run.found:
+        return borders
+    targets, paying = table.searched_for_rounds()
+    for length in itertools.count(1):
+        for comes_back in (back for state in paying for back in looks_around(targets, state, length)):
+            looks += 1
+            if looks > MOST_BUDGET or comes_back:
+                shorter = looks <= MOST_BUDGET and length < len(table.run.round)
+                return borders + [looks] if shorter else borders
+        borders.append(looks)
+
+
+def some_budgets(rng, table, *counts):
+    """So many, one of these counts, of such as make a difference or are beside them, 0, the most, and any."""
+    count = rng.choice(counts)
+    borders = count and borders_of(table) or [rng.randrange(20)]
+    for _ in range(count):
+        near = max(0, rng.choice(borders) + rng.choice((-1, -1, 0, 0, 1)))
+        yield min(MOST_BUDGET, rng.choice((near, near, near, near, 0, MOST_BUDGET, rng.randrange(40))))
+
+
+def long_ring(rng, size, count):
+    """The states in a hidden order, and so many moves that lead on in it to one of the next few, round and round: every round is
+    long."""
+    order = rng.sample(range(size), size)
+    moves = dict.fromkeys(zip(order, order[1:] + order[:1]))
+    while len(moves) < count:
+        at = rng.randrange(size)
+        moves[order[at], order[(at + rng.randint(2, 7)) % size]] = None
+    return order, rng.sample(list(moves), len(moves))
+
+
+def short_sorts(table, bill):
+    """What a table with a round has to do with the question, for the counts."""
+    paying, first, shorter, _ = bill
+    leaving = {a for a, _ in table.moves}
+    yield "length %d" % min(len(shorter) + 1, 4)
+    yield "the walk's is longer" if len(table.run.round) > len(shorter) + 1 else "the walk's is the shortest"
+    if sum(table.pays) > len(paying):
+        yield "paying and not reached"
+    if any(s not in leaving for s in paying):
+        yield "paying and bare"
+    if any(s not in table.run.met_after for s in paying):
+        yield "reached and not met"
+    if first != paying[0]:
+        yield "not by the first search of its length"
+
+
+def test_short():
+    """Every budget on random tables, and between the changes of random sessions with 1 to 4 kinds."""
+    rng = random.Random(22)
+    seen = Counter()
+    for at in range(3000):
+        t = Table()
+        (short_load if at % 4 else random_load)(rng, t, 8)
+        bill = check_short(t)
+        seen.update(short_sorts(t, bill) if bill else ["none"])
+    assert len(seen) == 11 and min(seen.values()) > 100, seen
+    for at in range(120):
+        t = Table()
+        random_load(rng, t, 6, at % 4 + 1)
+        for call, answer in some_calls(rng, t, 12, some_step):
+            check_short(t, {0, 1, 2, 3, rng.randrange(20), rng.randrange(60), 65535})
+            seen[t.kinds > 1, t.run.found] += 1
+    assert all(seen[several, found] > 100 for several, found in itertools.product((True, False), repeat=2)), seen
+    for _ in range(20):
+        t = Table()
+        short_load(rng, t, 40)
+        bill = check_short(t, {0, 65535})
+        if bill:
+            check_short(t, {budget for *_, budget, _ in afforded(0, bill.ends, bill.found)})
 
 
 def selftest():
@@ -3654,6 +4191,8 @@ def selftest():
     test_over()
     test_over_texts()
     test_over_numbers()
+    test_short_lines()
+    test_short()
     print("ok")
 
 

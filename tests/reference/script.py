@@ -7,8 +7,8 @@
     python3 script.py --replay < script               expected output of any script
     python3 script.py --stats SEED                    what the scripts contain
 
-KIND is games, edges, small, full, batches, kinds or over; known (games and edges as one script, one end) or drawn (small and
-full); or blocks (known, drawn, batches, kinds and over, one block each).
+KIND is games, edges, small, full, batches, kinds, over or short; known (games and edges as one script, one end) or drawn (small
+and full); or blocks (known, drawn, batches, kinds, over and short, one block each).
 """
 
 import itertools
@@ -19,19 +19,22 @@ from collections import Counter, namedtuple
 
 import reference
 from batches import KIND_NUMBERS, LENGTHS, NUMBERS, some_lines
-from reference import (MOST_KINDS, MOST_MOVES, MOST_STATES, MOVE_WORDS, Table, carried, flat, given_marks, in_full, load_args,
-                       not_come_to, of_kinds, pairs, random_carried, random_kind, states_of, too_many)
+from reference import (MOST_BUDGET, MOST_KINDS, MOST_MOVES, MOST_STATES, MOVE_WORDS, Table, borders_of, called, carried, flat,
+                       given_marks, in_full, is_question, load_args, long_ring, not_come_to, of_kinds, pairs, random_carried,
+                       random_kind, short_game, some_budgets, states_of, too_many)
 
 LENT = 600
 BLOCK = 65536                                   # bytes of a block, padded with zeros, but for the last
 MOST_LINES = 70                                 # of a batch in a script
 OPS = {2: "add", 3: "cut", 4: "mark", 5: "unmark"}
+ASKED = {7: "ways", 9: "short"}
 NO_CHANGE = (0, 0, 0), (9, 0, 1), (9, 0, 0), (0, 1, 0)         # lines of a batch that are none
 CODES = {word: op for op, word in OPS.items()}
 ALREADY = {"add": 8, "cut": 10, "mark": 13, "unmark": 14}      # the number where it is so already
 # About each border of two words, and some other states.
 PROBES = [1, 15, 16, 31, 32, 62, 63, 64, 65, 127, 128, 191, 192, 255, 256, 319, 320, 383, 384, 447, 448, 510, 511]
-LIMITS = {"games": 30000, "edges": 33400, "small": 20000, "full": 20000, "batches": 64000, "kinds": 64000, "over": 64000}  # bytes
+LIMITS = {"games": 30000, "edges": 33400, "small": 20000, "full": 20000, "batches": 64000, "kinds": 64000, "over": 64000,
+          "short": 64000}                       # bytes
 
 
 # ------------------------------------------------------- expected output
@@ -51,8 +54,8 @@ def replay_block(block):
         op = next(numbers)
         if op == 0:
             break
-        if op == 7:
-            yield from replied(table.ways(*take(1)))
+        if op in ASKED:
+            yield from replied(called(table, ASKED[op], *take(1)))
             continue
         answer, room = READERS.get(op, read_change)(table, op, take)
         assert room <= LENT
@@ -93,7 +96,7 @@ READERS = {1: read_load, 6: read_batch, 8: read_kinds}         # the others are 
 
 def replied(answer):
     """The numbers printed for a question. No list is lent, so none is summed up."""
-    return [0, answer[1]] if answer[0] == "no" else [4, *answer[1:]]
+    return [{"no": 0, "ways": 4, "short": 5, "none": 6}[answer[0]], *answer[1:]]
 
 
 def told(answer, room):
@@ -203,6 +206,15 @@ class Script:
             assert want in (None, answer[1] if answer[0] == "no" else answer[2:]), (state, answer, want)
             self._said("ways", [], answer, None)
 
+    def short(self, *budgets, want=None):
+        """Questions about the shortest round, one for each of these budgets; want: the answer to each."""
+        assert self.table.loaded
+        for budget in budgets:
+            self.numbers += [9, budget]
+            answer = self.table.short(budget)
+            assert want in (None, answer), (budget, answer, want)
+            self._said("short", [], answer, None)
+
     def add(self, a, b, room=None, want=None):
         return self.change("add", a, b, room=room, want=want)
 
@@ -254,6 +266,8 @@ def worked(s, games):
                 assert s.batch(lines) == wanted, name
             elif word == "ways":
                 s.ways(*named, want=wanted[1] if wanted[0] == "no" else wanted[2:])
+            elif word == "short":
+                s.short(*named, want=wanted)
             elif word == "kinds":
                 lent_less(s, *named)
                 assert s.kinds(*named) == wanted, name
@@ -1263,10 +1277,74 @@ def some_over(s, rng, every):
         s.batch([])
 
 
+# --------------------------------------------------- the shortest round
+
+def make_short(s, rng, limit):
+    worked(s, reference.SHORT_GAMES)
+    for paying in (1, 3, MOST_STATES):
+        hidden_ring(s, rng, paying)
+    while limit - s.size_in_bytes() > 1000:     # room for a load and a batch
+        random_short(s, rng, limit)
+
+
+def hidden_ring(s, rng, paying):
+    """As many states and moves as there may be, and so many of the states pay. No budget goes so far as to find a round; then some
+    moves lead back from a paying state."""
+    size = MOST_STATES
+    order, moves = long_ring(rng, size, MOST_MOVES)
+    pay = sorted(rng.sample(order, paying))
+    s.load(size, order[0], pay, flat(moves), want="round")
+    at_borders(s, rng, 6)
+    _, best, least = s.table.short(MOST_BUDGET)
+    assert best > least                         # not found
+    for far in (20, 9, 4):
+        at = order.index(rng.choice(pay))
+        s.cut(*rng.choice(s.table.moves))
+        s.add(order[at], order[at - far], want="round")
+        at_borders(s, rng, 6)
+    s.kinds(2, room=LENT, want=16)
+    s.unmark(pay[0])
+    s.short(0, MOST_BUDGET)
+
+
+def at_borders(s, rng, most):
+    """Questions at budgets that make a difference, up to so many, and with one look fewer."""
+    borders = borders_of(s.table)
+    chosen = sorted(rng.sample(borders, min(most, len(borders))))
+    s.short(*[border - less for border in chosen for less in (1, 0)], MOST_BUDGET)
+
+
+def some_short(s, rng):
+    """Questions between the calls of a random session."""
+    s.short(*some_budgets(rng, s.table, 0, 1, 1, 2, 3))
+
+
+def random_short(s, rng, limit):
+    """A session with one kind, seldom with more for a while. Before it a load may be refused; behind that nothing is asked."""
+    size = rng.choice((1, 2, 3, 4, 5, 6, 7, 8, 8, rng.randint(9, 30)))
+    size, start, pay, moves = short_game(rng, size)
+    every = [(a, b) for a in range(size) for b in range(size)]
+    if rng.random() < 0.1:
+        s.load(size, start, pay, flat(moves + moves[:1]), want=8 if moves else None)
+    s.load(size, start, pay, flat(moves))
+    some_short(s, rng)
+    for _ in range(rng.randint(8, 24)):
+        if s.size_in_bytes() + 520 > limit:     # the longest batch, a change and questions
+            return
+        dice = rng.random()
+        if dice < 0.04:
+            s.kinds(rng.randint(1, MOST_KINDS))
+        elif dice < 0.4 and s.table.kinds > 1:
+            s.kinds(1)
+        else:
+            kinds_step(s, rng, every)
+        some_short(s, rng)
+
+
 MAKERS = {"games": make_games, "edges": make_edges, "small": make_small, "full": make_full, "batches": make_batches,
-          "kinds": make_kinds, "over": make_over}
+          "kinds": make_kinds, "over": make_over, "short": make_short}
 PARTS = {"known": ("games", "edges"), "drawn": ("small", "full"), "batches": ("batches",), "kinds": ("kinds",),
-         "over": ("over",)}                     # of each block
+         "over": ("over",), "short": ("short",)}                # of each block
 assert all(sum(LIMITS[name] for name in names) <= 64000 for names in PARTS.values())
 
 
@@ -1324,13 +1402,21 @@ def batch_stats(calls):
 
 def question_stats(calls):
     """Of the questions too what they stand behind."""
-    pairs_of = [(before, call) for before, call in zip(calls, calls[1:]) if call.word == "ways"]
+    pairs_of = [(before, call) for before, call in zip(calls, calls[1:]) if is_question(call)]
     counts("questions", [call.answer for _, call in pairs_of])
-    behind = Counter("a refused " + b.word if b.answer[0] == "no" else b.word for b, _ in pairs_of if b.word != "ways")
+    behind = Counter("a refused " + b.word if b.answer[0] == "no" else b.word for b, _ in pairs_of if not is_question(b))
     print("    they stand behind", dict(sorted(behind.items())))
+    short_stats([call.answer[1:] for _, call in pairs_of if call.answer[0] == "short"])
     told_counts = [call.answer[2:] for _, call in pairs_of if call.answer[0] == "ways"]
     print("    most leaving %d, entering %d; both 0 in %d" % (
         *(max((pair[side] for pair in told_counts), default=0) for side in (0, 1)), sum(pair == (0, 0) for pair in told_counts)))
+
+
+def short_stats(numbers):
+    """Of those about the shortest round that are answered with these numbers."""
+    print("    best known longer than the least not ruled out in %d; the least 1 in %d, 2 in %d, 3 in %d, more in %d, at most %d" % (
+        sum(best > least for best, least in numbers), *(sum(min(least, 4) == n for _, least in numbers) for n in (1, 2, 3, 4)),
+        max((least for _, least in numbers), default=0)))
 
 
 def over_stats(calls):
@@ -1348,7 +1434,7 @@ def stats(seed):
     for kind in MAKERS:
         s = make(seed, kind)
         print(kind, "script", len(s.data()), "bytes; output", len(replay(s.data())), "bytes")
-        every = [call.answer for call in s.calls if call.word != "ways"]
+        every = [call.answer for call in s.calls if not is_question(call)]
         marks = [call.answer for call in s.calls if call.word in ("mark", "unmark")]
         counts("calls", every)
         counts("those that name a self-move", [call.answer for call in s.calls if call.own])
@@ -1363,7 +1449,7 @@ def stats(seed):
             print("    %s accepted: not come to, of a state on the stem %d, on the round %d, never met %d; come to %d" % (
                 word, *[places[place] for place in ("stem", "round", "never met", "come to")]))
         for kinds in range(1, MOST_KINDS + 1):
-            counts("calls with K = %d" % kinds, [call.answer for call in s.calls if call.kinds == kinds and call.word != "ways"])
+            counts("calls with K = %d" % kinds, [call.answer for call in s.calls if call.kinds == kinds and not is_question(call)])
 
 
 def main(args):
