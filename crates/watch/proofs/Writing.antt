@@ -95,12 +95,9 @@ unfolding shown
 said-round answer s k st c n m walk e f g =
     rw (e, f) (ap (roundLine s k st c) (take-least m walk ∙ ap (λ (j : ℕ). take j walk) g))
 
--- the line of a reply
-pub replied-no : (reply : Reply) (n : ℕ) → reply ≡ Reply.Refused n → noLine (numbered n) ≡ replyShown reply
-replied-no reply n e = ap replyShown (sym e)
-
-pub replied-ways : (reply : Reply) (s leaving entering : ℕ) → reply ≡ Reply.Degrees s leaving entering → waysLine s leaving entering ≡ replyShown reply
-replied-ways reply s leaving entering e = ap replyShown (sym e)
+-- the line of a reply, by its case
+pub replied-as : (reply x : Reply) → reply ≡ x → replyShown x ≡ replyShown reply
+replied-as reply x e = ap replyShown (sym e)
 
 -- ---- where the lines lie
 
