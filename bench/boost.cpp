@@ -62,6 +62,11 @@ static void answer_now()
     put_end();
 }
 
+static int answer_question(const struct record *)
+{
+    return 0;
+}
+
 int main()
 {
     watch();

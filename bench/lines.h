@@ -89,7 +89,7 @@ static void put_refusal(unsigned number)
     put_end();
 }
 
-/* The game as loaded, and what a program does with a load and a change. */
+/* The game as loaded, and what a program does with a load, a change and a question. */
 static unsigned size, start, edges, paying;
 static unsigned char pays[STATES];
 
@@ -97,6 +97,7 @@ static int has(unsigned source, unsigned target);
 static void insert(unsigned source, unsigned target);
 static void take_out(unsigned source, unsigned target);
 static void answer_now(void);
+static int answer_question(const struct record *record);        /* 0 where the program has no answer to the line */
 
 static void wrong_load(void)
 {
@@ -141,7 +142,8 @@ static void change(const struct record *record)
     if (marks || is(record, "unmark", 1)) {
         turn(a, (unsigned char)marks);
     } else if (!adds && !is(record, "cut", 2)) {
-        put_refusal(1);
+        if (!answer_question(record))
+            put_refusal(1);
     } else if (a >= size || b >= size) {
         put_refusal(6);
     } else if (adds && has(a, b)) {

@@ -3,6 +3,8 @@
 Moves lead on in a hidden order, so there is no round, but for a ring with a paying state that nothing leads to. Rounds
 come and go with the changes: through moves that lead back past a paying state, or through a move into the ring. Where the
 changes are at a stem, the walk along it into the ring is there from the load on, and stays.
+
+For the shortest round: loads of full tables, on which many looks are needed.
 """
 
 import pathlib
@@ -12,7 +14,7 @@ import sys
 sys.path.insert(0, str(pathlib.Path(__file__).resolve().parent.parent / "tests"))
 sys.dont_write_bytecode = True
 from common import as_lines, lines_of  # noqa: E402
-from reference import of_kinds, plain_search  # noqa: E402
+from reference import MOST_MOVES, MOST_STATES, of_kinds, plain_search  # noqa: E402
 from sessions import Text  # noqa: E402
 
 KINDS = {
@@ -23,6 +25,8 @@ KINDS = {
     "mark": "the start state's pay is switched",
 }
 BATCH = 32          # changes in a batch
+PAYING = {"ring": 1, "paying": MOST_STATES, "winding": 8}     # the full tables, and how many of their states pay
+WINDS = 64          # states that a move of the table `winding` leads on at most
 
 
 class Game:
@@ -157,3 +161,25 @@ def played(game, kind, count):
     while len(game.text.rows) < head + count:
         game.change(kind)
     return as_lines(game.text.rows[:head]), as_lines(game.text.rows[head:])
+
+
+def ring_moves():
+    """Each state has moves to the next four."""
+    return [(s, (s + far) % MOST_STATES) for s in range(MOST_STATES) for far in (1, 2, 3, 4)]
+
+
+def winding_moves(rng):
+    """Moves that lead on in a hidden order, and one back from its end to its beginning, which every round takes."""
+    order = rng.sample(range(MOST_STATES), MOST_STATES)
+    moves = dict.fromkeys(zip(order, order[1:] + order[:1]))
+    while len(moves) < MOST_MOVES:
+        at = rng.randrange(MOST_STATES - 1)
+        moves[order[at], order[min(MOST_STATES - 1, at + rng.randint(1, WINDS))]] = None
+    return rng.sample(list(moves), MOST_MOVES)
+
+
+def full_table(seed, kind):
+    """The load, up to `go`, of a game with as many states and moves as there may be."""
+    rng = random.Random("%s %s" % (seed, kind))
+    moves = winding_moves(rng) if kind == "winding" else ring_moves()
+    return Text(MOST_STATES, 0, rng.sample(range(MOST_STATES), PAYING[kind]), moves).data()
