@@ -12,7 +12,7 @@ use lib.ListN.{length, getD, take}
 use lib.Seq.{length-take-le, take-all}
 use Rattle.plain.specs.Lists.{any}
 use Rattle.plain.specs.Table.{accepts, acceptingCount}
-use Rattle.plain.specs.Machine.{atLine, numbered, Line as OutputLine, roundLine, noneLine, noLine, waysLine}
+use Rattle.plain.specs.Machine.{atLine, numbered, Line as OutputLine, roundLine, noneLine, noLine}
 use Rattle.marks.proofs.Counts.{count-le}
 use Rattle.answer.specs.Bytes.{overwritten, Put}
 use Rattle.answer.specs.Rendering.{render, rendered}
