@@ -1,5 +1,5 @@
 -- A line `pay` names a state below 512 and one of four kinds. Assumes nothing.
-use mathlib.Core.Path.{_≡_, refl, sym, ap, _∙_}
+use mathlib.Core.Path.{_≡_, refl, sym, ap, subst, _∙_}
 use mathlib.Core.List.{List, [], _∷_, map}
 use mathlib.Core.Bool.{Bool, true, false, _&&_, _||_, not, cond, and-false, true≢false}
 use Prim.Native.Nat.{ℕ, _≤_, _<_}
@@ -9,20 +9,17 @@ use lib.Dec.{eqb, ltb, leb}
 use lib.ListN.{length, getD}
 use Rattle.line.specs.Fields.{fieldsOf}
 use Rattle.line.specs.Numbers.{all, isDigit, value, leadingZero, isNumber}
-use Rattle.line.specs.Words.{formOf, isWord}
+use Rattle.line.specs.Words.{tagOf, kindOf, isWord}
 use Rattle.line.specs.Records.{unreadable, wordOf, isKind, fieldsFit, worded, fromFields, recordOf}
 use Rattle.line.specs.declared.Word.{Word}
-use Rattle.line.specs.declared.Word.the-variants.{Game, Pay, Move, Go, Add, Cut, Mark, Unmark, Begin, End, Ways, Kinds, Short, Unreadable}
+use Rattle.line.specs.declared.Word.the-variants.{Pay, Unreadable}
 use Rattle.line.specs.declared.Record.{Record}
+use Rattle.line.proofs.Words.{both, same-word}
 
 -- a line that has one word has no other
 pub other-word : (w v u : Word) → isWord w v ≡ true → isWord v u ≡ false → isWord w u ≡ false
 unfolding isWord
-other-word w v u e f = ap (λ (n : ℕ). eqb n (formOf u .tag)) (eqb-true (formOf w .tag) (formOf v .tag) e) ∙ f
-
-both : (a b : Bool) → (a && b) ≡ true → (a ≡ true) × (b ≡ true)
-both true b e = (refl, e)
-both false b e = absurd (true≢false (sym e))
+other-word w v u e f = ap (λ (n : ℕ). eqb n (tagOf u)) (eqb-true (tagOf w) (tagOf v) e) ∙ f
 
 number-most : (limit : ℕ) (f : List ℕ) → isNumber limit f ≡ true → value f ≤ limit
 unfolding isNumber
@@ -65,24 +62,12 @@ worded-fits : (w : Word) (fs : List (List ℕ)) → PayFits (worded w fs)
 unfolding worded isWord
 worded-fits w fs = by-fit (fieldsFit w fs) refl
   where
-    by-word : (w : Word) → fieldsFit w fs ≡ true → PayFits (record { word = w; first = getD (map value fs) 0 0; second = getD (map value fs) 1 (formOf w .kind) })
-    by-word Game e = not-pay Game _ _ refl
-    by-word Pay e = λ k. fields-named fs e
-    by-word Move e = not-pay Move _ _ refl
-    by-word Go e = not-pay Go _ _ refl
-    by-word Add e = not-pay Add _ _ refl
-    by-word Cut e = not-pay Cut _ _ refl
-    by-word Mark e = not-pay Mark _ _ refl
-    by-word Unmark e = not-pay Unmark _ _ refl
-    by-word Begin e = not-pay Begin _ _ refl
-    by-word End e = not-pay End _ _ refl
-    by-word Ways e = not-pay Ways _ _ refl
-    by-word Kinds e = not-pay Kinds _ _ refl
-    by-word Short e = not-pay Short _ _ refl
-    by-word Unreadable e = not-pay Unreadable _ _ refl
+    by-word : (w : Word) → fieldsFit w fs ≡ true → PayFits (record { word = w; first = getD (map value fs) 0 0; second = getD (map value fs) 1 (kindOf w) })
+    by-word w e k =
+        subst (λ (v : Word). fieldsFit v fs ≡ true → Named (getD (map value fs) 0 0) (getD (map value fs) 1 (kindOf v))) (sym (same-word w Pay k)) (fields-named fs) e
 
     by-fit : (b : Bool) → fieldsFit w fs ≡ b
-        → PayFits (cond b (record { word = w; first = getD (map value fs) 0 0; second = getD (map value fs) 1 (formOf w .kind) }) unreadable)
+        → PayFits (cond b (record { word = w; first = getD (map value fs) 0 0; second = getD (map value fs) 1 (kindOf w) }) unreadable)
     by-fit true e = by-word w e
     by-fit false e = not-pay Unreadable 0 0 refl
 

@@ -6,20 +6,20 @@ use Prim.Native.Nat.{ℕ, suc, _+_, _≤_, _<_}
 use native.Mathlib.Decide.{ℕ-discrete, decLt}
 use native.Mathlib.Nat.{zero-add}
 use native.Mathlib.Omega.{arith}
-use borrow.Author.Tests.{eq-eqb, ne-eqb, lt-ltb, le-ltb}
-use lib.Dec.{eqb, ltb}
+use borrow.Author.Tests.{eq-eqb, ne-eqb, eqb-true, leb-true, lt-ltb, le-ltb}
+use lib.Dec.{eqb, leb, ltb}
 use lib.ListN.{length, getD, take, drop, length-take}
 use lib.Seq.{take-all, take-length}
 use Rattle.line.specs.Fields.{tab, fieldsOf, fieldAt}
 use Rattle.line.specs.Numbers.{all, value, isNumber, numberOf}
 use Rattle.line.specs.Words.{countOf, limitOf, kindOf, takesKind}
-use Rattle.line.specs.Records.{unreadable, wordOf, isKind, fieldsFit, worded, fromFields, recordOf}
-use Rattle.line.specs.Items.{asItem, itemAt, secondLimit, filledWith}
+use Rattle.line.specs.Records.{words, unreadable, wordOf, isKind, fieldsFit, worded, fromFields, recordOf}
+use Rattle.line.specs.Items.{rowOf, asItem, itemAt, secondLimit, filledWith}
 use Rattle.line.specs.declared.Item.{Item}
 use Rattle.line.specs.declared.Item.the-variants as I
 use Rattle.line.specs.declared.Number.the-variants as N
 use Rattle.line.specs.declared.Word.{Word}
-use Rattle.line.specs.declared.Word.the-variants.{Game, Pay, Move, Go, Add, Cut, Mark, Unmark, Begin, End, Ways, Kinds, Short, Unreadable}
+use Rattle.line.proofs.Words.{each-word}
 use Rattle.line.proofs.Fields.{behind-none, fieldsBehind, field-within, fields-at, behind-field}
 
 -- ---- what stands behind a field
@@ -72,21 +72,16 @@ data Takes (w : Word) : Type 0 where
   numbers : takesKind w ≡ false → countOf w ≤ 2 → Takes w
   kind : takesKind w ≡ true → countOf w ≡ 1 → Takes w
 
+takesFew : Word → Bool
+takesFew w = cond (takesKind w) (eqb (countOf w) 1) (leb (countOf w) 2)
+
 takes : (w : Word) → Takes w
-takes Game = numbers refl (omega arith)
-takes Pay = kind refl refl
-takes Move = numbers refl (omega arith)
-takes Go = numbers refl (omega arith)
-takes Add = numbers refl (omega arith)
-takes Cut = numbers refl (omega arith)
-takes Mark = kind refl refl
-takes Unmark = kind refl refl
-takes Begin = numbers refl (omega arith)
-takes End = numbers refl (omega arith)
-takes Ways = numbers refl (omega arith)
-takes Kinds = numbers refl (omega arith)
-takes Short = numbers refl (omega arith)
-takes Unreadable = numbers refl (omega arith)
+unfolding takesFew words all
+takes w = by-kind (takesKind w) refl (each-word takesFew refl refl w)
+  where
+    by-kind : (t : Bool) → takesKind w ≡ t → cond t (eqb (countOf w) 1) (leb (countOf w) 2) ≡ true → Takes w
+    by-kind true k e = kind k (eqb-true (countOf w) 1 e)
+    by-kind false k e = numbers k (leb-true (countOf w) 2 e)
 
 pub two-at-most : (w : Word) → countOf w ≤ 2
 two-at-most w = elim (takes w) [
@@ -111,7 +106,7 @@ kind-fits limit d (f ∷ g ∷ x ∷ rest) =
 
 -- the limits under which the numbers behind a word are read
 abbrev limitsOf : Word → List ℕ
-limitsOf w = limitOf w ∷ secondLimit w ∷ []
+limitsOf w = limitOf w ∷ secondLimit (rowOf w) ∷ []
 
 -- the fields fit a word where its numbers can be read and it takes so many of them
 numbers-fit : (w : Word) (fs : List (List ℕ)) → Takes w
@@ -126,7 +121,7 @@ numbers-fit w fs (numbers k h) = elim (ℕ-discrete (length fs) (countOf w)) [
 numbers-fit w fs (kind k h) = rw (k, h) (kind-fits (limitOf w) (kindOf w) fs)
 
 worded-good : (w : Word) (fs : List (List ℕ)) → within (limitsOf w) fs ≡ true
-    → filledWith w (length fs) (getD (map value fs) 0 0) (getD (map value fs) 1 (kindOf w)) ≡ worded w fs
+    → filledWith (rowOf w) (length fs) (getD (map value fs) 0 0) (getD (map value fs) 1 (kindOf w)) ≡ worded w fs
 unfolding worded filledWith
 worded-good w fs e = rw (← numbers-fit w fs (takes w), e)
 
@@ -136,7 +131,7 @@ worded-bad w fs e = rw (← numbers-fit w fs (takes w), e)
 
 -- ---- the ways in which a line goes on behind its word
 
-pub none-behind : (w : Word) (l : List ℕ) (at : ℕ) → Tells (limitOf w) l at I.End → filledWith w 0 0 (kindOf w) ≡ worded w (fieldsBehind l at)
+pub none-behind : (w : Word) (l : List ℕ) (at : ℕ) → Tells (limitOf w) l at I.End → filledWith (rowOf w) 0 0 (kindOf w) ≡ worded w (fieldsBehind l at)
 unfolding within
 none-behind w l at t = worded-good w [] refl ∙ rw t
 
@@ -144,24 +139,24 @@ pub bad-behind : (w : Word) (l : List ℕ) (at : ℕ) → Tells (limitOf w) l at
 unfolding within
 bad-behind w l at t = worded-bad w (fieldsBehind l at) (rw (t .2, t .3))
 
-pub one-behind : (w : Word) (l : List ℕ) (at v end : ℕ) → Tells (limitOf w) l at (I.Is v end) → Tells (secondLimit w) l end I.End
-    → filledWith w 1 v (kindOf w) ≡ worded w (fieldsBehind l at)
+pub one-behind : (w : Word) (l : List ℕ) (at v end : ℕ) → Tells (limitOf w) l at (I.Is v end) → Tells (secondLimit (rowOf w)) l end I.End
+    → filledWith (rowOf w) 1 v (kindOf w) ≡ worded w (fieldsBehind l at)
 unfolding within
 one-behind w l at v end t u = rw (t .1, u, sym (t .3)) (worded-good w (t .0 ∷ []) (rw (t .2)))
 
-pub bad-second : (w : Word) (l : List ℕ) (at v end : ℕ) → Tells (limitOf w) l at (I.Is v end) → Tells (secondLimit w) l end I.Bad
+pub bad-second : (w : Word) (l : List ℕ) (at v end : ℕ) → Tells (limitOf w) l at (I.Is v end) → Tells (secondLimit (rowOf w)) l end I.Bad
     → unreadable ≡ worded w (fieldsBehind l at)
 unfolding within
 bad-second w l at v end t u = worded-bad w (fieldsBehind l at) (rw (t .1, u .2, t .2, u .3))
 
-pub two-behind : (w : Word) (l : List ℕ) (at v end u last : ℕ) → Tells (limitOf w) l at (I.Is v end) → Tells (secondLimit w) l end (I.Is u last)
-    → last ≡ length l → filledWith w 2 v u ≡ worded w (fieldsBehind l at)
+pub two-behind : (w : Word) (l : List ℕ) (at v end u last : ℕ) → Tells (limitOf w) l at (I.Is v end) → Tells (secondLimit (rowOf w)) l end (I.Is u last)
+    → last ≡ length l → filledWith (rowOf w) 2 v u ≡ worded w (fieldsBehind l at)
 unfolding within
 two-behind w l at v end u last s t e =
     rw (s .1, t .1, behind-none tab ([] ∷ []) l last (omega arith), sym (s .3), sym (t .3))
     (worded-good w (s .0 ∷ t .0 ∷ []) (rw (s .2, t .2)))
 
-pub more-behind : (w : Word) (l : List ℕ) (at v end u last : ℕ) → Tells (limitOf w) l at (I.Is v end) → Tells (secondLimit w) l end (I.Is u last)
+pub more-behind : (w : Word) (l : List ℕ) (at v end u last : ℕ) → Tells (limitOf w) l at (I.Is v end) → Tells (secondLimit (rowOf w)) l end (I.Is u last)
     → (last ≡ length l → ⊥) → unreadable ≡ worded w (fieldsBehind l at)
 unfolding within
 more-behind w l at v end u last s t d =

@@ -5,8 +5,8 @@ ghost use lib.ListN.{length, drop};
 ghost use Rattle.line.specs.Fields.{upTo, fieldAt};
 ghost use Rattle.line.specs.Numbers.{numberOf};
 ghost use Rattle.line.specs.Records.{sameBytes, wordOf, unreadable as Records·unreadable, recordOf};
-ghost use Rattle.line.specs.Words.{form as Words·form, formOf, isWord};
-ghost use Rattle.line.specs.Items.{itemAt, secondLimit, filledWith};
+ghost use Rattle.line.specs.Words.{tagOf, isWord};
+ghost use Rattle.line.specs.Items.{rowWith, rowOf, orRow, itemAt, secondLimit, filledWith};
 
 // The words of the lead, as bytes.
 pub const GAME: [u8; 4] = *b"game";
@@ -63,10 +63,10 @@ pub enum Word {
     Unreadable,
 }
 
-// What a word asks for: a number that tells it apart, how many numbers follow it, how large they may be, and the kind that is meant where
-// none follows these, 0 for a word that takes no kind.
-struct Form {
-    tag: u16,
+// A row of the table of words: a word, how many numbers follow it, how large they may be, and the kind that is meant where none follows these, 0 for a
+// word that takes no kind.
+struct Row {
+    word: Word,
     count: u16,
     limit: u16,
     kind: u16,
@@ -161,71 +161,25 @@ fn same(a: &[u8], b: &[u8]) -> bool
     true
 }
 
-// The word that a field spells.
-fn read_word(s: &[u8]) -> Word
-    ensures { λ r. ⌜ r ≡ wordOf (now (s .entry)) ⌝ }
-{
-    if same(s, &GAME) {
-        Word::Game
-    } else if same(s, &PAY) {
-        Word::Pay
-    } else if same(s, &MOVE) {
-        Word::Move
-    } else if same(s, &GO) {
-        Word::Go
-    } else if same(s, &ADD) {
-        Word::Add
-    } else if same(s, &CUT) {
-        Word::Cut
-    } else if same(s, &MARK) {
-        Word::Mark
-    } else if same(s, &UNMARK) {
-        Word::Unmark
-    } else if same(s, &BEGIN) {
-        Word::Begin
-    } else if same(s, &END) {
-        Word::End
-    } else if same(s, &WAYS) {
-        Word::Ways
-    } else if same(s, &KINDS) {
-        Word::Kinds
-    } else if same(s, &SHORT) {
-        Word::Short
-    } else {
-        Word::Unreadable
-    }
-}
-
-fn row(tag: u16, count: u16, limit: u16, kind: u16) -> Form
-    ensures { λ r. ⌜ r ≡ Words·form tag count limit kind ⌝ }
-{
-    Form {
-        tag,
-        count,
-        limit,
-        kind,
-    }
-}
-
-// The table of words.
-fn form_of(word: Word) -> Form
-    ensures { λ r. ⌜ r ≡ formOf word ⌝ }
+// A number for each word.
+fn tag_of(word: Word) -> u16
+    ensures { λ r. ⌜ r ≡ tagOf word ⌝ }
 {
     match word {
-        Word::Game => row(0, 2, 65535, 0),
-        Word::Pay => row(1, 1, 511, 1),
-        Word::Move => row(2, 2, 65535, 0),
-        Word::Go => row(3, 0, 65535, 0),
-        Word::Add => row(4, 2, 65535, 0),
-        Word::Cut => row(5, 2, 65535, 0),
-        Word::Mark => row(6, 1, 65535, 1),
-        Word::Unmark => row(7, 1, 65535, 1),
-        Word::Begin => row(8, 0, 65535, 0),
-        Word::End => row(9, 0, 65535, 0),
-        Word::Ways => row(10, 1, 65535, 0),
-        Word::Kinds => row(11, 1, 65535, 0),
-        Word::Short => row(12, 1, 65535, 0),
-        Word::Unreadable => row(13, 0, 65535, 0),
+        Word::Game => 0,
+        Word::Pay => 1,
+        Word::Move => 2,
+        Word::Go => 3,
+        Word::Add => 4,
+        Word::Cut => 5,
+        Word::Mark => 6,
+        Word::Unmark => 7,
+        Word::Begin => 8,
+        Word::End => 9,
+        Word::Ways => 10,
+        Word::Kinds => 11,
+        Word::Short => 12,
+        Word::Unreadable => 13,
     }
 }
 
@@ -233,9 +187,57 @@ fn form_of(word: Word) -> Form
 pub fn is_word(v: Word, w: Word) -> bool
     ensures { λ r. ⌜ r ≡ isWord v w ⌝ }
 {
-    let a = form_of(v);
-    let b = form_of(w);
-    a.tag == b.tag
+    tag_of(v) == tag_of(w)
+}
+
+// The row that was found before, or, where there is none and the field spells the word of this one, this one.
+fn or_row(
+    found: Row,
+    s: &[u8],
+    spelling: &[u8],
+    word: Word,
+    count: u16,
+    limit: u16,
+    kind: u16,
+) -> Row
+    ensures { λ r. ⌜ r ≡ orRow found (now (s .entry)) (now (spelling .entry)) (rowWith word count limit kind) ⌝ }
+{
+    let before = found.word;
+    if is_word(before, Word::Unreadable) && same(s, spelling) {
+        return Row {
+            word,
+            count,
+            limit,
+            kind,
+        };
+    }
+    found
+}
+
+// The table of words, and the row of the word that a field spells.
+fn read_row(s: &[u8]) -> Row
+    ensures { λ r. ⌜ r ≡ rowOf (wordOf (now (s .entry))) ⌝ }
+{
+    let r = Row {
+        word: Word::Unreadable,
+        count: 0,
+        limit: 65535,
+        kind: 0,
+    };
+    let r = or_row(r, s, &GAME, Word::Game, 2, 65535, 0);
+    let r = or_row(r, s, &PAY, Word::Pay, 1, 511, 1);
+    let r = or_row(r, s, &MOVE, Word::Move, 2, 65535, 0);
+    let r = or_row(r, s, &GO, Word::Go, 0, 65535, 0);
+    let r = or_row(r, s, &ADD, Word::Add, 2, 65535, 0);
+    let r = or_row(r, s, &CUT, Word::Cut, 2, 65535, 0);
+    let r = or_row(r, s, &MARK, Word::Mark, 1, 65535, 1);
+    let r = or_row(r, s, &UNMARK, Word::Unmark, 1, 65535, 1);
+    let r = or_row(r, s, &BEGIN, Word::Begin, 0, 65535, 0);
+    let r = or_row(r, s, &END, Word::End, 0, 65535, 0);
+    let r = or_row(r, s, &WAYS, Word::Ways, 1, 65535, 0);
+    let r = or_row(r, s, &KINDS, Word::Kinds, 1, 65535, 0);
+    let r = or_row(r, s, &SHORT, Word::Short, 1, 65535, 0);
+    r
 }
 
 fn unreadable() -> Record
@@ -265,27 +267,27 @@ fn read_item(line: &[u8], at: usize, limit: u16) -> Item
 }
 
 // How large the number behind the first may be: a kind is at most 4.
-fn second_limit(word: Word) -> u16
-    ensures { λ r. ⌜ r ≡ secondLimit word ⌝ }
+fn second_limit(row: Row) -> u16
+    ensures { λ r. ⌜ r ≡ secondLimit row ⌝ }
 {
-    let form = form_of(word);
-    if 0 < form.kind { 4 } else { form.limit }
+    if 0 < row.kind { 4 } else { row.limit }
 }
 
 // The record of a word behind which so many numbers stand: as many as it takes, or a kind behind them, which is not 0.
-fn filled(word: Word, count: u16, first: u16, second: u16) -> Record
-    ensures { λ r. ⌜ r ≡ filledWith word count first second ⌝ }
+fn filled(row: Row, count: u16, first: u16, second: u16) -> Record
+    requires { ⌜ row .count ≤ 2 ⌝ }
+    ensures { λ r. ⌜ r ≡ filledWith row count first second ⌝ }
 {
-    let form = form_of(word);
+    let word = row.word;
     let record = Record {
         word,
         first,
         second,
     };
-    if count == form.count {
+    if count == row.count {
         return record;
     }
-    if 0 < form.kind && count == form.count + 1 && 0 < second {
+    if 0 < row.kind && count == row.count + 1 && 0 < second {
         return record;
     }
     unreadable()
@@ -299,17 +301,16 @@ pub fn read_record(line: &[u8]) -> Record
         return unreadable();
     }
     let name = field(line, 0);
-    let word = read_word(name);
-    let form = form_of(word);
-    match read_item(line, name.len(), form.limit) {
-        Item::End => filled(word, 0, 0, form.kind),
+    let row = read_row(name);
+    match read_item(line, name.len(), row.limit) {
+        Item::End => filled(row, 0, 0, row.kind),
         Item::Bad => unreadable(),
-        Item::Is(first, end) => match read_item(line, end, second_limit(word)) {
-            Item::End => filled(word, 1, first, form.kind),
+        Item::Is(first, end) => match read_item(line, end, second_limit(row)) {
+            Item::End => filled(row, 1, first, row.kind),
             Item::Bad => unreadable(),
             Item::Is(second, last) => {
                 if last == line.len() {
-                    return filled(word, 2, first, second);
+                    return filled(row, 2, first, second);
                 }
                 unreadable()
             }
