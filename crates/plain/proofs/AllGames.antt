@@ -2,13 +2,15 @@
 -- here first. Assumes nothing.
 use mathlib.Core.Path.{_≡_, refl, ap₂}
 use mathlib.Core.List.{List, [], _∷_, map}
-use Rattle.plain.specs.Lists.{any, all, filter, anyBelow, elem, before, from}
+use Rattle.plain.specs.Lists.{any, all, filter, anyBelow, below, elem, before, from}
 use Rattle.plain.specs.Search.{onPath, finishes, step, steps, finished, until, statesOf, stemOf, cycleOf, verdict}
 use Rattle.plain.specs.Layers.{copy, layerOf, stateOf, copies, copiesOf, next}
 use Rattle.plain.specs.Table.{bit, accepts, withBit, withMark, withoutBit, withoutMark, countBelow, carriedBy, acceptingCount, row, printed, printedVerdict, budget, final, firstMeeting}
 use Rattle.plain.specs.Refusals.{firstHeld, pairs, sameEdge, present, badSize, badStart, badMarks, badCount, outside, repeated, beyond, badKinds, full, shortRoom, loadTrial}
 use Rattle.plain.specs.Machine.{named, tableOf, inKind, without, apply, conditions, misnamed, changeTrial, lineConditions, changesIn, applyAll, namedAll, linesTrial, batchTrial, applied, namedBy, updateTrial, positionIn, unexplored, passedOver, keepsAll, keptPart, kept, upToKind, toKinds, kindsTrial, loadAnswer, trialOf, callAnswer, answerTo, tableAfter, answers, answerLine, answerLines, Line, gameLine, noneLine, transcript}
-use Rattle.plain.specs.Games.{Known, wordOf, marksOf, knownIn, knownBy, known, lent, gameH, returning, switching, games}
+use Rattle.plain.specs.Shortest.{leads, reached, roots, noted, sweep, targetsOf, levels, attempt, hunt}
+use Rattle.plain.specs.Questions.{short, questionTrial, huntIn, lengthsFor, shortReply, questionReply, replyTo}
+use Rattle.plain.specs.Games.{Known, wordOf, marksOf, knownIn, knownBy, known, lent, gameH, returning, switching, games, Asked, askedIn, asked, shortGames}
 
 -- the lines printed for a game
 abbrev linesOf : Known → List Line
@@ -34,3 +36,8 @@ all-of (k ∷ ks) h = ap₂ (λ (ls : List Line) (lss : List (List Line)). ls �
 
 pub all-games : map (λ (k : Known). transcript (k .load) 512 (map lent (k .commands))) games ≡ map (λ (k : Known). k .lines) games
 all-games = all-of games (as-known .1)
+
+-- ticket 11: the replies of the games for which the shortest round is asked
+pub short-games : map (λ (a : Asked). map (λ b. replyTo (short b) (tableOf (a .load))) (a .budgets)) shortGames ≡ map (λ (a : Asked). a .replies) shortGames
+unfolding any filter below elem before from onPath step steps statesOf stemOf cycleOf verdict bit accepts copy layerOf stateOf next carriedBy row budget final firstHeld pairs leads reached roots noted sweep targetsOf levels attempt hunt questionTrial huntIn lengthsFor shortReply questionReply replyTo tableOf wordOf marksOf askedIn asked shortGames
+short-games = refl

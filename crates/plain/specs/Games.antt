@@ -4,6 +4,7 @@ use Prim.Native.Nat.{ℕ, zero, suc, _+_, _^_}
 use mathlib.Core.List.{List, [], _∷_, _++_, map}
 use lib.ListN.{replicate}
 use Rattle.plain.specs.Refusals.{Load}
+use Rattle.plain.specs.Questions.{Reply, noReply, shortest, noRound}
 use Rattle.plain.specs.Machine.{Change, add, cut, mark, unmark, BatchLine, makes, other, Update, single, batch, Command, update, setKinds, atLine, Call, numbered, Line, gameLine, roundLine, noneLine, noLine}
 
 -- a game, what is asked of it in turn, and the lines printed
@@ -225,4 +226,37 @@ games =
     ∷ noLine (numbered 16)
     ∷ roundLine 4 0 0 2 (0 ∷ 1 ∷ [])
     ∷ [])
+    ∷ []
+
+-- ---- ticket 11
+
+-- a game as it is loaded, the budgets with which the shortest round is asked for, and the replies
+pub record Asked : Type 0 where
+  pub load : Load
+  pub budgets : List ℕ
+  pub replies : List Reply
+
+unfoldable pub askedIn : ℕ → ℕ → List (List ℕ) → List ℕ → List ℕ → List Reply → Asked
+askedIn n k marks numbers bs rs = record { load = record { size = n; start = 0; kinds = k; marks = marks; numbers = numbers }; budgets = bs; replies = rs }
+
+-- one kind of pay: N states, start 0, the paying states, the moves as numbers
+unfoldable pub asked : ℕ → List ℕ → List ℕ → List ℕ → List Reply → Asked
+asked n paying numbers bs rs = askedIn n 1 (marksOf paying [] [] []) numbers bs rs
+
+-- With the looks beside them: each search is written as the state from which it is made and the targets that it looks at, oldest first.
+unfoldable pub shortGames : List Asked
+shortGames =
+    -- the paying state has a move to itself, behind the one to 0. Length 1: from 1 to 0, 1
+    asked 2 (1 ∷ []) (0 ∷ 1 ∷ 1 ∷ 0 ∷ 1 ∷ 1 ∷ []) (0 ∷ 1 ∷ 2 ∷ 65535 ∷ []) (shortest 2 1 ∷ shortest 2 1 ∷ shortest 1 1 ∷ shortest 1 1 ∷ [])
+    -- game C. Length 1: from 1 to 0. Length 2: from 1 to 0, then 1
+    ∷ asked 2 (1 ∷ []) (0 ∷ 1 ∷ 1 ∷ 0 ∷ []) (0 ∷ 1 ∷ 2 ∷ 3 ∷ []) (shortest 2 1 ∷ shortest 2 2 ∷ shortest 2 2 ∷ shortest 2 2 ∷ [])
+    -- both states pay. Length 1: from 0 to 1; from 1 to 0, 1
+    ∷ asked 2 (0 ∷ 1 ∷ []) (0 ∷ 1 ∷ 1 ∷ 0 ∷ 1 ∷ 1 ∷ []) (0 ∷ 1 ∷ 2 ∷ 3 ∷ []) (shortest 2 1 ∷ shortest 2 1 ∷ shortest 2 1 ∷ shortest 1 1 ∷ [])
+    -- state 3 pays and has a move to itself, and cannot be reached. Length 1: from 1 to 2. Length 2: from 1 to 2, then 0. Length 3: from 1 to 2, then 0, then 1
+    ∷ asked 4 (1 ∷ 3 ∷ []) (0 ∷ 1 ∷ 1 ∷ 2 ∷ 2 ∷ 0 ∷ 3 ∷ 3 ∷ []) (0 ∷ 1 ∷ 2 ∷ 3 ∷ 5 ∷ 6 ∷ []) (shortest 3 1 ∷ shortest 3 2 ∷ shortest 3 2 ∷ shortest 3 3 ∷ shortest 3 3 ∷ shortest 3 3 ∷ [])
+    -- the walk's round, 0, 1, 2, is longer than the one of 1 and 2. Length 1: from 2 to 0, 1. Length 2: from 2 to 0, 1, then from 0 to 1, from 1 to 2
+    ∷ asked 3 (2 ∷ []) (0 ∷ 1 ∷ 1 ∷ 2 ∷ 2 ∷ 0 ∷ 2 ∷ 1 ∷ []) (1 ∷ 2 ∷ 5 ∷ 6 ∷ []) (shortest 3 1 ∷ shortest 3 2 ∷ shortest 3 2 ∷ shortest 2 2 ∷ [])
+    -- no state pays; and two kinds
+    ∷ asked 2 [] (0 ∷ 1 ∷ 1 ∷ 0 ∷ []) (0 ∷ 5 ∷ []) (noRound ∷ noRound ∷ [])
+    ∷ askedIn 2 2 (marksOf (0 ∷ []) (1 ∷ []) [] []) (0 ∷ 1 ∷ 1 ∷ 0 ∷ []) (0 ∷ 5 ∷ []) (noReply 17 ∷ noReply 17 ∷ [])
     ∷ []
