@@ -28,6 +28,9 @@ number-at-requires c κs = search needs
 returns : tie.Need-returns Inv-loop μ-loop
 returns c = search needs
 
+is-question-requires : tie.Need-is-question-requires Inv-loop μ-loop
+is-question-requires c κs = search needs
+
 ask-at-requires : tie.Need-ask-at-requires Inv-loop μ-loop
 ask-at-requires c κs = search needs
 
@@ -65,7 +68,7 @@ update-at-requires c κs = search needs
 lent-length : (c : tie.Joined3 Inv-loop μ-loop) → length (c .if3 .lent) ≡ 600
 lent-length c =
     let f = c .before .before in
-    let filled : length (f .fill .last .0) ≡ 600 = f .fill .kept .0 ∙ f .before .before .before .before .before .before .loop .inv in
+    let filled : length (f .fill .last .0) ≡ 600 = f .fill .kept .0 ∙ f .before .before .before .before .before .before .before .loop .inv in
     ⊎-elim (λ w. ap length (w .4) ∙ w .2 .kept .1 .1 .0 ∙ filled)
     (λ w. ap length (w .4) ∙ w .2 .kept .1 .1 .1 .1 .0 ∙ filled)
     (c .if3 .came)
@@ -102,6 +105,7 @@ replay-block-spec =
     loop-holds
     number-at-requires
     returns
+    is-question-requires
     ask-at-requires
     size-at-requires
     add-at
