@@ -1,6 +1,5 @@
--- The steps of reading a record: the row of a word, what stands behind a field, and the record of a word with so many numbers. Cited by internal contracts
--- alone.
--- Assumes nothing.
+-- The steps of reading a record: the row of a word, what stands behind a field, and the record of a word with so many numbers. Cited by internal
+-- contracts alone. Assumes nothing.
 use Prim.Native.Nat.{ℕ, suc, _+_}
 use mathlib.Core.Bool.{cond, _&&_, _||_}
 use mathlib.Core.List.{List}
@@ -19,7 +18,7 @@ use Rattle.line.specs.Numbers.{numberOf}
 use Rattle.line.specs.Words.{countOf, limitOf, kindOf, isWord}
 use Rattle.line.specs.Records.{sameBytes, unreadable}
 
--- a word, and what it asks for
+-- a row of the table of words: a word, and what it asks for
 abbrev pub rowWith : Word → ℕ → ℕ → ℕ → Row
 rowWith w count limit kind = record { word = w; count = count; limit = limit; kind = kind }
 

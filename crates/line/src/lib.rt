@@ -161,7 +161,7 @@ fn same(a: &[u8], b: &[u8]) -> bool
     true
 }
 
-// A number for each word.
+// A number for each word, by which words are told apart.
 fn tag_of(word: Word) -> u16
     ensures { λ r. ⌜ r ≡ tagOf word ⌝ }
 {
@@ -190,7 +190,7 @@ pub fn is_word(v: Word, w: Word) -> bool
     tag_of(v) == tag_of(w)
 }
 
-// The row that was found before, or, where there is none and the field spells the word of this one, this one.
+// One row of the table: what was found before it, or, where that is nothing and the field spells its word, this row.
 fn or_row(
     found: Row,
     s: &[u8],
