@@ -11,7 +11,7 @@ use lib.Seq.{getD-append-seam, getD-set-other}
 use borrow.Author.Tests.{ltb-true, lt-ltb, eq-eqb, eqb-false}
 use Rattle.plain.specs.Lists.{elem, In, before, Begins}
 use Rattle.plain.specs.Search.{Graph, Frame, frame, onPath, statesOf}
-use Rattle.plain.proofs.Tests.{contra, either, not-true, same, self, and-true, in-nil, in-head, in-tail, in-cases, not-in, or-false}
+use Rattle.plain.proofs.Tests.{contra, either, not-true, same, self, and-true, in-nil, in-cases, not-in, or-false, in-getD}
 use Rattle.plain.proofs.Paths.{On, Off, Distinct, on-cases}
 use Rattle.plain.proofs.Lassos.{on-states, states-on, before-hit, before-miss}
 use Rattle.plain.proofs.Walks.{begins-getD, states-length}
@@ -38,11 +38,6 @@ placed-at depth x (frame y ts ∷ p) h o = ⊎-elim
     (λ q. let r = placed-at depth x p (h .1) q in
     (omega (arith, r .0), List·getD-append (statesOf p) (y ∷ []) 0 (getD depth x 0) (omega (arith, r .0, states-length p)) ∙ r .1))
     (on-cases x y ts p o)
-
-in-getD : (xs : List ℕ) (i : ℕ) → i < length xs → In (getD xs i 0) xs
-in-getD [] i h = absurd (omega arith)
-in-getD (x ∷ xs) zero h = in-head x xs
-in-getD (x ∷ xs) (suc i) h = in-tail (getD xs i 0) x xs (in-getD xs i (omega arith))
 
 -- the test for the open path is right
 pub on-test : (walk depth : List ℕ) (height t : ℕ) (p : List Frame) → height ≡ length p → Begins (statesOf p) walk → Placed depth p → onOpenPath walk depth height t ≡ onPath t p

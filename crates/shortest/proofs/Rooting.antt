@@ -14,7 +14,7 @@ use Rattle.plain.specs.Table.{Table, accepts, carriedBy, row, graphOf}
 use Rattle.plain.specs.Refusals.{badStart}
 use Rattle.plain.specs.Shortest.{leads, reached, roots, Sweep as PlainSweep, through, back, stopped, levels, hunt}
 use Rattle.plain.specs.Questions.{huntIn}
-use Rattle.plain.proofs.Tests.{contra, either, not-true, in-head, in-tail, filter-yes, filter-no, filter-short}
+use Rattle.plain.proofs.Tests.{contra, either, not-true, in-getD, filter-yes, filter-no, filter-short}
 use Rattle.plain.proofs.Upto.{upto, upto-in, in-upto, once-upto}
 use Rattle.plain.proofs.Walks.{begins-push}
 use Rattle.plain.proofs.Tables.{Valid, valid, edges-most}
@@ -162,11 +162,6 @@ module _ (targets starts words : List ℕ) (size start : ℕ) (b : Board) (r : S
 
 -- ---- all lengths, from these roots
 
-getD-in : (xs : List ℕ) (i : ℕ) → i < length xs → In (getD xs i 0) xs
-getD-in [] i h = absurd (omega arith)
-getD-in (x ∷ xs) zero h = in-head x xs
-getD-in (x ∷ xs) (suc i) h = in-tail (getD xs i 0) x xs (getD-in xs i (omega arith))
-
 pub shortened : (targets starts words : List ℕ) (size start : ℕ) (queue list : List ℕ) (count budget present : ℕ) (r : Lengths)
     → FindsRoots targets starts words size start queue list count → TriesLengths targets starts list count budget present r
     → (t : Table) → Shortens t targets starts words size start present budget r
@@ -178,5 +173,5 @@ shortened targets starts words size start queue list count budget present r f tr
     low : States count list
     low i more =
         let inside : i < length (roots (graphOf t) (t .size)) = omega (arith, sym (ap length (f .roots-are t h)), entries-length count 0 list) in
-        let among = roots-below (graphOf t) (t .size) _ (getD-in (roots (graphOf t) (t .size)) i inside) in
+        let among = roots-below (graphOf t) (t .size) _ (in-getD (roots (graphOf t) (t .size)) i inside) in
         omega (arith, entries-first count list i more ∙ ap (λ (xs : List ℕ). getD xs i 0) (f .roots-are t h), among, small t targets starts words size start h)
