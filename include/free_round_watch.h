@@ -15,9 +15,10 @@ extern "C" {
  *     4,294,967,295 bytes counts as ending behind the last newline among these. A NUL byte ends nothing.
  *     A move may lead from a state to itself; refusal 7, which such moves had, no longer occurs. Behind `go`, `mark` and
  *     `unmark` switch a state's pay, and the changes between `begin` and `end` are all made or none, with one answer at `end`.
- *     `ways` asks how many moves leave and enter a state, and changes nothing. Straight behind `game`, `kinds` says that there are
- *     up to four kinds of pay, all of which a round has to pass; `pay`, `mark` and `unmark` take a kind behind the state. Behind
- *     `go`, `kinds` goes over to another count of kinds: what follows is answered as after a load of the game as it then is.
+ *     `ways` asks how many moves leave and enter a state, and `short` how short a round can be, within a budget of looks; both
+ *     change nothing. Straight behind `game`, `kinds` says that there are up to four kinds of pay, all of which a round has to
+ *     pass; `pay`, `mark` and `unmark` take a kind behind the state. Behind `go`, `kinds` goes over to another count of kinds:
+ *     what follows is answered as after a load of the game as it then is.
  * out, out_len: where the answer lines go, whole lines only, each ended by '\n' and with no NUL behind the last.
  *     At most the first 65,536 bytes are used; none is changed behind the last whole line that fits.
  *

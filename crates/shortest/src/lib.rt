@@ -261,6 +261,7 @@ fn try_lengths(
         }
         ruled_out = length;
     }
+    // No table comes to this: the present round is one of its length.
     Lengths {
         best: present,
         least: look::further(present),
