@@ -2,7 +2,7 @@
 use mathlib.Core.Path.{_≡_, refl, ap, subst⁻¹, transport, _∙_}
 use mathlib.Core.Bool.{Bool, true, false}
 use mathlib.Core.List.{List}
-use Prim.Native.Nat.{ℕ, _-_, _≤_}
+use Prim.Native.Nat.{ℕ, _-_}
 use native.Mathlib.Omega.{arith}
 use Rattle.plain.specs.Search.{Verdict, none, lasso, unfinished, verdict}
 use Rattle.plain.specs.Table.{final}
@@ -17,7 +17,7 @@ use Rattle.question.proofs.Replies.{ways-outside, ways-same, short-same}
 use Rattle.verdict.specs.Answers.{WalkOf}
 use Rattle.session.specs.declared.Session.{Session}
 use Rattle.session.specs.Model.{arraysHeld}
-use Rattle.session.specs.Promises.{Holds, Replies}
+use Rattle.session.specs.Promises.{Replies}
 
 -- the moves of the round of the walk that is held
 round-held : (stem len present : ℕ) (walk : List ℕ) → present ≡ len - stem → (w : Verdict) → WalkOf stem len walk w → RoundOf present w

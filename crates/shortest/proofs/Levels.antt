@@ -1,23 +1,22 @@
 -- Looks at the edges of a level's states, and levels one after the other: what is left comes to what the whole does. Assumes nothing.
-use mathlib.Core.Path.{_≡_, refl, sym, ap, subst, subst⁻¹, _∙_}
+use mathlib.Core.Path.{_≡_, refl, sym, ap, subst, _∙_}
 use mathlib.Core.Logic.{_⊎_, inl, inr, ⊎-elim}
-use mathlib.Core.Bool.{Bool, true, false}
-use mathlib.Core.List.{List, [], _∷_, _++_, append-nil}
-use Prim.Native.Nat.{ℕ, suc, _+_, _-_, _≤_, _<_}
+use mathlib.Core.Bool.{true, false}
+use mathlib.Core.List.{List, [], _++_, append-nil}
+use Prim.Native.Nat.{ℕ, suc, _+_, _≤_, _<_}
 use native.Mathlib.Numerals.{add-one}
 use native.Mathlib.Omega.{arith}
-use lib.ListN.{length, getD, drop, drop-of-length-le, length-append}
+use lib.ListN.{length, getD, drop, drop-of-length-le}
 use lib.Seq.{drop-cons}
-use Rattle.plain.specs.Lists.{In, Begins}
+use Rattle.plain.specs.Lists.{Begins}
 use Rattle.plain.specs.Search.{Graph}
-use Rattle.plain.specs.Shortest.{Sweep as PlainSweep, through, back, stopped, sweep, targetsOf, levels}
+use Rattle.plain.specs.Shortest.{Sweep as PlainSweep, through, back, stopped, sweep, targetsOf}
 use Rattle.plain.proofs.Tests.{contra}
 use Rattle.plain.proofs.Walks.{begins-getD}
 use Rattle.plain.proofs.Sweeps.{sweep-none, thenLook, sweep-append, begins-trans, sweep-begins}
-use Rattle.shortest.specs.declared.Sweep.{Sweep}
 use Rattle.shortest.specs.declared.Sweep.the-variants.{Through, Back, Stopped}
 use Rattle.shortest.specs.declared.Swept.{Swept}
-use Rattle.shortest.specs.Model.{goesOn, Board, boardOf, Sized, Stands, Rows, Comes, LooksThrough, LooksLevel}
+use Rattle.shortest.specs.Model.{goesOn, Board, Sized, Stands, Rows, Comes, LooksThrough, LooksLevel}
 
 -- ---- what has come of looks, by whether it goes on
 

@@ -2,23 +2,20 @@
 use mathlib.Core.Path.{_≡_, refl, sym, ap, subst, subst⁻¹, _∙_}
 use mathlib.Core.Logic.{_≢_}
 use mathlib.Core.Bool.{Bool}
-use mathlib.Core.List.{List, [], _∷_}
-use Prim.Native.Nat.{ℕ, suc, _+_, _-_, _%_, _≤_, _<_}
-use native.Mathlib.Numerals.{add-one}
-use native.Mathlib.Omega.{arith}
-use lib.ListN.{length, getD}
+use mathlib.Core.List.{List, _∷_}
+use Prim.Native.Nat.{ℕ, suc, _+_, _-_, _≤_, _<_}
+use lib.ListN.{getD}
 use Rattle.plain.specs.Lists.{In}
 use Rattle.plain.specs.Search.{Graph}
-use Rattle.plain.specs.Shortest.{noted, Sweep as PlainSweep, through, back, stopped, sweep}
+use Rattle.plain.specs.Shortest.{noted, Sweep as PlainSweep, sweep}
 use Rattle.plain.proofs.Tests.{in-head, in-tail}
 use Rattle.plain.proofs.Sweeps.{sweep-stops, sweep-returns, sweep-goes, sweep-none}
 use Rattle.rows.specs.Rows.{entries}
 use Rattle.rows.proofs.Entries.{entries-none, entries-next}
 use Rattle.look.specs.declared.Row.{Row}
-use Rattle.look.specs.Scan.{rowIn, Spans}
+use Rattle.look.specs.Scan.{Spans}
 use Rattle.look.proofs.Scans.{row-places}
 use Rattle.shortest.specs.declared.Sweep.the-variants.{Through, Back, Stopped}
-use Rattle.shortest.specs.declared.Swept.{Swept}
 use Rattle.shortest.specs.Model.{Board, boardOf, Sized, Stands, Rows, Notes, Comes, LooksThrough}
 
 module _ (targets starts : List ℕ) (budget goal v : ℕ) (b₀ : Board) (begin : ℕ) where

@@ -6,16 +6,15 @@ use mathlib.Core.List.{List, [], _∷_, _++_, append-nil}
 use Prim.Native.Nat.{ℕ, zero, suc, _+_, _≤_, _<_}
 use native.Mathlib.Numerals.{add-one}
 use native.Mathlib.Omega.{arith}
-use lib.ListN.{length, getD, set, length-append, length-set}
+use lib.ListN.{length, getD, length-append, length-set}
 use borrow.Author.Tests.{leb-false}
-use Rattle.plain.specs.Lists.{filter, below, elem, In, Begins}
-use Rattle.plain.specs.Search.{Graph}
-use Rattle.plain.specs.Table.{Table, accepts, carriedBy, row, graphOf}
+use Rattle.plain.specs.Lists.{filter, below, elem, Begins}
+use Rattle.plain.specs.Table.{Table, graphOf}
 use Rattle.plain.specs.Refusals.{badStart}
 use Rattle.plain.specs.Shortest.{leads, reached, roots, Sweep as PlainSweep, through, back, stopped, levels, hunt}
 use Rattle.plain.specs.Questions.{huntIn}
 use Rattle.plain.proofs.Tests.{contra, either, not-true, in-getD, filter-yes, filter-no, filter-short}
-use Rattle.plain.proofs.Upto.{upto, upto-in, in-upto, once-upto}
+use Rattle.plain.proofs.Upto.{upto, upto-in, once-upto}
 use Rattle.plain.proofs.Walks.{begins-push}
 use Rattle.plain.proofs.Tables.{Valid, valid, edges-most}
 use Rattle.plain.proofs.Demands.{total-le, target-below}
@@ -25,7 +24,6 @@ use Rattle.plain.proofs.ShortLooks.{levels-within}
 use Rattle.plain.proofs.Shortest.{levels-seen, levels-never-back}
 use Rattle.rows.specs.Rows.{entries}
 use Rattle.rows.proofs.Entries.{entries-length, entries-first, entries-front}
-use Rattle.look.specs.Numbers.{further}
 use Rattle.look.proofs.Counting.{further-more}
 use Rattle.shortest.specs.declared.Swept.{Swept}
 use Rattle.shortest.specs.declared.Lengths.{Lengths}

@@ -6,7 +6,7 @@ use Prim.Native.Nat.{ℕ, suc, _+_, _-_, _≤_, _<_}
 use native.Mathlib.Omega.{arith}
 use lib.ListN.{length, drop, replicate, drop-of-length-le}
 use Rattle.plain.specs.Search.{Graph}
-use Rattle.plain.specs.Shortest.{noted, Sweep as PlainSweep, through, back, stopped, sweep, targetsOf, levels}
+use Rattle.plain.specs.Shortest.{Sweep as PlainSweep, through, sweep, targetsOf, levels}
 use Rattle.plain.proofs.Tests.{out-nil}
 use Rattle.plain.proofs.Sweeps.{noted-new, thenLevels, levels-next, levels-over, levels-none}
 use Rattle.shortest.specs.declared.Sweep.the-variants.{Through}

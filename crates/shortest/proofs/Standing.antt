@@ -1,13 +1,12 @@
 -- The arrays stand for the states seen, and go on doing so where one more is noted. Assumes nothing.
-use mathlib.Core.Path.{_≡_, refl, sym, ap, subst, subst⁻¹, _∙_}
-use mathlib.Core.Logic.{_⊎_, ⊎-elim}
-use mathlib.Core.Bool.{Bool, true, false, _||_}
+use mathlib.Core.Path.{_≡_, refl, sym, ap, subst⁻¹, _∙_}
+use mathlib.Core.Logic.{⊎-elim}
+use mathlib.Core.Bool.{Bool, true, false}
 use mathlib.Core.List.{List, [], _∷_, _++_}
-use Prim.Native.Nat.{ℕ, zero, suc, _+_, _≤_, _<_}
+use Prim.Native.Nat.{ℕ, suc, _+_, _≤_, _<_}
 use native.Mathlib.Omega.{arith}
 use lib.ListN.{length, getD, set, replicate, length-append, length-set}
-use Rattle.plain.specs.Lists.{elem, In, Once, Begins}
-use Rattle.plain.specs.Shortest.{noted}
+use Rattle.plain.specs.Lists.{elem, In, Once}
 use Rattle.plain.proofs.Tests.{contra, either, not-true, in-nil, in-head, in-cases, in-one, in-append, in-left, in-right, out-nil}
 use Rattle.plain.proofs.Upto.{upto, upto-in, length-upto}
 use Rattle.plain.proofs.Lassos.{once-append}
@@ -15,7 +14,6 @@ use Rattle.plain.proofs.Bounds.{once-short}
 use Rattle.plain.proofs.Walks.{begins-push}
 use Rattle.plain.proofs.Sweeps.{noted-again, noted-new}
 use Rattle.look.specs.Numbers.{further}
-use Rattle.look.specs.Sets.{Members}
 use Rattle.look.proofs.Counting.{further-more}
 use Rattle.look.proofs.Sets.{members-insert, members-none}
 use Rattle.shortest.specs.Model.{Sized, Stands, Notes}

@@ -1,14 +1,14 @@
 -- A length, root by root, and lengths one after the other: what is left comes to what the whole does. Assumes nothing.
 use mathlib.Core.Path.{_≡_, refl, sym, ap, subst, _∙_}
-use mathlib.Core.Logic.{_⊎_, ⊎-elim}
-use mathlib.Core.Bool.{Bool, true, false}
-use mathlib.Core.List.{List, [], _∷_}
+use mathlib.Core.Logic.{⊎-elim}
+use mathlib.Core.Bool.{true, false}
+use mathlib.Core.List.{List, _∷_}
 use Prim.Native.Nat.{ℕ, suc, _+_, _-_, _≤_, _<_}
 use native.Mathlib.Numerals.{add-one}
 use native.Mathlib.Omega.{arith}
 use lib.ListN.{length, getD}
 use Rattle.plain.specs.Search.{Graph}
-use Rattle.plain.specs.Shortest.{Sweep as PlainSweep, through, back, stopped, searchFrom, Attempt, succeeded, ranOut, ruledOut, attempt, Hunt, foundAt, leftAt, hunt}
+use Rattle.plain.specs.Shortest.{searchFrom, Attempt, succeeded, ranOut, ruledOut, attempt, leftAt, hunt}
 use Rattle.plain.proofs.Tests.{contra}
 use Rattle.plain.proofs.Sweeps.{thenStates, attempt-next, attempt-over, thenLengths, hunt-next, hunt-over}
 use Rattle.rows.specs.Rows.{entries}
@@ -16,7 +16,7 @@ use Rattle.rows.proofs.Entries.{entries-none, entries-next}
 use Rattle.look.specs.Numbers.{further}
 use Rattle.look.proofs.Counting.{further-more}
 use Rattle.shortest.specs.declared.Sweep.{Sweep}
-use Rattle.shortest.specs.declared.Sweep.the-variants.{Through, Back, Stopped}
+use Rattle.shortest.specs.declared.Sweep.the-variants.{Through}
 use Rattle.shortest.specs.declared.Swept.{Swept}
 use Rattle.shortest.specs.declared.Lengths.{Lengths}
 use Rattle.shortest.specs.Model.{goesOn, Board, Rows, States, Comes, Searches, Ends, TriesLength, lengthsOf, lengthsAt, TriesLengths}

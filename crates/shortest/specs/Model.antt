@@ -1,5 +1,5 @@
 -- What the functions of the searches for a short round do, against the plain definitions: the arrays stand for the states that a plain search has seen. Cited by contracts. Assumes nothing.
-use Prim.Native.Nat.{ℕ, suc, _≤_, _<_}
+use Prim.Native.Nat.{ℕ, _≤_, _<_}
 use mathlib.Core.Path.{_≡_}
 use mathlib.Core.Bool.{Bool, true, false, _&&_}
 use mathlib.Core.List.{List, [], _∷_}

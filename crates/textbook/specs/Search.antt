@@ -5,8 +5,8 @@ use mathlib.Core.Path.{_≡_}
 use mathlib.Core.Bool.{Bool, true, false, _&&_, cond}
 use mathlib.Core.List.{List, [], _∷_, _++_}
 use lib.Dec.{ltb}
-use lib.ListN.{length, getD, replicate}
-use Rattle.plain.specs.Lists.{elem, Begins}
+use lib.ListN.{length, replicate}
+use Rattle.plain.specs.Lists.{Begins}
 use Rattle.plain.specs.Search.{Graph, Edge, Frame, frame, Config, outer, nested, found, run, statesOf, stemOf, cycleOf}
 use Rattle.plain.specs.Limits.{Limits}
 use Rattle.plain.specs.Table.{accepts}

@@ -1,5 +1,5 @@
 -- `look_level` meets its contract: each turn is a state of the level, and what is left of the level comes to what the whole does. Assumes nothing.
-use mathlib.Core.Path.{_≡_, sym, _∙_}
+use mathlib.Core.Path.{sym, _∙_}
 use Prim.Native.Nat.{_-_}
 use native.Mathlib.Omega.{arith}
 use borrow.Author.Tests.{not-true, not-false}
