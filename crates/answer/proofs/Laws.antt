@@ -173,7 +173,7 @@ unfolding field_of
 length_field n = omega arith
 
 -- a tab and a number of 16 bits
-pub field_short : (n : ℕ) → n < 65536 → length (field_of n) ≤ 6
+field_short : (n : ℕ) → n < 65536 → length (field_of n) ≤ 6
 field_short n h = omega (arith, length_field n, length_decimal n 4 (omega arith))
 
 fields_short : (ns : List ℕ) → ((i : ℕ) → get_or ns i 0 < 65536) → length (fields_of ns) ≤ 6 * length ns
@@ -182,7 +182,7 @@ fields_short [] h = omega arith
 fields_short (n ∷ ns) h =
     omega (arith, length-append (field_of n) (fields_of ns), field_short n (h 0), fields_short ns (λ i. h (suc i)))
 
-pub fields_append : (ms ns : List ℕ) → fields_of (ms ++ ns) ≡ fields_of ms ++ fields_of ns
+fields_append : (ms ns : List ℕ) → fields_of (ms ++ ns) ≡ fields_of ms ++ fields_of ns
 unfolding fields_of
 fields_append [] ns = refl
 fields_append (m ∷ ms) ns = rw (fields_append ms ns) (sym (append_assoc (field_of m) (fields_of ms) (fields_of ns)))
@@ -219,31 +219,14 @@ fields_room ns i h =
       length-append (fields_of (take i ns)) (field_of (get_or ns i 0)),
     )
 
--- how a line begins, its other numbers and the newline
-line_parts : (word head tail : List ℕ) → word ++ fields_of head ++ fields_of tail ++ (newline ∷ []) ≡ line_of word (head ++ tail)
+-- a line in the four parts that are put one behind the other
+pub line_parts : (word head tail : List ℕ) → word ++ fields_of head ++ fields_of tail ++ (newline ∷ []) ≡ line_of word (head ++ tail)
 unfolding line_of
 line_parts word head tail = rw (fields_append head tail) (simp append_assoc)
 
-pub length_parts : (word head tail : List ℕ) → length (line_of word (head ++ tail)) ≡ length (word ++ fields_of head) + length (fields_of tail) + 1
+pub length_parts : (word head tail : List ℕ)
+    → length (line_of word (head ++ tail)) ≡ length word + length (fields_of head) + length (fields_of tail) + 1
 length_parts word head tail = rw (← line_parts word head tail) (simp length-append)
-
--- where a line fits, its parts do, and put one behind the other they are the line
-module _ (word head tail d : List ℕ) (at : ℕ) (fits : at + length (line_of word (head ++ tail)) ≤ length d) where
-  pub head_room : at + length (word ++ fields_of head) ≤ length d
-  head_room = omega (arith, length_parts word head tail)
-
-  module _ (d1 : List ℕ) (r1 : ℕ) (first : Put d at (word ++ fields_of head) d1 r1) where
-    pub tail_room : length d1 ≡ length d → r1 + length (fields_of tail) ≤ length d1
-    tail_room e = omega (arith, length_parts word head tail, first.next)
-
-    module _ (d2 : List ℕ) (r2 : ℕ) (second : Put d1 r1 (fields_of tail) d2 r2) where
-      pub end_room : length d1 ≡ length d → length d2 ≡ length d1 → r2 < length d2
-      end_room e f = omega (arith, length_parts word head tail, first.next, second.next)
-
-      pub line_put : (d3 : List ℕ) (r3 : ℕ) → Put d2 r2 (newline ∷ []) d3 r3 → Put d at (line_of word (head ++ tail)) d3 r3
-      line_put d3 r3 third =
-          let h : at ≤ length d = omega arith in
-          rw (← line_parts word head tail) (put_then _ _ _ _ _ _ _ _ h (put_then _ _ _ _ _ _ _ _ h first second) third)
 
 pub length_line : (word ns : List ℕ) → ((i : ℕ) → get_or ns i 0 < 65536) → length (line_of word ns) ≤ length word + 6 * length ns + 1
 unfolding line_of

@@ -1,6 +1,6 @@
 -- Document 01, "Lines on the lead", its second paragraph: the output lines as bytes. Assumes nothing.
 use Rattle.std.specs.Prelude.{ℕ, zero, suc, ◌+◌, ◌/◌, ◌%◌, cond, List, [], ◌∷◌, ◌++◌, ltb}
-use Rattle.plain.specs.Machine.{Position, alone, at_line, Line, game_line, round_line, none_line, no_line, ways_line, short_line, no_round_line, all_line}
+use Rattle.plain.specs.Machine.{Position, alone, at_line, Line, game_line, round_line, none_line, no_line, ways_line, short_line, no_round_line}
 use Rattle.line.specs.Fields.{bytes, tab, newline}
 
 -- the decimal digits of n, the most significant first; the first argument is above n
@@ -31,7 +31,7 @@ position_fields (at_line i) = i ∷ []
 -- "`game`, N, the count of moves and the count of paying states"; "`round`, spent, kept, stem length, round length and the walk; or `none`, spent,
 -- kept; or `no` and the refusal number"; of a batch "one `no` line gives the number and the line's position"; of `ways` "the word, the
 -- state, the count of moves that leave it and the count that enter it"; of `short` "The line printed gives `short`, the length of the best round known, and the smallest
--- length not ruled out", and "With no round the line is `none` alone"; of `all` "the word, the count, and in rising order each" state
+-- length not ruled out", and "With no round the line is `none` alone"
 unfoldable pub render : Line → List ℕ
 render (game_line size moves paying) = line_of (bytes "game") (size ∷ moves ∷ paying ∷ [])
 render (round_line spent kept stem cycle walk) = line_of (bytes "round") (spent ∷ kept ∷ stem ∷ cycle ∷ walk)
@@ -40,7 +40,6 @@ render (no_line r) = line_of (bytes "no") (r.number ∷ position_fields r.positi
 render (ways_line s leaving entering) = line_of (bytes "ways") (s ∷ leaving ∷ entering ∷ [])
 render (short_line best least) = line_of (bytes "short") (best ∷ least ∷ [])
 render no_round_line = line_of (bytes "none") []
-render (all_line n states) = line_of (bytes "all") (n ∷ states)
 
 -- the bytes of some lines, one behind the other
 unfoldable pub rendered : List Line → List ℕ

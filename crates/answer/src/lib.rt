@@ -1,11 +1,10 @@
 // Output lines, put into a lent buffer: bytes, decimal numbers, whole lines.
 ghost use Rattle.std.specs.Prelude.{◌∷◌, [], ◌++◌, ◌+◌, ◌≤◌, ◌<◌, length};
-ghost use Rattle.plain.specs.Machine.{numbered, at_line, game_line, round_line, none_line, no_line, ways_line, short_line, no_round_line, all_line};
-ghost use Rattle.plain.specs.Table.{marked};
+ghost use Rattle.plain.specs.Machine.{numbered, at_line, game_line, round_line, none_line, no_line, ways_line, short_line, no_round_line};
 ghost use Rattle.answer.specs.Bytes.{Put};
 ghost use Rattle.answer.specs.Rendering.{decimal, field_of, fields_of, line_of, render};
 
-// The words of the output lines, beside `game`, `ways`, `short` and `all`.
+// The words of the output lines, beside `game`, `ways` and `short`.
 const ROUND_WORD: [u8; 5] = *b"round";
 
 const NONE_WORD: [u8; 4] = *b"none";
@@ -72,39 +71,15 @@ fn put_fields(out: &mut [u8], at: usize, numbers: &[u16]) -> usize
     next
 }
 
-// Puts a tab and a number for each state that is marked, in rising order.
-fn put_states(out: &mut [u8], at: usize, states: &[u64; 8]) -> usize
-    requires { at + length (fields_of (marked states.now)) ≤ length out.old }
-    ensures { Put out.old at (fields_of (marked states.now)) out.new result }
-{
-    let mut next = at;
-    let mut s: u16 = 0;
-    while s < 512 {
-        if marks::accepts_in(states, s as usize) {
-            next = put_field(out, next, s);
-        }
-        s += 1;
-    }
-    next
-}
-
-// Puts how a line begins: its word, and numbers behind it.
-fn put_head(out: &mut [u8], at: usize, word: &[u8], numbers: &[u16]) -> usize
-    requires { at + length (word.now ++ fields_of numbers.now) ≤ length out.old }
-    ensures { Put out.old at (word.now ++ fields_of numbers.now) out.new result }
-{
-    let next = put(out, at, word);
-    put_fields(out, next, numbers)
-}
-
 // Puts a line: its word, its numbers in two lists, and the newline.
 fn put_line(out: &mut [u8], at: usize, word: &[u8], head: &[u16], tail: &[u16]) -> usize
     requires { at + length (line_of word.now (head.now ++ tail.now)) ≤ length out.old }
     ensures { Put out.old at (line_of word.now (head.now ++ tail.now)) out.new result }
 {
-    let a = put_head(out, at, word, head);
-    let b = put_fields(out, a, tail);
-    put_byte(out, b, line::NEWLINE)
+    let a = put(out, at, word);
+    let b = put_fields(out, a, head);
+    let c = put_fields(out, b, tail);
+    put_byte(out, c, line::NEWLINE)
 }
 
 // The line of an accepted load.
@@ -166,17 +141,6 @@ pub fn put_no_round(out: &mut [u8], at: usize) -> usize
     ensures { Put out.old at (render no_round_line) out.new result }
 {
     put_line(out, at, &NONE_WORD, &EMPTY, &EMPTY)
-}
-
-// The answer of `all`: how many states lie on a round, and these, as eight words mark them.
-pub fn put_all(out: &mut [u8], at: usize, count: u16, states: &[u64; 8]) -> usize
-    requires { at + length (render (all_line count (marked states.now))) ≤ length out.old }
-    ensures { Put out.old at (render (all_line count (marked states.now))) out.new result }
-{
-    let head: [u16; 1] = [count];
-    let listed = put_head(out, at, &line::ALL, &head);
-    let end = put_states(out, listed, states);
-    put_byte(out, end, line::NEWLINE)
 }
 
 // A refusal.

@@ -17,7 +17,7 @@ use Rattle.batch.specs.declared.BatchLine.{BatchLine}
 use Rattle.batch.specs.Batches.{line_for, line_to}
 use Rattle.question.specs.declared.Question.{Question}
 use Rattle.question.specs.declared.Topic.{Topic}
-use Rattle.question.specs.declared.Topic.TheVariants.{Ways, Short, All}
+use Rattle.question.specs.declared.Topic.TheVariants.{Ways, Short}
 use Rattle.lead.specs.declared.Stage.{Stage}
 use Rattle.lead.specs.declared.Stage.TheVariants.{Waiting, Opened, Gathering, Playing, Batching, Over}
 use Rattle.lead.specs.declared.Lead.{Lead}
@@ -107,8 +107,8 @@ asked_opened l r = cond (is_word r.word Kinds)
 abbrev pub about : Topic → ℕ → Request
 about topic n = R.Question (record { topic = topic; number = n })
 
--- ".. then `add` and `cut`"; ticket 2: "Lines `mark` and `unmark` name a state"; ticket 5: `begin` and `end`; ticket 8: `ways`; ticket 10: `kinds`, "after `go` as well"; ticket 11: `short`;
--- ticket 12: `all`, with a number that says nothing. Any other word is misplaced.
+-- ".. then `add` and `cut`"; ticket 2: "Lines `mark` and `unmark` name a state"; ticket 5: `begin` and `end`; ticket 8: `ways`; ticket 10: `kinds`, "after `go` as well"; ticket 11: `short`.
+-- Any other word is misplaced.
 abbrev pub request_by : Word → ℕ → ℕ → Request
 request_by Word.Add first second = R.Change (Add first second)
 request_by Word.Cut first second = R.Change (Cut first second)
@@ -119,7 +119,6 @@ request_by Word.End first second = R.End
 request_by Word.Kinds first second = R.Kinds first
 request_by Word.Ways first second = about Ways first
 request_by Word.Short first second = about Short first
-request_by Word.All first second = about All first
 request_by Word.Game first second = R.Unknown
 request_by Word.Pay first second = R.Unknown
 request_by Word.Move first second = R.Unknown

@@ -236,7 +236,7 @@ fn about(topic: Topic, number: u16) -> Request
     Request::Question(Question { topic, number })
 }
 
-// After `go`: `add` and `cut`, `mark` and `unmark`, `begin` and `end`, `kinds`, `ways`, `short`, `all`.
+// After `go`: `add` and `cut`, `mark` and `unmark`, `begin` and `end`, `kinds`, `ways`, `short`.
 fn request_of(r: Record) -> Request
     ensures { result ≡ request_of r }
 {
@@ -259,7 +259,6 @@ fn request_of(r: Record) -> Request
         Word::Kinds => Request::Kinds(from),
         Word::Ways => about(Topic::Ways, from),
         Word::Short => about(Topic::Short, from),
-        Word::All => about(Topic::All, from),
         Word::Game => Request::Unknown,
         Word::Pay => Request::Unknown,
         Word::Move => Request::Unknown,

@@ -87,7 +87,6 @@ known W.End = refl
 known W.Ways = refl
 known W.Kinds = refl
 known W.Short = refl
-known W.All = refl
 known W.Unreadable = refl
 
 pub same_word : (v w : Word) → is_word v w ≡ true → v ≡ w

@@ -1,7 +1,7 @@
 -- Document 01, "Lines on the lead": the words, and a line as a record. Assumes nothing.
 use Rattle.std.specs.Prelude.{ℕ, suc, Bool, true, false, cond, ◌&&◌, ◌||◌, List, [], ◌∷◌, map, eqb, ltb, length, get_or, take, drop}
 use Rattle.line.specs.declared.Word.{Word}
-use Rattle.line.specs.declared.Word.TheVariants.{Game, Pay, Move, Go, Add, Cut, Mark, Unmark, Begin, End, Ways, Kinds, Short, All, Unreadable}
+use Rattle.line.specs.declared.Word.TheVariants.{Game, Pay, Move, Go, Add, Cut, Mark, Unmark, Begin, End, Ways, Kinds, Short, Unreadable}
 use Rattle.line.specs.declared.Record.{Record}
 use Rattle.line.specs.Fields.{bytes, fields_of}
 use Rattle.line.specs.Numbers.{all, value, is_number}
@@ -30,7 +30,6 @@ words =
     ∷ (bytes "ways", Ways)
     ∷ (bytes "kinds", Kinds)
     ∷ (bytes "short", Short)
-    ∷ (bytes "all", All)
     ∷ []
 
 -- the word that a field spells, by the table; an unknown one makes the line unreadable

@@ -1,7 +1,7 @@
 -- The words: what each asks for, and how they are told apart. Assumes nothing.
 use Rattle.std.specs.Prelude.{ℕ, Bool, eqb, ltb}
 use Rattle.line.specs.declared.Word.{Word}
-use Rattle.line.specs.declared.Word.TheVariants.{Game, Pay, Move, Go, Add, Cut, Mark, Unmark, Begin, End, Ways, Kinds, Short, All, Unreadable}
+use Rattle.line.specs.declared.Word.TheVariants.{Game, Pay, Move, Go, Add, Cut, Mark, Unmark, Begin, End, Ways, Kinds, Short, Unreadable}
 
 -- How many numbers follow a word, the largest that each may be, and the kind that is meant where none follows these, 0 for a word that takes no kind.
 pub record Form : Type 0 where
@@ -14,8 +14,8 @@ form count limit kind = record { count = count; limit = limit; kind = kind }
 
 -- "`game` (N, start), `pay` (state), `move` (from, to), `go`, `add` (from, to) and `cut` (from, to)": how many numbers follow each word, and the largest that
 -- each may be: "at most 65,535; in `pay` at most 511". `mark` (state) and `unmark` (state) come with document 02, ticket 2, `begin` and `end` with ticket 5,
--- `ways` (state) with ticket 8, `kinds` (K) with ticket 9, `short` (budget) with ticket 11: "a budget B of 0 to 65,535 looks", `all` with ticket 12: the word
--- alone. Ticket 9: "`pay`, `mark` and `unmark` take a kind after the state, 1 if left out": the last number is that kind, and 0 for a word that takes none.
+-- `ways` (state) with ticket 8, `kinds` (K) with ticket 9, `short` (budget) with ticket 11: "a budget B of 0 to 65,535 looks". Ticket 9: "`pay`, `mark` and
+-- `unmark` take a kind after the state, 1 if left out": the last number is that kind, and 0 for a word that takes none.
 abbrev pub form_of : Word → Form
 form_of Game = form 2 65535 0
 form_of Pay = form 1 511 1
@@ -30,7 +30,6 @@ form_of End = form 0 65535 0
 form_of Ways = form 1 65535 0
 form_of Kinds = form 1 65535 0
 form_of Short = form 1 65535 0
-form_of All = form 0 65535 0
 form_of Unreadable = form 0 65535 0
 
 abbrev pub count_of : Word → ℕ
@@ -62,8 +61,7 @@ tag_of End = 9
 tag_of Ways = 10
 tag_of Kinds = 11
 tag_of Short = 12
-tag_of All = 13
-tag_of Unreadable = 14
+tag_of Unreadable = 13
 
 -- is the one word the other?
 unfoldable pub is_word : Word → Word → Bool

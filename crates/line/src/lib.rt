@@ -33,8 +33,6 @@ pub const KINDS: [u8; 5] = *b"kinds";
 
 pub const SHORT: [u8; 5] = *b"short";
 
-pub const ALL: [u8; 3] = *b"all";
-
 pub const TAB: u8 = 9;
 
 pub const NEWLINE: u8 = 10;
@@ -62,7 +60,6 @@ pub enum Word {
     Ways,
     Kinds,
     Short,
-    All,
     Unreadable,
 }
 
@@ -185,8 +182,7 @@ fn tag_of(word: Word) -> u16
         Word::Ways => 10,
         Word::Kinds => 11,
         Word::Short => 12,
-        Word::All => 13,
-        Word::Unreadable => 14,
+        Word::Unreadable => 13,
     }
 }
 
@@ -244,7 +240,6 @@ fn read_row(s: &[u8]) -> Row
     let r = or_row(r, s, &WAYS, Word::Ways, 1, 65535, 0);
     let r = or_row(r, s, &KINDS, Word::Kinds, 1, 65535, 0);
     let r = or_row(r, s, &SHORT, Word::Short, 1, 65535, 0);
-    let r = or_row(r, s, &ALL, Word::All, 0, 65535, 0);
     r
 }
 

@@ -157,17 +157,17 @@ record Together (v w : Step) : Type 0 where
   pub table : Table
   pub table₂ : Table
   pub next_is : v.next ≡ holding batch table
-  pub next-is₂ : w.next ≡ holding batch table₂
+  pub next_is₂ : w.next ≡ holding batch table₂
   pub view : SameView table table₂
 
 -- a step that leaves the table
 still : (o : Open) (ls : List Line) (t u : Table) → SameView t u → Together (record { lines = ls; next = holding o t }) (record { lines = ls; next = holding o u })
-still o ls t u w = record { lines = refl; batch = o; table = t; table₂ = u; next_is = refl; next-is₂ = refl; view = w }
+still o ls t u w = record { lines = refl; batch = o; table = t; table₂ = u; next_is = refl; next_is₂ = refl; view = w }
 
 call_together : (x : Command) (t u : Table) → SameView t u → Together (call_step x (play_of t)) (call_step x (play_of u))
 call_together x t u w =
     let k = same_call (call_on x) w in
-    record { lines = ap answer_line k.same_answer; batch = closed; table = table_after (call_on x) t; table₂ = table_after (call_on x) u; next_is = refl; next-is₂ = refl; view = k.same_view }
+    record { lines = ap answer_line k.same_answer; batch = closed; table = table_after (call_on x) t; table₂ = table_after (call_on x) u; next_is = refl; next_is₂ = refl; view = k.same_view }
 
 play_together : (q : Request) (t u : Table) → SameView t u → Together (play_step q (play_of t)) (play_step q (play_of u))
 play_together (changing c) t u w = call_together (update (single c)) t u w
@@ -180,7 +180,7 @@ play_together (questioning q) t u w = record {
   table = t;
   table₂ = u;
   next_is = refl;
-  next-is₂ = refl;
+  next_is₂ = refl;
   view = w;
 }
 play_together unknown t u w = still closed (no_line (numbered 1) ∷ []) t u w
@@ -204,7 +204,7 @@ same_printed [] o t u w = refl
 same_printed (r ∷ rs) o t u w =
     let k = together o r t u w in
     let later : printed (step (holding o t) r).next rs ≡ printed (step (holding o u) r).next rs =
-    ap (λ (h : Held). printed h rs) k.next_is ∙ same_printed rs k.batch k.table k.table₂ k.view ∙ ap (λ (h : Held). printed h rs) (sym k.next-is₂) in
+    ap (λ (h : Held). printed h rs) k.next_is ∙ same_printed rs k.batch k.table k.table₂ k.view ∙ ap (λ (h : Held). printed h rs) (sym k.next_is₂) in
     λ i. k.lines i ++ later i
 
 -- so two texts behind which such tables are held end alike

@@ -2,24 +2,19 @@
 use mathlib.Core.Path.{◌≡◌, refl, ap, subst, ◌∙◌}
 use mathlib.Core.Logic.{◌≢◌}
 use mathlib.Core.List.{List, [], ◌∷◌}
-use Prim.Native.Nat.{ℕ, ◌<◌}
-use native.Mathlib.Decide.{dec_lt}
+use Prim.Native.Nat.{ℕ}
 use native.Mathlib.Omega.{arith}
-use lib.ListN.{length}
-use lib.Seq.{drop_at}
 use Rattle.plain.specs.Lists.{elem}
 use Rattle.plain.specs.Search.{Verdict, none, lasso, unfinished, verdict, count}
-use Rattle.plain.specs.Table.{Table, game_of, printed, printed_verdict, final}
+use Rattle.plain.specs.Table.{Table, printed_verdict, final}
 use Rattle.plain.specs.Refusals.{Trial, accepted, refused, first_held, beyond, Load, load_trial}
 use Rattle.plain.specs.Machine.{answer, Command, commanded, table_of, load_answer, call_answer, Call, trial_of, answer_to, table_after, Line, game_line, answer_line}
-use Rattle.plain.specs.Rounds.{on_rounds}
-use Rattle.plain.specs.Questions.{Question, ways, short, all, question_trial, question_reply, reply_to, reply_line}
-use Rattle.plain.specs.Claims.{Arises, loaded, report_of, ReportRight, CountsRight, LineTrue, LineCounted, RoundsRight, CountAgrees}
+use Rattle.plain.specs.Questions.{Question, ways, short, question_trial, question_reply, reply_to, reply_line}
+use Rattle.plain.specs.Claims.{Arises, loaded, report_of, ReportRight, CountsRight, LineTrue, LineCounted}
 use Rattle.plain.proofs.Trials.{never_handed}
 use Rattle.plain.proofs.Demands.{report_right}
 use Rattle.plain.proofs.Calls.{command_arises, command_counts, command_never_7}
 use Rattle.plain.proofs.Shortest.{short_told}
-use Rattle.plain.proofs.Rounds.{rounds_right, all_told}
 
 -- the first line of some
 unfoldable pub first_line : List Line → Line
@@ -31,83 +26,56 @@ no_line_lem : {l : Line} → [] ≡ l ∷ [] → ⊥
 no_line_lem e = let z : ◌≡◌ {A = ℕ} 0 1 = cc in omega arith
 
 -- a verdict of the plain search, told by a line
-verdict-told : (t : Table) (w : Verdict) (spent kept : ℕ) (l : Line) → ReportRight (report_of w) t → answer_line (answer w spent kept) ≡ l ∷ [] → LineTrue l t
+verdict_told : (t : Table) (w : Verdict) (spent kept : ℕ) (l : Line) → ReportRight (report_of w) t → answer_line (answer w spent kept) ≡ l ∷ [] → LineTrue l t
 unfolding answer_line report_of first_line
-verdict-told t none spent kept l r e = subst (λ (x : Line). LineTrue x t) (ap first_line e) r
-verdict-told t (lasso stem cycle) spent kept l r e = subst (λ (x : Line). LineTrue x t) (ap first_line e) r
-verdict-told t unfinished spent kept l r e = absurd (no_line_lem e)
+verdict_told t none spent kept l r e = subst (λ (x : Line). LineTrue x t) (ap first_line e) r
+verdict_told t (lasso stem cycle) spent kept l r e = subst (λ (x : Line). LineTrue x t) (ap first_line e) r
+verdict_told t unfinished spent kept l r e = absurd (no_line_lem e)
 
-counts-told : (c : Command) (t : Table) (w : Verdict) (spent kept : ℕ) (l : Line) → CountsRight c t spent kept → answer_line (answer w spent kept) ≡ l ∷ [] → LineCounted l c t
+counts_told : (c : Command) (t : Table) (w : Verdict) (spent kept : ℕ) (l : Line) → CountsRight c t spent kept → answer_line (answer w spent kept) ≡ l ∷ [] → LineCounted l c t
 unfolding answer_line first_line
-counts-told c t none spent kept l r e = subst (λ (x : Line). LineCounted x c t) (ap first_line e) r
-counts-told c t (lasso stem cycle) spent kept l r e = subst (λ (x : Line). LineCounted x c t) (ap first_line e) r
-counts-told c t unfinished spent kept l r e = absurd (no_line_lem e)
+counts_told c t none spent kept l r e = subst (λ (x : Line). LineCounted x c t) (ap first_line e) r
+counts_told c t (lasso stem cycle) spent kept l r e = subst (λ (x : Line). LineCounted x c t) (ap first_line e) r
+counts_told c t unfinished spent kept l r e = absurd (no_line_lem e)
 
 -- of a load that is accepted
 pub load_told : (load : Load) (room : ℕ) (l : Line) → load_trial load room ≡ accepted → answer_line (load_answer accepted (table_of load)) ≡ l ∷ [] → LineTrue l (table_of load)
 unfolding load_answer
 load_told load room l a e =
     let t = table_of load in
-    verdict-told t (printed_verdict t (verdict (final t))) (count (final t)) 0 l (report_right t (loaded load room a)) e
+    verdict_told t (printed_verdict t (verdict (final t))) (count (final t)) 0 l (report_right t (loaded load room a)) e
 
 -- of every call on a table that a session can hold
 pub record Told (c : Call) (t : Table) (l : Line) : Type 0 where
   pub truth : LineTrue l (table_after c t)
   pub counts : LineCounted l c.command t
 
-pub call-told : (c : Call) (t : Table) (l : Line) → Arises t → answer_line (answer_to c t) ≡ l ∷ [] → Told c t l
+pub call_told : (c : Call) (t : Table) (l : Line) → Arises t → answer_line (answer_to c t) ≡ l ∷ [] → Told c t l
 unfolding answer_to call_answer answer_line table_after first_line trial_of
-call-told c t l a e = by_trial (trial_of c t) refl e
+call_told c t l a e = by_trial (trial_of c t) refl e
   where
-    never-7 : (n : ℕ) → trial_of c t ≡ refused n → n ≢ 7
-    never-7 n k z = command_never_7 c.command t c.room (k ∙ ap refused z)
+    never_7 : (n : ℕ) → trial_of c t ≡ refused n → n ≢ 7
+    never_7 n k z = command_never_7 c.command t c.room (k ∙ ap refused z)
 
     by_trial : (x : Trial) → trial_of c t ≡ x → answer_line (call_answer x c t) ≡ l ∷ [] → Told c t l
     by_trial accepted k f =
         let t' = commanded c.command t in
         let b = command_arises c.command t c.room a k in
         record {
-          truth = rw k (verdict-told t' (printed_verdict t' (verdict (final t'))) _ _ l (report_right t' b) f);
-          counts = counts-told c.command t (printed_verdict t' (verdict (final t'))) _ _ l (command_counts c.command t c.room a k) f;
+          truth = rw k (verdict_told t' (printed_verdict t' (verdict (final t'))) _ _ l (report_right t' b) f);
+          counts = counts_told c.command t (printed_verdict t' (verdict (final t'))) _ _ l (command_counts c.command t c.room a k) f;
         }
     by_trial (refused n) k f = record {
-      truth = subst (λ (x : Line). LineTrue x (table_after c t)) (ap first_line f) (never-7 n k);
+      truth = subst (λ (x : Line). LineTrue x (table_after c t)) (ap first_line f) (never_7 n k);
       counts = subst (λ (x : Line). LineCounted x c.command t) (ap first_line f) tt;
     }
 
 -- of every question on such a table
-pub reply-told : (q : Question) (t : Table) → Arises t → LineTrue (reply_line (reply_to q t)) t
+pub reply_told : (q : Question) (t : Table) → Arises t → LineTrue (reply_line (reply_to q t)) t
 unfolding elem reply_to question_trial question_reply reply_line
-reply-told (short b) t a = short_told t a b
-reply-told all t a = all_told t a
-reply-told (ways s) t a = by_trial (first_held ((6, beyond t.size s) ∷ [])) refl
+reply_told (short b) t a = short_told t a b
+reply_told (ways s) t a = by_trial (first_held ((6, beyond t.size s) ∷ [])) refl
   where
     by_trial : (x : Trial) → first_held ((6, beyond t.size s) ∷ []) ≡ x → LineTrue (reply_line (question_reply x (ways s) t)) t
     by_trial accepted k = (refl, refl)
     by_trial (refused n) k = λ z. never_handed 7 ((6, beyond t.size s) ∷ []) refl (k ∙ ap refused z)
-
--- Behind the line that tells the verdict of a table, the count and the states of `all` agree with it.
-pub verdict-agrees : (t : Table) → Arises t → (spent kept : ℕ) (l : Line) → answer_line (answer (printed_verdict t (verdict (final t))) spent kept) ≡ l ∷ []
-    → CountAgrees l (length (on_rounds (game_of t))) (on_rounds (game_of t))
-unfolding answer_line printed_verdict first_line
-verdict-agrees t a spent kept l e = by_verdict (verdict (final t)) refl e
-  where
-    agrees : Line → Type 0
-    agrees x = CountAgrees x (length (on_rounds (game_of t))) (on_rounds (game_of t))
-
-    right : RoundsRight t
-    right = rounds_right t a
-
-    some : (stem cycle : List ℕ) → verdict (final t) ≡ lasso stem cycle → 0 < length (on_rounds (game_of t))
-    some stem cycle k = elim (dec_lt 0 (length (on_rounds (game_of t)))) [
-      | yes h ↦ h
-      | no h ↦ let n : verdict (final t) ≡ none = right.zero_only (omega arith) in
-          let z : ◌≡◌ {A = ℕ} 0 1 = cc in absurd (omega arith)
-    ]
-
-    by_verdict : (w : Verdict) → verdict (final t) ≡ w → answer_line (answer (printed_verdict t w) spent kept) ≡ l ∷ [] → agrees l
-    by_verdict none k f = subst agrees (ap first_line f) (right.zero_if k)
-    by_verdict (lasso stem cycle) k f =
-        let walk = drop_at (printed t stem) (printed t cycle) (length (printed t stem)) refl in
-        subst agrees (ap first_line f) (some stem cycle k, λ s i. right.walk_listed stem cycle k s (rw walk at i))
-    by_verdict unfinished k f = absurd (no_line_lem f)

@@ -12,7 +12,7 @@ use Rattle.plain.specs.Cycles.{Kinded, FullLoop, OneMoveRound}
 use Rattle.plain.specs.Table.{Table, bit, accepts, carried_by, row, game_of, budget, final}
 use Rattle.plain.specs.Refusals.{first_held, pairs, same_edge, present, bad_size, bad_start, bad_marks, bad_count, bad_kinds, outside, repeated, short_room, load_trial}
 use Rattle.plain.specs.Layers.{copy, layer_of, state_of, next}
-use Rattle.plain.specs.Machine.{table_of, Line, game_line, round_line, none_line, no_line, ways_line, short_line, no_round_line, all_line}
+use Rattle.plain.specs.Machine.{table_of, Line, game_line, round_line, none_line, no_line, ways_line, short_line, no_round_line}
 use Rattle.plain.specs.Claims.{Arises, loaded, LineTrue, LoopTold}
 use Rattle.plain.specs.Games.{word_of, marks_of, known_by, known, known_in, returning}
 use Rattle.plain.proofs.Tests.{in_head}
@@ -50,7 +50,6 @@ loop_told (no_line r) t h s = tt
 loop_told (ways_line v leaving entering) t h s = tt
 loop_told (short_line best least) t h s = tt
 loop_told no_round_line t h s = h (loop_round (game_of t) s).0
-loop_told (all_line n states) t h s = tt
 
 first_kind : (kind : ℕ) → kind < 1 → carried_by returning.load.marks kind 1 ≡ true
 unfolding bit accepts carried_by word_of marks_of known_by known known_in returning

@@ -12,8 +12,7 @@ use Rattle.plain.specs.Search.{Graph}
 use Rattle.plain.specs.Cycles.{Run, Kinded, PassesAll, OnRound}
 use Rattle.plain.specs.Shortest.{reached}
 use Rattle.plain.specs.Table.{Table, game_of, printed}
-use Rattle.plain.specs.Machine.{all_line}
-use Rattle.plain.specs.Claims.{Arises, LineTrue, RoundsRight}
+use Rattle.plain.specs.Claims.{Arises, RoundsRight}
 use Rattle.plain.specs.Rounds.{reaches, returns, passes_kind, lies_on_round, on_rounds}
 use Rattle.plain.proofs.Tests.{and-true, and_both, in_nil, in_head, in_tail, in_cases, in_left, in_right, any_in, any_some, all_holds, all_member, in_filter, filter_in}
 use Rattle.plain.proofs.Upto.{in_below, below_in, rising_below, rising_filter, rising_same}
@@ -241,7 +240,3 @@ module _ (t : Table) (v : Valid t) where
 -- TICKET 12, of every table that a session can hold
 pub rounds_right : (t : Table) → Arises t → RoundsRight t
 rounds_right t a = table_rounds t (valid t a)
-
--- the line that tells it is true
-pub all_told : (t : Table) → Arises t → LineTrue (all_line (length (on_rounds (game_of t))) (on_rounds (game_of t))) t
-all_told t a = (refl, (rounds_right t a).listed_right)

@@ -19,8 +19,7 @@ use Rattle.plain.specs.Refusals.{Trial, accepted, refused, first_held, present, 
 use Rattle.plain.specs.Machine.{Change, add, cut, mark, unmark, named, in_kind, apply, conditions, misnamed, change_trial, BatchLine, makes, other, line_conditions, BatchTrial, changes_in, apply_all, lines_trial, batch_trial, Update, single, batch, applied, named_by, update_trial, at_line, position_in, unexplored, passed_over, keeps_all, kept, up_to_kind, to_kinds, kinds_trial, Command, update, set_kinds, command_trial, position_for, commanded, kept_by, refusal, answer, Call, trial_of, answer_to, table_after, answers}
 use Rattle.plain.specs.Claims.{table_behind}
 use Rattle.plain.specs.Shortest.{roots, hunt}
-use Rattle.plain.specs.Rounds.{on_rounds}
-use Rattle.plain.specs.Questions.{Question, ways, short, all as every, degrees, listed, question_trial, hunt_in, lengths_for, short_reply, question_reply, reply_to}
+use Rattle.plain.specs.Questions.{Question, ways, short, degrees, question_trial, hunt_in, lengths_for, short_reply, question_reply, reply_to}
 use Rattle.plain.specs.Orders.{SameView, OnlyRows}
 use Rattle.plain.proofs.Tests.{contra, either, not-true, same, self, filter_short}
 use Rattle.plain.proofs.Words.{accepts_marked, accepts_marked_other, accepts_unmarked, accepts_unmarked_other}
@@ -480,7 +479,6 @@ same_reply q {t} {u} w = ap (λ (x : Trial). question_reply x q t) (trials q) �
     trials : (q : Question) → question_trial q t ≡ question_trial q u
     trials (ways s) = ap (λ (n : ℕ). first_held ((6, beyond n s) ∷ [])) w.same_size
     trials (short b) = ap (λ (k : ℕ). first_held ((17, ltb 1 k) ∷ [])) w.same_kinds
-    trials every = refl
 
     hunts : (b present : ℕ) → hunt_in t b present ≡ hunt_in u b present
     hunts b present = ap (λ (a : Kinded). hunt a.graph b (roots a.graph a.size) present 1 0) (same_game t u w)
@@ -493,7 +491,6 @@ same_reply q {t} {u} w = ap (λ (x : Trial). question_reply x q t) (trials q) �
     replies : (x : Trial) (q : Question) → question_reply x q t ≡ question_reply x q u
     replies accepted (ways s) = λ i. degrees s (same_out t.edges u.edges s (w.same_row s) i) (same_in t.edges u.edges s w.same_row i)
     replies accepted (short b) = shorts (verdict (final t)) b ∙ ap (λ (c : Config). short_reply (verdict c) b u) (same_final t u w)
-    replies accepted every = ap (λ (a : Kinded). listed (on_rounds a)) (same_game t u w)
     replies (refused n) q = refl
 
 -- THE LEMMA

@@ -5,7 +5,7 @@ use Rattle.plain.specs.Search.{Edge, Verdict, none, lasso, unfinished, verdict, 
 use Rattle.plain.specs.Cycles.{Run, FreeRound, FullRound, OnRound, round_length, FullLoop, FullLasso}
 use Rattle.plain.specs.Table.{Table, graph_of, game_of, searched, copies_in, printed, printed_verdict, plain_edge, final, first_meeting}
 use Rattle.plain.specs.Refusals.{accepted, refused, flat, full, Load, load_trial, same_edge}
-use Rattle.plain.specs.Machine.{Change, apply, change_trial, BatchLine, makes, changes_in, Update, applied, named_by, at_line, keeps_all, kept_part, to_kinds, Command, update, set_kinds, Answer, refusal, answer, table_of, load_answer, Call, call_for, batch_call, kinds_call, trial_of, answer_to, table_after, answers, Line, game_line, round_line, none_line, no_line, ways_line, short_line, no_round_line, all_line}
+use Rattle.plain.specs.Machine.{Change, apply, change_trial, BatchLine, makes, changes_in, Update, applied, named_by, at_line, keeps_all, kept_part, to_kinds, Command, update, set_kinds, Answer, refusal, answer, table_of, load_answer, Call, call_for, batch_call, kinds_call, trial_of, answer_to, table_after, answers, Line, game_line, round_line, none_line, no_line, ways_line, short_line, no_round_line}
 use Rattle.plain.specs.Shortest.{roots, found_at, left_at}
 use Rattle.plain.specs.Rounds.{on_rounds}
 use Rattle.plain.specs.Questions.{out_degree, in_degree, short, no_reply, shortest, no_round, hunt_in, reply_to}
@@ -143,8 +143,7 @@ pub record ListedRight (t : Table) (states : List ℕ) : Type 0 where
   pub each : (s : ℕ) → OnRound (game_of t) s → In s states
 
 -- What a line says of the table that is then present is true. Of a `no` line: "refusal 7 no longer occurs" (document 02, ticket 1). Of a `ways` line: the counts "equal a count over
--- the present moves" (ticket 8). Of a `none` that stands alone: no free round can be reached (ticket 11). Of an `all` line: the count is that of the states, and they are every
--- state on a round (ticket 12).
+-- the present moves" (ticket 8). Of a `none` that stands alone: no free round can be reached (ticket 11).
 abbrev pub LineTrue : Line → Table → Type 0
 LineTrue (game_line size moves paying) t = Unit {0}
 LineTrue (round_line spent kept stem cycle walk) t = ReportRight (round stem cycle walk) t
@@ -153,7 +152,6 @@ LineTrue (no_line r) t = r.number ≢ 7
 LineTrue (ways_line s leaving entering) t = (leaving ≡ out_degree t.edges s) × (entering ≡ in_degree t.edges s)
 LineTrue (short_line best least) t = LengthsTrue t best least
 LineTrue no_round_line t = FullRound (game_of t) → ⊥
-LineTrue (all_line n states) t = (n ≡ length states) × ListedRight t states
 
 -- a line that does not say "none"
 abbrev pub NotNone : Line → Type 0
@@ -164,7 +162,6 @@ NotNone (no_line r) = Unit {0}
 NotNone (ways_line s leaving entering) = Unit {0}
 NotNone (short_line best least) = Unit {0}
 NotNone no_round_line = ⊥
-NotNone (all_line n states) = Unit {0}
 
 -- Document 02, ticket 1, "The trade counts such a repeat as a round": where a paying state with a move to itself can be reached, which carries every kind in use, the line does not say "none".
 abbrev pub LoopTold : Line → Table → Type 0
@@ -179,7 +176,6 @@ LineCounted (no_line r) c t = Unit {0}
 LineCounted (ways_line s leaving entering) c t = Unit {0}
 LineCounted (short_line best least) c t = Unit {0}
 LineCounted no_round_line c t = Unit {0}
-LineCounted (all_line n states) c t = Unit {0}
 
 -- "a number is handed back when its condition holds and no earlier one that is tried there does, and only then": cs are the conditions, in the
 -- order tried, each with its number
@@ -240,14 +236,3 @@ pub record RoundsRight (t : Table) : Type 0 where
   pub zero_only : length (on_rounds (game_of t)) ≡ 0 → verdict (final t) ≡ none
   -- every state of the round of the walk is listed
   pub walk_listed : (stem cycle : List ℕ) → verdict (final t) ≡ lasso stem cycle → (s : ℕ) → In s (printed t cycle) → In s (on_rounds (game_of t))
-
--- The same of two lines: the line that told the present verdict, and the line of `all`. Behind a `none` its count is 0; behind a `round` it is not, and every state of the round is listed.
-abbrev pub CountAgrees : Line → ℕ → List ℕ → Type 0
-CountAgrees (game_line size moves paying) n states = Unit {0}
-CountAgrees (round_line spent kept stem cycle walk) n states = (0 < n) × ((s : ℕ) → In s (drop stem walk) → In s states)
-CountAgrees (none_line spent kept) n states = n ≡ 0
-CountAgrees (no_line r) n states = Unit {0}
-CountAgrees (ways_line s leaving entering) n states = Unit {0}
-CountAgrees (short_line best least) n states = Unit {0}
-CountAgrees no_round_line n states = Unit {0}
-CountAgrees (all_line m others) n states = Unit {0}

@@ -305,8 +305,6 @@ pub data Line : Type 0 where
   -- ticket 11: "the length of the best round known, and the smallest length not ruled out"; or, "With no round the line is `none` alone"
   short_line : ℕ → ℕ → Line
   no_round_line : Line
-  -- the count of states, and the states
-  all_line : ℕ → List ℕ → Line
 
 unfoldable pub answer_line : Answer → List Line
 answer_line (refusal r) = no_line r ∷ []

@@ -4,7 +4,7 @@ use Rattle.plain.specs.Lists.{Once}
 use Rattle.plain.specs.Search.{Edge}
 use Rattle.plain.specs.Table.{Table, carried_by, row, final}
 use Rattle.plain.specs.Refusals.{accepted}
-use Rattle.plain.specs.Machine.{Change, add, cut, table_of, changes_of, named_all, Command, update, set_kinds, Answer, load_answer, Call, call_for, trial_of, answer_to, table_after, answers, Line, game_line, round_line, none_line, no_line, ways_line, short_line, no_round_line, all_line, answer_line}
+use Rattle.plain.specs.Machine.{Change, add, cut, table_of, changes_of, named_all, Command, update, set_kinds, Answer, load_answer, Call, call_for, trial_of, answer_to, table_after, answers, Line, game_line, round_line, none_line, no_line, ways_line, short_line, no_round_line, answer_line}
 use Rattle.plain.specs.Questions.{Question, reply_to}
 use Rattle.plain.specs.Claims.{Arises, totalled, Reports, table_behind, last_of}
 use Rattle.plain.specs.Games.{game_h}
@@ -96,7 +96,6 @@ total_line (no_line r) = no_line r
 total_line (ways_line s leaving entering) = ways_line s leaving entering
 total_line (short_line best least) = short_line best least
 total_line no_round_line = no_round_line
-total_line (all_line n states) = all_line n states
 
 -- ---- there and back
 

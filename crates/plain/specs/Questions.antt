@@ -1,13 +1,12 @@
--- Document 02, ticket 8: questions on a session. The plain table answers them as it stands, and they change nothing. Ticket 11 brings the shortest round, ticket 12
--- every state on a round; tickets to come bring more kinds. Assumes nothing.
+-- Document 02, ticket 8: questions on a session. The plain table answers them as it stands, and they change nothing. Ticket 11 brings the shortest round; tickets to come bring more
+-- kinds. Assumes nothing.
 use Rattle.std.specs.Prelude.{ℕ, List, [], ◌∷◌, ◌++◌, eqb, ltb, length}
 use Rattle.plain.specs.Lists.{filter}
 use Rattle.plain.specs.Search.{Edge, Verdict, none, lasso, unfinished, verdict}
-use Rattle.plain.specs.Table.{Table, graph_of, game_of, final}
+use Rattle.plain.specs.Table.{Table, graph_of, final}
 use Rattle.plain.specs.Shortest.{roots, Hunt, found_at, left_at, hunt}
-use Rattle.plain.specs.Rounds.{on_rounds}
 use Rattle.plain.specs.Refusals.{Trial, accepted, refused, first_held, beyond}
-use Rattle.plain.specs.Machine.{numbered, Call, answer_to, table_after, Line, no_line, ways_line, short_line, no_round_line, all_line, answer_line}
+use Rattle.plain.specs.Machine.{numbered, Call, answer_to, table_after, Line, no_line, ways_line, short_line, no_round_line, answer_line}
 
 -- "the count of moves that leave it and the count that enter it", each "a count over the present moves": a move from a state to itself is one of both
 unfoldable pub out_degree : List Edge → ℕ → ℕ
@@ -16,25 +15,22 @@ out_degree es s = length (filter (λ (e : Edge). eqb e.0 s) es)
 unfoldable pub in_degree : List Edge → ℕ → ℕ
 in_degree es s = length (filter (λ (e : Edge). eqb e.1 s) es)
 
--- What is asked: "how many moves leave and enter a state"; the shortest round "with a budget B"; every state on a round.
+-- What is asked: "how many moves leave and enter a state"; the shortest round "with a budget B".
 pub data Question : Type 0 where
   ways : ℕ → Question
   short : ℕ → Question
-  all : Question
 
--- What is replied: a refusal's number; of `ways` the state and the two counts; of `short` the two lengths, or that there is no round; of `all` the states.
+-- What is replied: a refusal's number; of `ways` the state and the two counts; of `short` the two lengths, or that there is no round.
 pub data Reply : Type 0 where
   no_reply : ℕ → Reply
   degrees : ℕ → ℕ → ℕ → Reply
   shortest : ℕ → ℕ → Reply
   no_round : Reply
-  listed : List ℕ → Reply
 
--- "A state outside the game gets refusal 6."; of `short`: "17, K is above 1"; `all` is never refused
+-- "A state outside the game gets refusal 6."; of `short`: "17, K is above 1"
 unfoldable pub question_trial : Question → Table → Trial
 question_trial (ways s) t = first_held ((6, beyond t.size s) ∷ [])
 question_trial (short b) t = first_held ((17, ltb 1 t.kinds) ∷ [])
-question_trial all t = accepted
 
 -- the searches of a line `short` with a budget of b looks, where the present walk's round has so many moves: no longer one is tried
 unfoldable pub hunt_in : Table → ℕ → ℕ → Hunt
@@ -54,20 +50,17 @@ short_reply unfinished b t = no_round
 unfoldable pub question_reply : Trial → Question → Table → Reply
 question_reply accepted (ways s) t = degrees s (out_degree t.edges s) (in_degree t.edges s)
 question_reply accepted (short b) t = short_reply (verdict (final t)) b t
-question_reply accepted all t = listed (on_rounds (game_of t))
 question_reply (refused n) q t = no_reply n
 
 unfoldable pub reply_to : Question → Table → Reply
 reply_to q t = question_reply (question_trial q t) q t
 
--- "prints the word, the state, the count of moves that leave it and the count that enter it"; "gives `short`, the length of the best round known, and the smallest length not ruled out"; "prints the
--- word, the count, and in rising order each" state
+-- "prints the word, the state, the count of moves that leave it and the count that enter it"; "gives `short`, the length of the best round known, and the smallest length not ruled out"
 unfoldable pub reply_line : Reply → Line
 reply_line (no_reply n) = no_line (numbered n)
 reply_line (degrees s leaving entering) = ways_line s leaving entering
 reply_line (shortest best least) = short_line best least
 reply_line no_round = no_round_line
-reply_line (listed states) = all_line (length states) states
 
 -- ---- calls and questions in one list
 

@@ -10,12 +10,11 @@ use lib.Dec.{eqb, ltb, leb}
 use lib.ListN.{length, get_or}
 use borrow.Author.Tests.{le-leb, lt-leb, eq-eqb, ltb-true, ltb-false}
 use Rattle.plain.specs.Search.{Verdict, none, lasso, unfinished, verdict}
-use Rattle.plain.specs.Table.{Table, accepts, marking, marked, final}
+use Rattle.plain.specs.Table.{Table, accepts, final}
 use Rattle.plain.specs.Layers.{copy}
 use Rattle.plain.specs.Refusals.{bad_size, first_held, beyond}
-use Rattle.plain.specs.Machine.{all_line}
 use Rattle.plain.specs.Shortest.{Hunt, found_at, left_at}
-use Rattle.plain.specs.Questions.{ways, short, out_degree, Reply as PlainReply, no_reply, degrees, shortest, no_round, listed, question_trial, hunt_in, lengths_for, short_reply, question_reply, reply_to, reply_line}
+use Rattle.plain.specs.Questions.{ways, short, out_degree, Reply as PlainReply, no_reply, degrees, shortest, no_round, question_trial, hunt_in, lengths_for, short_reply, question_reply, reply_to, reply_line}
 use Rattle.plain.specs.Claims.{Arises}
 use Rattle.plain.proofs.Tests.{contra, either, or_first}
 use Rattle.plain.proofs.Tables.{Valid, valid}
@@ -31,7 +30,7 @@ use Rattle.table.specs.Trials.{Arrays}
 use Rattle.table.specs.Filing.{Stored}
 use Rattle.question.specs.declared.Reply.{Reply}
 use Rattle.question.specs.declared.Reply.TheVariants.{Refused, Degrees, Shortest, NoRound}
-use Rattle.question.specs.Replies.{bare, replied, reply_shown, ways_in, RoundOf, ShortIn}
+use Rattle.question.specs.Replies.{replied, reply_shown, ways_in, RoundOf, ShortIn}
 
 -- ---- any arrays
 
@@ -87,15 +86,9 @@ module _ (budget size kinds start present : ℕ) (targets starts words : List �
     lengths = λ h s few t z. ap (λ (m : Lengths). Shortest m.best m.least) (f t z few) ∙ told (hunt_in t budget present);
   }
     where
-      told : (h : Hunt) → Shortest (lengths_of present h).best (lengths_of present h).least ≡ (replied (lengths_for present h)).reply
+      told : (h : Hunt) → Shortest (lengths_of present h).best (lengths_of present h).least ≡ replied (lengths_for present h)
       told (found_at l) = refl
       told (left_at l) = refl
-
--- beside lengths no state is marked
-lengths_bare : (present : ℕ) (h : Hunt) → bare (replied (lengths_for present h)).reply ≡ replied (lengths_for present h)
-unfolding lengths_for
-lengths_bare present (found_at l) = refl
-lengths_bare present (left_at l) = refl
 
 -- ---- arrays that hold a table
 
@@ -103,11 +96,11 @@ module _ (t : Table) (a : Arrays) (arises : Arises t) (f : Stored t a) where
   leaving_is : (s : ℕ) → degree_at a.rows.starts s ≡ out_degree t.edges s
   leaving_is s = sym (row_length a.rows.targets a.rows.starts s) ∙ ap length (f.filed.rows_are s) ∙ sym (out_row t.edges s)
 
-  pub ways_same : (s : ℕ) → bare (ways_in s t.size a.rows.starts a.indegree) ≡ replied (reply_to (ways s) t)
+  pub ways_same : (s : ℕ) → ways_in s t.size a.rows.starts a.indegree ≡ replied (reply_to (ways s) t)
   unfolding reply_to question_trial first_held beyond question_reply
   ways_same s = ⊎_elim
-      (λ e. ap bare (ways_by s t.size a.rows.starts a.indegree true e) ∙ rw e refl)
-      (λ e. ap bare (ways_by s t.size a.rows.starts a.indegree false e) ∙ rw e (λ i. bare (Degrees s (leaving_is s i) (f.counted.counts_are s i)))) (either (leb t.size s))
+      (λ e. ways_by s t.size a.rows.starts a.indegree true e ∙ rw e refl)
+      (λ e. ways_by s t.size a.rows.starts a.indegree false e ∙ rw e (λ i. Degrees s (leaving_is s i) (f.counted.counts_are s i))) (either (leb t.size s))
 
   first_copy : (s : ℕ) → copy t.size 0 s ≡ s
   unfolding copy
@@ -125,36 +118,26 @@ module _ (t : Table) (a : Arrays) (arises : Arises t) (f : Stored t a) where
   }
 
   pub short_same : (b present : ℕ) (r : Reply) → RoundOf present (verdict (final t)) → ShortIn b t.size t.kinds t.start present a.rows.targets a.rows.starts a.words r
-      → bare r ≡ replied (reply_to (short b) t)
+      → r ≡ replied (reply_to (short b) t)
   unfolding reply_to question_trial first_held question_reply short_reply
   short_same b present r p z = ⊎_elim
-      (λ e. ap bare (z.several_kinds (ltb-true 1 t.kinds e)) ∙ rw e refl)
+      (λ e. z.several_kinds (ltb-true 1 t.kinds e) ∙ rw e refl)
       (λ e. one_kind (ltb-false 1 t.kinds e) (verdict (final t)) refl p ∙ rw e refl) (either (ltb 1 t.kinds))
     where
       ok : Valid t
       ok = valid t arises
 
-      one_kind : t.kinds ≤ 1 → (w : Verdict) → verdict (final t) ≡ w → RoundOf present w → bare r ≡ replied (short_reply w b t)
-      one_kind few none e q = ap bare (z.no_round few (omega (arith, some_state t ok)) q)
+      one_kind : t.kinds ≤ 1 → (w : Verdict) → verdict (final t) ≡ w → RoundOf present w → r ≡ replied (short_reply w b t)
+      one_kind few none e q = z.no_round few (omega (arith, some_state t ok)) q
       one_kind few (lasso stem cycle) e q =
           let short-walk : length stem + length cycle ≤ t.size * t.kinds = (demand_2 t arises).short stem cycle e in
-          ap bare (z.lengths few (omega (arith, q.0, q.1)) (omega (arith, q.0, short-walk, ok.states_few, mul_comm t.size t.kinds)) t (holds (omega (arith, ok.some_kind))))
-          ∙ lengths_bare present (hunt_in t b present) ∙ ap (λ (n : ℕ). replied (lengths_for n (hunt_in t b n))) q.0
+          z.lengths few (omega (arith, q.0, q.1)) (omega (arith, q.0, short-walk, ok.states_few, mul_comm t.size t.kinds)) t (holds (omega (arith, ok.some_kind))) ∙ ap (λ (n : ℕ). replied (lengths_for n (hunt_in t b n))) q.0
       one_kind few unfinished e q = absurd q
 
--- do the words that mark the states of a reply give them back?
-abbrev pub MarksBack : PlainReply → Type 0
-MarksBack (no_reply n) = Unit {0}
-MarksBack (degrees s leaving entering) = Unit {0}
-MarksBack (shortest best least) = Unit {0}
-MarksBack no_round = Unit {0}
-MarksBack (listed states) = marked (marking states) ≡ states
-
 -- the line that tells a reply is the plain table's
-pub reply_shown_lem : (r : PlainReply) → MarksBack r → reply_shown (replied r) ≡ reply_line r
+pub reply_shown_lem : (r : PlainReply) → reply_shown (replied r) ≡ reply_line r
 unfolding reply_line
-reply_shown_lem (no_reply n) h = refl
-reply_shown_lem (degrees s leaving entering) h = refl
-reply_shown_lem (shortest best least) h = refl
-reply_shown_lem no_round h = refl
-reply_shown_lem (listed states) h = ap (all_line (length states)) h
+reply_shown_lem (no_reply n) = refl
+reply_shown_lem (degrees s leaving entering) = refl
+reply_shown_lem (shortest best least) = refl
+reply_shown_lem no_round = refl

@@ -1,17 +1,16 @@
 // Questions on a session: what is asked, what is replied, and how a reply is read off the arrays of a table. A question changes nothing.
 ghost use Rattle.std.specs.Prelude.{◌≡◌, length};
 ghost use Rattle.rows.specs.Rows.{Tabled};
-ghost use Rattle.question.specs.Replies.{ways_in, ShortIn, all_in};
+ghost use Rattle.question.specs.Replies.{ways_in, ShortIn};
 
-// What is asked about: the moves that leave and enter a state, the shortest round, or every state on a round.
+// What is asked about: the moves that leave and enter a state, or the shortest round.
 #[derive(Drop)]
 pub enum Topic {
     Ways,
     Short,
-    All,
 }
 
-// A question: what is asked about, and the number that goes with it. Of `Ways` it is the state, of `Short` the budget, of `All` it says nothing.
+// A question: what is asked about, and the number that goes with it. Of `Ways` it is the state, of `Short` the budget.
 #[derive(Drop)]
 pub struct Question {
     pub topic: Topic,
@@ -19,7 +18,7 @@ pub struct Question {
 }
 
 // What is replied: the number of a refusal; of `Ways`, the state and the counts of moves that leave and enter it; of `Short`, the length of the best round known and the smallest that
-// is not ruled out, or that there is no round; of `All`, how many states lie on a round.
+// is not ruled out, or that there is no round.
 #[derive(Drop)]
 pub enum Reply {
     Refused(u16),
@@ -33,14 +32,6 @@ pub enum Reply {
         least: u16,
     },
     NoRound,
-    Listed(u16),
-}
-
-// A reply, and beside it the states that it counts, as marks in eight words: of `Listed` those on a round, else none.
-#[derive(Drop)]
-pub struct Response {
-    pub reply: Reply,
-    pub states: [u64; 8],
 }
 
 // How many moves leave and enter a state: the one count is between the ends of its row, the other is held.
@@ -87,31 +78,5 @@ pub fn short(
     Reply::Shortest {
         best: n.best,
         least: n.least,
-    }
-}
-
-// Every state on a round, and how many they are. Where there is no game, nothing is said of its rounds.
-pub fn all(
-    size: u16,
-    kinds: u16,
-    start: u16,
-    targets: &[u16; 2048],
-    starts: &[u16; 513],
-    words: &[u64; 8],
-) -> Response
-    requires { Tabled targets.now starts.now }
-    ensures { result ≡ all_in size kinds start targets.now starts.now words.now }
-{
-    if size == 0 {
-        return Response {
-            reply: Reply::Refused(2),
-            states: [0; 8],
-        };
-    }
-    let found = components::find(targets, starts, words, size, kinds, start);
-    let states = found.states;
-    Response {
-        reply: Reply::Listed(found.count),
-        states,
     }
 }

@@ -9,7 +9,7 @@ use Rattle.plain.specs.Refusals.{Trial, Load, accepted, refused, load_trial}
 use Rattle.plain.specs.Machine.{Change, BatchLine, makes, changes_in, single, batch, Command, update, Call, call_for, trial_of, Answer as PlainAnswer, table_of, load_answer, answer_to, table_after, answers, Line, answer_line, answer_lines}
 use Rattle.plain.specs.Claims.{LineTrue}
 use Rattle.plain.specs.Questions.{Question, reply_to, table_next, told, told_all}
-use Rattle.plain.proofs.Answers.{load_told, call-told, reply-told}
+use Rattle.plain.proofs.Answers.{load_told, call_told, reply_told}
 use Rattle.plain.proofs.Calls.{answer_refused}
 use Rattle.plain.proofs.OneByOne.{one_by_one, as_one}
 use Rattle.plain.proofs.Loops.{loop_told}
@@ -27,14 +27,14 @@ use Rattle.verdict.specs.Answers.{shown, NoRefusal, Answered}
 call_right : (x : Exchange) (s : Session) (t : Table) (r : Outcome) → Holds s t → Updates x.asked s x.lent r x.after → x.answered ≡ r.answer → CallRight x t
 call_right x s t r h c e =
     let a : Answered (answer_to (call_in x) t) x.lent x.answered x.after = subst⁻¹ (λ (y : Answer). Answered (answer_to (call_in x) t) x.lent y x.after) e (c.answers t h) in
-    let w = call-told (call_in x) t (line_in x) h.arises a.line in
+    let w = call_told (call_in x) t (line_in x) h.arises a.line in
     record { answers = a; counts = w.counts; truth = w.truth }
 
 -- one question, by its contract alone
 question_right : (q : Question) (s : Session) (t : Table) (r : Reply) → Holds s t → Replies q s r → QuestionRight q r t
 question_right q s t r h c =
     let e = c.replies t h in
-    record { replies = e; truth = subst⁻¹ (λ (y : Reply). LineTrue (reply_shown y) t) e (subst⁻¹ (λ (l : Line). LineTrue l t) (reply_shown_lem (reply_to q t)) (reply-told q t h.arises)) }
+    record { replies = e; truth = subst⁻¹ (λ (y : Reply). LineTrue (reply_shown y) t) e (subst⁻¹ (λ (l : Line). LineTrue l t) (reply_shown_lem (reply_to q t)) (reply_told q t h.arises)) }
 
 -- every call and question of a list, from a session that holds a table
 pub all_right : (s : Session) (t : Table) (xs : List Event) → Holds s t → Served s xs → AllRight xs t

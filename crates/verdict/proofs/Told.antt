@@ -21,7 +21,7 @@ use Rattle.table.specs.declared.Position.{Position}
 use Rattle.table.specs.declared.Position.TheVariants as Position
 use Rattle.verdict.specs.declared.Answer.{Answer}
 use Rattle.verdict.specs.declared.Answer.TheVariants.{Refused, Clear, Round}
-use Rattle.verdict.specs.Answers.{answerIs, refusing, shownWalk, position_of, refusalOf, shown, NoRefusal, lowered, WalkOf, Tells, Answered}
+use Rattle.verdict.specs.Answers.{answer_is, refusing, shown_walk, position_of, refusal_of, shown, NoRefusal, lowered, WalkOf, Tells, Answered}
 
 two_parts : (stem cycle rest : List ℕ) → take (length stem + length cycle) (stem ++ (cycle ++ rest)) ≡ stem ++ cycle
 two_parts stem cycle rest = rw (← length-append stem cycle, ← append_assoc stem cycle rest) (take-append_seam (stem ++ cycle) rest)
@@ -48,16 +48,16 @@ walk_printed t stem len walk unfinished k = k
 
 -- a search has come to the lengths of stem and walk, with so many looks
 module _ (spent kept stem len : ℕ) where
-  answer_clear : len ≡ 0 → answerIs spent kept stem len ≡ Clear spent kept
-  unfolding answerIs
+  answer_clear : len ≡ 0 → answer_is spent kept stem len ≡ Clear spent kept
+  unfolding answer_is
   answer_clear e = ap (λ (b : Bool). cond b (Clear spent kept) (Round spent kept stem (len - stem))) (eq-eqb len 0 e)
 
-  answer_round : 0 < len → answerIs spent kept stem len ≡ Round spent kept stem (len - stem)
-  unfolding answerIs
+  answer_round : 0 < len → answer_is spent kept stem len ≡ Round spent kept stem (len - stem)
+  unfolding answer_is
   answer_round h = ap (λ (b : Bool). cond b (Clear spent kept) (Round spent kept stem (len - stem))) (ne_eqb len 0 (λ e. omega arith))
 
   -- the answer, with the list as it was written
-  tells_answer : (w : Verdict) (walk lent : List ℕ) → WalkOf stem len walk w → answer_line (answer w spent kept) ≡ shown (answerIs spent kept stem len) (written (answer w spent kept) lent) ∷ []
+  tells_answer : (w : Verdict) (walk lent : List ℕ) → WalkOf stem len walk w → answer_line (answer w spent kept) ≡ shown (answer_is spent kept stem len) (written (answer w spent kept) lent) ∷ []
   unfolding shown written answer_line
   tells_answer none walk lent t = ap (λ (a : Answer). shown a lent ∷ []) (sym (answer_clear t.1))
   tells_answer (lasso first round) walk lent t =
@@ -69,8 +69,8 @@ module _ (spent kept stem len : ℕ) where
   tells_answer unfinished walk lent t = absurd t
 
   -- the list lent for the walk
-  tells_written : (w : Verdict) (walk lent : List ℕ) → WalkOf stem len walk w → shownWalk len walk lent ≡ written (answer w spent kept) lent
-  unfolding shownWalk written
+  tells_written : (w : Verdict) (walk lent : List ℕ) → WalkOf stem len walk w → shown_walk len walk lent ≡ written (answer w spent kept) lent
+  unfolding shown_walk written
   tells_written none walk lent t = ap (λ (n : ℕ). take n walk ++ drop n lent) t.1
   tells_written (lasso first round) walk lent t =
       let n : length (first ++ round) ≡ len = length-append first round ∙ sym t.1 in
@@ -88,13 +88,13 @@ module _ (spent kept stem len : ℕ) where
       let few : len ≤ 512 = omega (arith, fit.1, mul_comm t.size t.kinds, ok.states_few) in
       let list : lent' ≡ written (answer w spent kept) lent = s.wrote fit.0 few (omega (arith, fit.1)) ∙ tells_written w (lowered t.size (t.kinds - 1) walk) lent p in
       record {
-        line = tells_answer w (lowered t.size (t.kinds - 1) walk) lent p ∙ (λ i. shown (sym s.answer-is i) (sym list i) ∷ []);
+        line = tells_answer w (lowered t.size (t.kinds - 1) walk) lent p ∙ (λ i. shown (sym s.answer_is i) (sym list i) ∷ []);
         list = list;
       }
 
   -- an answer that tells what a search has come to is no refusal
-  pub never_refused : (n : Refusal) → answerIs spent kept stem len ≡ Refused n → ⊥
-  unfolding answerIs
+  pub never_refused : (n : Refusal) → answer_is spent kept stem len ≡ Refused n → ⊥
+  unfolding answer_is
   never_refused n e = by_test (eqb len 0) e
     where
       by_test : (b : Bool) → cond b (Clear spent kept) (Round spent kept stem (len - stem)) ≡ Refused n → ⊥
@@ -118,7 +118,7 @@ position_alone (Position.Line i) e = let z : ◌≡◌ {A = ℕ} 0 1 = cc in abs
 pub shown_refused : (a : Answer) (list : List ℕ) (n : ℕ) → no_line (numbered n) ∷ [] ≡ shown a list ∷ [] → a ≡ refusing n Position.Alone
 unfolding shown told_refusal first_line
 shown_refused (Refused r) list n e =
-    let z : numbered n ≡ refusalOf r = ap told_refusal (ap first_line e) in
+    let z : numbered n ≡ refusal_of r = ap told_refusal (ap first_line e) in
     let p = position_alone r.position (sym (ap (λ (x : PlainRefusal). x.position) z)) in
     λ i. Refused (record { number = sym (ap (λ (x : PlainRefusal). x.number) z) i; position = p i })
 shown_refused (Clear spent kept) list n e = let z : ◌≡◌ {A = ℕ} 0 1 = cc in absurd (omega arith)
@@ -142,7 +142,7 @@ same_position (Position.Line i) (Position.Line j) e = let z : i ≡ j = cc in ap
 same_told : (a b : Answer) (list : List ℕ) → shown a list ∷ [] ≡ shown b list ∷ [] → a ≡ b
 unfolding shown told_refusal first_line
 same_told (Refused r) (Refused q) list e =
-    let z : refusalOf r ≡ refusalOf q = ap told_refusal (ap first_line e) in
+    let z : refusal_of r ≡ refusal_of q = ap told_refusal (ap first_line e) in
     let p = same_position r.position q.position (ap (λ (x : PlainRefusal). x.position) z) in
     λ i. Refused (record { number = ap (λ (x : PlainRefusal). x.number) z i; position = p i })
 same_told (Refused r) (Clear spent kept) list e = let z : ◌≡◌ {A = ℕ} 0 1 = cc in absurd (omega arith)

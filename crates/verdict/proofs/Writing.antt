@@ -8,7 +8,7 @@ use lib.ListN.{length, get_or, set, take, drop, length-drop, drop_of_length-le}
 use lib.Seq.{get_or-drop, length-take-le, take_at, drop_at, take_all, take-add, drop-drop}
 use borrow.Rule.Slice.PartMut.{put_mid}
 use Rattle.plain.specs.Layers.{state_of}
-use Rattle.verdict.specs.Answers.{shownWalk, lowered}
+use Rattle.verdict.specs.Answers.{shown_walk, lowered}
 
 -- the first n entries of xs, the rest as it was
 abbrev pub over : ℕ → List ℕ → List ℕ → List ℕ
@@ -39,8 +39,8 @@ module _ (walk lent : List ℕ) (stem len : ℕ) (size : length walk ≡ 512) (l
       → (0 + stem ≤ 512 → stem ≤ length lent → first ≡ over stem walk lent)
       → (stem + (len - stem) ≤ 512 → len - stem ≤ length (take (length first - at) (drop at first))
       → second ≡ over (len - stem) (drop stem walk) (take (length first - at) (drop at first)))
-      → put_mid at (length first - at) first second ≡ shownWalk len walk lent
-  unfolding shownWalk
+      → put_mid at (length first - at) first second ≡ shown_walk len walk lent
+  unfolding shown_walk
   written_both first second at e same f s =
       let so : first ≡ over stem walk lent = f (omega arith) (omega arith) in
       let head : length (take stem walk) ≡ stem = length-take-le stem walk (omega arith) in
@@ -82,8 +82,8 @@ lowered_one size zero (x ∷ walk) h = ap (λ (l : List ℕ). x ∷ l) (lowered_
 lowered_one size (suc above) (x ∷ walk) h = absurd (omega arith)
 
 -- a walk that was written and then lowered is the lowered walk, written
-pub lowered_written : (size above len : ℕ) (walk lent : List ℕ) → len ≤ length walk → shownWalk len (lowered size above (shownWalk len walk lent)) (shownWalk len walk lent) ≡ shownWalk len (lowered size above walk) lent
-unfolding shownWalk lowered
+pub lowered_written : (size above len : ℕ) (walk lent : List ℕ) → len ≤ length walk → shown_walk len (lowered size above (shown_walk len walk lent)) (shown_walk len walk lent) ≡ shown_walk len (lowered size above walk) lent
+unfolding shown_walk lowered
 lowered_written size above len walk lent h =
     let f = state_of size above in
     let head : length (take len walk) ≡ len = length-take-le len walk h in

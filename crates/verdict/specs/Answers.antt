@@ -23,12 +23,12 @@ is_refused (Clear spent kept) = false
 is_refused (Round spent kept stem cycle) = false
 
 -- The answer that tells what a search has come to: the looks spent and kept, and the lengths of the walk's stem and of the walk, 0 where there is none.
-unfoldable pub answerIs : ℕ → ℕ → ℕ → ℕ → Answer
-answerIs spent kept stem len = cond (eqb len 0) (Clear spent kept) (Round spent kept stem (len - stem))
+unfoldable pub answer_is : ℕ → ℕ → ℕ → ℕ → Answer
+answer_is spent kept stem len = cond (eqb len 0) (Clear spent kept) (Round spent kept stem (len - stem))
 
 -- what is written of a walk: its first entries
-unfoldable pub shownWalk : ℕ → List ℕ → List ℕ → List ℕ
-shownWalk n walk lent = take n walk ++ drop n lent
+unfoldable pub shown_walk : ℕ → List ℕ → List ℕ → List ℕ
+shown_walk n walk lent = take n walk ++ drop n lent
 
 -- "The walk is printed in plain states": the states of which its entries are copies
 unfoldable pub lowered : ℕ → ℕ → List ℕ → List ℕ
@@ -36,8 +36,8 @@ lowered size above walk = map (state_of size above) walk
 
 -- What telling leaves: the answer, and the walk at the head of the list, where it fits. Only a forged session has a walk that does not: of what the list then holds nothing is said.
 pub record Tells (spent kept stem len : ℕ) (walk lent : List ℕ) (r : Answer) (lent' : List ℕ) : Type 0 where
-  pub answer-is : r ≡ answerIs spent kept stem len
-  pub wrote : stem ≤ len → len ≤ 512 → len ≤ length lent → lent' ≡ shownWalk len walk lent
+  pub answer_is_lem : r ≡ answer_is spent kept stem len
+  pub wrote : stem ≤ len → len ≤ 512 → len ≤ length lent → lent' ≡ shown_walk len walk lent
 
 -- ---- an answer, as the plain table tells it
 
@@ -46,13 +46,13 @@ abbrev pub position_of : Position → PlainPosition
 position_of Position.Alone = alone
 position_of (Position.Line i) = at_line i
 
-abbrev pub refusalOf : Refusal → PlainRefusal
-refusalOf r = record { number = r.number; position = position_of r.position }
+abbrev pub refusal_of : Refusal → PlainRefusal
+refusal_of r = record { number = r.number; position = position_of r.position }
 
 -- The document's number and values for each case of the answer: `no` and the refusal's number, of a batch with its position; `none`, spent, kept; `round`, spent, kept, the lengths of
 -- stem and round, and the walk, which stands at the head of the lent list as the call leaves it.
 unfoldable pub shown : Answer → List ℕ → Line
-shown (Refused r) list = no_line (refusalOf r)
+shown (Refused r) list = no_line (refusal_of r)
 shown (Clear spent kept) list = none_line spent kept
 shown (Round spent kept stem cycle) list = round_line spent kept stem cycle (take (stem + cycle) list)
 

@@ -1,6 +1,6 @@
 // What a search has come to, as the answer to a call and as a walk in the list lent for it.
 ghost use Rattle.std.specs.Prelude.{◌≡◌, ◌++◌, ◌+◌, ◌≤◌, length, take, drop};
-ghost use Rattle.verdict.specs.Answers.{answerIs, refusing, is_refused, shownWalk, lowered, Tells};
+ghost use Rattle.verdict.specs.Answers.{answer_is, refusing, is_refused, shown_walk, lowered, Tells};
 
 use rows::wide;
 use table::{Position, Refusal};
@@ -23,7 +23,7 @@ pub enum Answer {
 
 // The answer that tells what a search has come to: no walk has the length 0.
 fn answer_of(spent: u16, kept: u16, stem: u16, length: u16) -> Answer
-    ensures { result ≡ answerIs spent kept stem length }
+    ensures { result ≡ answer_is spent kept stem length }
 {
     if length == 0 {
         return Answer::Clear { spent, kept };
@@ -56,7 +56,7 @@ fn write_part(walk: &[u16; 512], from: u16, count: u16, out: &mut [u16])
 // Writes the walk: the stem, and the cycle into the part of the list behind the stem.
 fn write_walk(walk: &[u16; 512], stem: u16, len: u16, lent: &mut [u16])
     requires { length walk.now ≡ 512 }
-    ensures { stem ≤ len → len ≤ 512 → len ≤ length lent.old → lent.new ≡ shownWalk len walk.now lent.old }
+    ensures { stem ≤ len → len ≤ 512 → len ≤ length lent.old → lent.new ≡ shown_walk len walk.now lent.old }
 {
     if stem <= len {
         if wide(len) <= lent.len() {
@@ -70,7 +70,7 @@ fn write_walk(walk: &[u16; 512], stem: u16, len: u16, lent: &mut [u16])
 // The first entries of the list, as the states of which they are copies. A pass of its own, so that the walk of a game of one kind is copied many entries at a time.
 fn lower(size: u16, above: u16, count: usize, list: &mut [u16])
     requires { count ≤ length list.old }
-    ensures { list.new ≡ shownWalk count (lowered size above list.old) list.old }
+    ensures { list.new ≡ shown_walk count (lowered size above list.old) list.old }
 {
     let mut i: usize = 0;
     while i < count {
@@ -82,7 +82,7 @@ fn lower(size: u16, above: u16, count: usize, list: &mut [u16])
 // Writes the walk in plain states. `above` is how many layers lie above the first: of a game of one kind the walk's states are plain.
 fn show_walk(walk: &[u16; 512], stem: u16, len: u16, size: u16, above: u16, lent: &mut [u16])
     requires { length walk.now ≡ 512 }
-    ensures { stem ≤ len → len ≤ 512 → len ≤ length lent.old → lent.new ≡ shownWalk len (lowered size above walk.now) lent.old }
+    ensures { stem ≤ len → len ≤ 512 → len ≤ length lent.old → lent.new ≡ shown_walk len (lowered size above walk.now) lent.old }
 {
     write_walk(walk, stem, len, lent);
     if above == 0 {

@@ -12,7 +12,7 @@ use Rattle.plain.specs.Machine.{BatchLine, single, batch, Command, update, set_k
 use Rattle.plain.specs.Claims.{Arises, loaded, LineTrue, NotNone}
 use Rattle.plain.proofs.Trials.{load_never_7}
 use Rattle.plain.proofs.Calls.{command_arises}
-use Rattle.plain.proofs.Answers.{load_told, call-told, reply-told}
+use Rattle.plain.proofs.Answers.{load_told, call_told, reply_told}
 use Rattle.plain.proofs.Loops.{loop_told}
 use Rattle.line.specs.Fields.{lines_of}
 use Rattle.line.specs.Records.{record_of}
@@ -69,14 +69,14 @@ arises_after c t (refused n) e a = a
 call_right : (c : Command) (p : Play) → Arises p.table → Right (call_step c p)
 unfolding table_after
 call_right c p a =
-    (lines_true (table_after (call_on c) p.table) (answer_to (call_on c) p.table) (λ l f. (call-told (call_on c) p.table l a f).truth), arises_after (call_on c) p.table (trial_of (call_on c) p.table) refl a)
+    (lines_true (table_after (call_on c) p.table) (answer_to (call_on c) p.table) (λ l f. (call_told (call_on c) p.table l a f).truth), arises_after (call_on c) p.table (trial_of (call_on c) p.table) refl a)
 
 play_right : (q : Request) (p : Play) → Arises p.table → Right (play_step q p)
 play_right (changing c) p a = call_right (update (single c)) p a
 play_right beginning p a = (tt, a)
 play_right ending p a = ((early 1 (omega arith), tt), a)
 play_right (setting_kinds k) p a = call_right (set_kinds k) p a
-play_right (questioning q) p a = ((reply-told q p.table a, tt), a)
+play_right (questioning q) p a = ((reply_told q p.table a, tt), a)
 play_right unknown p a = ((early 1 (omega arith), tt), a)
 
 batch_right : (q : Request) (p : Play) (xs : List BatchLine) → Arises p.table → Right (batch_step q p xs)

@@ -19,7 +19,7 @@ use Rattle.answer.specs.Rendering.{render, rendered}
 use Rattle.answer.proofs.Laws.{put_then, put_none, length_round}
 use Rattle.verdict.specs.declared.Answer.{Answer}
 use Rattle.verdict.specs.declared.Answer.TheVariants.{Refused, Clear, Round}
-use Rattle.verdict.specs.Answers.{position_of, refusalOf, shown}
+use Rattle.verdict.specs.Answers.{position_of, refusal_of, shown}
 use Rattle.question.specs.declared.Reply.{Reply}
 use Rattle.question.specs.declared.Reply.TheVariants as Reply
 use Rattle.question.specs.Replies.{reply_shown}
@@ -74,15 +74,15 @@ round_short s k st c n m walk p q r t h w e =
 pub put_as : (d : List ℕ) (at : ℕ) (l l' : OutputLine) (d' : List ℕ) (r : ℕ) → l ≡ l' → Put d at (render l) d' r → Put d at (render l') d' r
 put_as d at l l' d' r e p = rw e at p
 
-pub said_no : (answer : Answer) (r : Refusal) (walk : List ℕ) → answer ≡ Refused r → no_line (refusalOf r) ≡ shown answer walk
+pub said_no : (answer : Answer) (r : Refusal) (walk : List ℕ) → answer ≡ Refused r → no_line (refusal_of r) ≡ shown answer walk
 unfolding shown
 said_no answer r walk e = rw e
 
 -- a refusal, by where it stands
-pub said_alone : (r : Refusal) → r.position ≡ Alone → no_line (numbered r.number) ≡ no_line (refusalOf r)
+pub said_alone : (r : Refusal) → r.position ≡ Alone → no_line (numbered r.number) ≡ no_line (refusal_of r)
 said_alone r e = ap (λ (p : Position). no_line (record { number = r.number; position = position_of p })) (sym e)
 
-pub said_line : (r : Refusal) (i : ℕ) → r.position ≡ Line i → no_line (record { number = r.number; position = at_line i }) ≡ no_line (refusalOf r)
+pub said_line : (r : Refusal) (i : ℕ) → r.position ≡ Line i → no_line (record { number = r.number; position = at_line i }) ≡ no_line (refusal_of r)
 said_line r i e = ap (λ (p : Position). no_line (record { number = r.number; position = position_of p })) (sym e)
 
 pub said_none : (answer : Answer) (s k : ℕ) (walk : List ℕ) → answer ≡ Clear s k → none_line s k ≡ shown answer walk

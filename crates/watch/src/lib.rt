@@ -3,7 +3,7 @@ ghost use Rattle.std.specs.Prelude.{◌≡◌, ◌∷◌, [], ◌≤◌, min, le
 ghost use Rattle.answer.specs.Bytes.{Put};
 ghost use Rattle.answer.specs.Rendering.{render};
 ghost use Rattle.plain.specs.Machine.{no_line};
-ghost use Rattle.verdict.specs.Answers.{shown, refusalOf};
+ghost use Rattle.verdict.specs.Answers.{shown, refusal_of};
 ghost use Rattle.session.specs.Model.{no_game};
 ghost use Rattle.question.specs.Replies.{reply_shown};
 ghost use Rattle.watch.specs.Model.{Serves, Replied, game_most, lines_most, lines_for, lines_of_load, lead_loaded, lead_for, Laid, Writes, fits};
@@ -96,7 +96,7 @@ pub fn reply_to(s: Session, task: Task) -> Reply
 // Puts the line of a refusal at a place.
 fn put_refusal(out: &mut [u8], at: usize, refusal: Refusal) -> usize
     requires { (at ≤ game_most) × (lines_most ≤ length out.old) }
-    ensures { Put out.old at (render (no_line (refusalOf refusal))) out.new result }
+    ensures { Put out.old at (render (no_line (refusal_of refusal))) out.new result }
 {
     let position = refusal.position;
     match position {

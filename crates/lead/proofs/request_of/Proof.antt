@@ -42,9 +42,6 @@ about-requires-2 c κs = search rules
 enum-told-10 : tie.Need-enum-told-10
 enum-told-10 c = search rules
 
-about-requires-3 : tie.Need-about-requires-3
-about-requires-3 c κs = search rules
-
 enum-told-11 : tie.Need-enum-told-11
 enum-told-11 c = search rules
 
@@ -56,9 +53,6 @@ enum-told-13 c = search rules
 
 enum-told-14 : tie.Need-enum-told-14
 enum-told-14 c = search rules
-
-enum-told-15 : tie.Need-enum-told-15
-enum-told-15 c = search rules
 
 returns : tie.Need-returns
 returns c = request_at _ Word.Add c.enum_told.given.1
@@ -88,22 +82,19 @@ returns-9 : tie.Need-returns-9
 returns-9 c = c.about2.ensures ∙ request_at _ Word.Short c.before.enum-told9.given.1
 
 returns-10 : tie.Need-returns-10
-returns-10 c = c.about3.ensures ∙ request_at _ Word.All c.before.enum-told10.given.1
+returns-10 c = request_at _ Word.Game c.enum-told10.given.1
 
 returns-11 : tie.Need-returns-11
-returns-11 c = request_at _ Word.Game c.enum-told11.given.1
+returns-11 c = request_at _ Word.Pay c.enum-told11.given.1
 
 returns-12 : tie.Need-returns-12
-returns-12 c = request_at _ Word.Pay c.enum-told12.given.1
+returns-12 c = request_at _ Word.Move c.enum-told12.given.1
 
 returns-13 : tie.Need-returns-13
-returns-13 c = request_at _ Word.Move c.enum-told13.given.1
+returns-13 c = request_at _ Word.Go c.enum-told13.given.1
 
 returns-14 : tie.Need-returns-14
-returns-14 c = request_at _ Word.Go c.enum-told14.given.1
-
-returns-15 : tie.Need-returns-15
-returns-15 c = request_at _ Word.Unreadable c.enum-told15.given.1
+returns-14 c = request_at _ Word.Unreadable c.enum-told14.given.1
 
 pub request-of-spec : {M : Type 1} → statement M
 request-of-spec =
@@ -121,12 +112,10 @@ request-of-spec =
     enum-told-9
     about-requires-2
     enum-told-10
-    about-requires-3
     enum-told-11
     enum-told-12
     enum-told-13
     enum-told-14
-    enum-told-15
     returns
     returns-2
     returns-3
@@ -140,5 +129,4 @@ request-of-spec =
     returns-11
     returns-12
     returns-13
-    returns-14
-    returns-15)
+    returns-14)

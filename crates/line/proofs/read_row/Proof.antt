@@ -9,8 +9,7 @@ use Rattle.line.proofs.read_row.Tie as tie
 returns : tie.Need-returns
 unfolding bytes words
 returns c =
-    let short = c.before.before in
-    let kinds = short.before.before in
+    let kinds = c.before.before in
     let ways = kinds.before.before in
     let end = ways.before.before in
     let begin = end.before.before in
@@ -35,17 +34,14 @@ returns c =
     (row_then _ _ _ _ _ end.or-row10.ensures
     (row_then _ _ _ _ _ ways.or-row11.ensures
     (row_then _ _ _ _ _ kinds.or-row12.ensures
-    (row_then _ _ _ _ _ short.or-row13.ensures
-    (row_then _ _ _ _ _ c.or-row14.ensures
-    (rows_end _ _)))))))))))))))
+    (row_then _ _ _ _ _ c.or-row13.ensures
+    (rows_end _ _))))))))))))))
 
 -- what each row asks
 pub read-row-spec : {M : Type 1} → statement M
 read-row-spec =
     tie.close
     (tie.spec
-    (λ c. search rules)
-    (λ c κs. search rules)
     (λ c. search rules)
     (λ c κs. search rules)
     (λ c. search rules)

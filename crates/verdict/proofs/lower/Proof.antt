@@ -5,7 +5,7 @@ use native.Mathlib.Omega.{arith}
 use lib.ListN.{length, get_or, set, length-set}
 use borrow.Author.Rules.{rules}
 use Rattle.plain.specs.Layers.{state_of}
-use Rattle.verdict.specs.Answers.{shownWalk, lowered}
+use Rattle.verdict.specs.Answers.{shown_walk, lowered}
 use Rattle.verdict.proofs.Writing.{over, lowered_next}
 use Rattle.verdict.proofs.lower.Statement.{statement}
 use Rattle.verdict.proofs.lower.Tie as tie
@@ -61,7 +61,7 @@ same_length : tie.Need-same-length invariant-loop decreases-loop
 same_length c = c.before.loop.invariant.1
 
 returns : tie.Need-returns invariant-loop decreases-loop
-unfolding shownWalk
+unfolding shown_walk
 returns c =
     let l = c.before in
     let a = l.before.before.args in

@@ -4,7 +4,7 @@ use mathlib.Core.List.{List}
 use Prim.Native.Nat.{ℕ}
 use native.Mathlib.Omega.{arith}
 use borrow.Author.Rules.{rules}
-use Rattle.verdict.specs.Answers.{shownWalk, lowered}
+use Rattle.verdict.specs.Answers.{shown_walk, lowered}
 use Rattle.verdict.proofs.Writing.{lowered_one, lowered_written}
 use Rattle.verdict.proofs.show_walk.Statement.{statement}
 use Rattle.verdict.proofs.show_walk.Tie as tie
@@ -20,7 +20,7 @@ returns c =
     let w = c.before.before.before in
     let a = w.before.before.before.args in
     λ low fits room. w.write-walk.ensures low fits room
-    ∙ ap (λ (l : List ℕ). shownWalk a.len l a.lent.now) (sym (lowered_one a.size a.above a.walk.now (omega (arith, c.if1.true))))
+    ∙ ap (λ (l : List ℕ). shown_walk a.len l a.lent.now) (sym (lowered_one a.size a.above a.walk.now (omega (arith, c.if1.true))))
 
 wide-requires : tie.Need-wide-requires
 wide-requires c κs = search rules
@@ -47,7 +47,7 @@ returns-3 c =
     let w = n.before.before.before.before.before.before in
     let a = w.before.before.before.args in
     λ low fits room. l.lower.ensures
-    ∙ (λ i. shownWalk (n.wide2.ensures.0 i) (lowered a.size a.above (w.write-walk.ensures low fits room i)) (w.write-walk.ensures low fits room i))
+    ∙ (λ i. shown_walk (n.wide2.ensures.0 i) (lowered a.size a.above (w.write-walk.ensures low fits room i)) (w.write-walk.ensures low fits room i))
     ∙ lowered_written a.size a.above a.len a.walk.now a.lent.now (omega (arith, w.before.before.before.requires))
 
 pub show-walk-spec : {M : Type 1} → statement M
