@@ -1,4 +1,5 @@
 // The lines of a call, a change alone or a batch, tried one after the other on the game's table: all are made or none.
+#![tactic(auto)]
 ghost use Rattle.std.specs.Prelude.{◌≡◌, true, ◌<◌, length, drop};
 ghost use Rattle.rows.specs.Rows.{Tabled};
 ghost use Rattle.table.specs.Trials.{arrays_of, tried};
@@ -7,14 +8,14 @@ ghost use Rattle.batch.specs.Batches.{line_for, line_to, is_change, is_valid, su
 use table::{Op, Position, Subject, Switch, Trial};
 
 // Changes of the game: one change, or a batch, whose lines a lent list holds.
-#[derive(Drop)]
+#[derive(Clone, Copy)]
 pub enum Update {
     Change(Op),
     Batch,
 }
 
 // What a call on a session asks for: changes, or another count of kinds.
-#[derive(Drop)]
+#[derive(Clone, Copy)]
 pub enum Command {
     Update(Update),
     Kinds(u16),
@@ -22,7 +23,7 @@ pub enum Command {
 
 // A line of a batch: what it does, and two numbers. 1 adds a move, 2 cuts one, 3 marks a state, 4 unmarks one; of a move the numbers are its states, of a mark the state and the kind.
 // With any other number it makes no change.
-#[derive(Drop)]
+#[derive(Clone, Copy)]
 pub struct BatchLine {
     pub what: u16,
     pub first: u16,
@@ -30,7 +31,7 @@ pub struct BatchLine {
 }
 
 // What trying a call comes to, and where it ends: at the call itself, or at a line of a batch.
-#[derive(Drop)]
+#[derive(Clone, Copy)]
 pub struct Attempt {
     pub trial: Trial,
     pub position: Position,

@@ -1,6 +1,7 @@
 // Every state on a round: strongly connected components, in one depth-first pass over the rows. The open states, those of components that are not complete, stand in the order of their discovery; they are
 // held in groups, of which each is strongly connected. An edge to an open state of an older group joins the groups from there on, and a group of which no state is left on the
 // path is a component. (Path-based, after Purdom, Munro and Gabow.) Every function is safe, and ends, for any contents of the arrays.
+#![tactic(auto)]
 ghost use Rattle.std.specs.Prelude.{◌≡◌, List, ℕ, ◌+◌, ◌-◌, ◌<◌, length, get_or, drop};
 ghost use Rattle.plain.specs.Lists.{any, elem};
 ghost use Rattle.plain.specs.Table.{accepts};
@@ -11,7 +12,7 @@ ghost use Rattle.components.specs.Model.{row_of, game_in, found_of, board_of, Si
 use rows::wide;
 
 // Where the search stands: how many groups there are, how many states are stack, and how many are on the path.
-#[derive(Drop)]
+#[derive(Clone, Copy)]
 struct Cursor {
     groups: u16,
     top: u16,
@@ -19,7 +20,7 @@ struct Cursor {
 }
 
 // Where going through the edges of a state ends: how many groups are left, and the edge that leads to a state not discovered, given by its index in the row, and its target; or behind the last edge.
-#[derive(Drop)]
+#[derive(Clone, Copy)]
 struct Scanned {
     groups: u16,
     edge: u16,
@@ -28,7 +29,7 @@ struct Scanned {
 }
 
 // The states on a round, as marks in eight words, and how many they are.
-#[derive(Drop)]
+#[derive(Clone, Copy)]
 pub struct Found {
     pub count: u16,
     pub states: [u64; 8],

@@ -1,4 +1,5 @@
 // Lines from standard input, and answers to standard output: what the programs share.
+#![tactic(auto)]
 ghost use Rattle.std.specs.Prelude.{◌≡◌, length};
 ghost use Rattle.console.specs.Lines.{chunk, held_most, Within, Took, Next, is_more, has_line, is_line, first_reader, reader_behind, end_of, bytes_told, Printed};
 
@@ -14,7 +15,7 @@ pub const CHUNK: usize = 512;
 pub const HELD: usize = 33;
 
 // What the bytes so far come to: the line goes on, a line is held whole, it is the last one, or there is none to come.
-#[derive(Drop)]
+#[derive(Clone, Copy)]
 enum Status {
     More,
     Line,
@@ -24,7 +25,7 @@ enum Status {
 
 // Where the reading stands: the bytes of the last read that are taken, how many it brought, how many bytes of a line are held, how many may
 // still come, and what they come to.
-#[derive(Drop)]
+#[derive(Clone, Copy)]
 pub struct Reader {
     at: usize,
     end: usize,

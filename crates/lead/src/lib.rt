@@ -1,4 +1,5 @@
 // What a line asks for, and what is held from line to line.
+#![tactic(auto)]
 ghost use Rattle.std.specs.Prelude.{◌≡◌};
 ghost use Rattle.line.specs.Records.{record_of};
 ghost use Rattle.lead.specs.Asked.{first_lead, staged as Asked·staged, no_task, refusing as Asked·refusing, changing as Asked·changing, setting_kinds, questioning as Asked·questioning, batching as Asked·batching, holding as Asked·holding, is_full, asked_first, asked_move, asked_before, asked_opened, about as Asked·about, request_of, asked_after, asked_inside, asked, takes_pay, filed_pay, takes_move, filed_move, takes_line, line_read, filed_line, filed, is_over};
@@ -10,7 +11,7 @@ use rows::wide;
 use table::{Op, Position, Refusal};
 
 // How far the lead has come: no line yet, straight behind `game`, before `go`, after it, inside a batch, or past a refusal that ends the run.
-#[derive(Drop)]
+#[derive(Clone, Copy)]
 pub enum Stage {
     Waiting,
     Opened,
@@ -22,7 +23,7 @@ pub enum Stage {
 
 // What is held from line to line beside the session, the marks and a list of numbers. Before `go`: N, the start state, the count of kinds, and how many numbers of the list are the
 // moves'. Inside a batch: how many are its lines'. The marks are lent beside it: here they would be copied at each line.
-#[derive(Drop)]
+#[derive(Clone, Copy)]
 pub struct Lead {
     pub stage: Stage,
     pub size: u16,
@@ -32,7 +33,7 @@ pub struct Lead {
 }
 
 // What a line after `go` requests: a change, the begin or the end of a batch, another count of kinds, a question's reply, or nothing that is known there.
-#[derive(Drop)]
+#[derive(Clone, Copy)]
 pub enum Request {
     Change(Op),
     Begin,
@@ -43,14 +44,14 @@ pub enum Request {
 }
 
 // What a line asks of the session. The lines of a batch are those held.
-#[derive(Drop)]
+#[derive(Clone, Copy)]
 pub enum Ask {
     Load,
     Call(Command),
 }
 
 // What is to be done for a line. Only what asks something reaches the session, and only a load or a call may change it.
-#[derive(Drop)]
+#[derive(Clone, Copy)]
 pub enum Task {
     Nothing,
     Refuse(Refusal),
@@ -59,7 +60,7 @@ pub enum Task {
 }
 
 // What is held behind a line, unless the load refuses, and what is to be done.
-#[derive(Drop)]
+#[derive(Clone, Copy)]
 pub struct Plan {
     pub lead: Lead,
     pub task: Task,

@@ -1,4 +1,5 @@
 // One line of the lead: a field as a part of the line, a number, a word, and the record that they make.
+#![tactic(auto)]
 ghost use Rattle.std.specs.Prelude.{◌≡◌, ◌+◌, ◌≤◌, length, drop};
 ghost use Rattle.line.specs.Fields.{up_to, field_at};
 ghost use Rattle.line.specs.Numbers.{number_of};
@@ -38,14 +39,14 @@ pub const TAB: u8 = 9;
 pub const NEWLINE: u8 = 10;
 
 // What a field spells: a number within a limit, or none.
-#[derive(Drop)]
+#[derive(Clone, Copy)]
 pub enum Number {
     Is(u16),
     Bad,
 }
 
 // The words that a line may begin with; a line that cannot be read has none of them.
-#[derive(Drop)]
+#[derive(Clone, Copy)]
 pub enum Word {
     Game,
     Pay,
@@ -65,7 +66,7 @@ pub enum Word {
 
 // A row of the table of words: a word, how many numbers follow it, how large they may be, and the kind that is meant where none follows these, 0 for a
 // word that takes no kind.
-#[derive(Drop)]
+#[derive(Clone, Copy)]
 struct Row {
     word: Word,
     count: u16,
@@ -74,7 +75,7 @@ struct Row {
 }
 
 // What a line says: its word and its numbers, 0 where the word takes fewer. A kind is the second of them, 1 where none is written.
-#[derive(Drop)]
+#[derive(Clone, Copy)]
 pub struct Record {
     pub word: Word,
     pub first: u16,
@@ -82,7 +83,7 @@ pub struct Record {
 }
 
 // What stands behind a field: a number and where its field ends, no number, or nothing, since the line ends there.
-#[derive(Drop)]
+#[derive(Clone, Copy)]
 enum Item {
     Is(u16, usize),
     Bad,

@@ -1,5 +1,6 @@
 // How a search reads a row: numbers of 16 bits, arrays of them, sets of states, the one function that hands out a target and counts, and the scan of a row.
 // Every function is safe for any contents of the arrays.
+#![tactic(auto)]
 ghost use Rattle.std.specs.Prelude.{◌≡◌, ◌+◌, ◌-◌, ◌*◌, ◌%◌, ◌<◌, true, length, replicate, slice_index, slice_index_or, slice_set};
 ghost use Rattle.rows.specs.Rows.{entries, place_of};
 ghost use Rattle.look.specs.Numbers.{up as upped, further as oneFurther, plus as added};
@@ -8,14 +9,14 @@ ghost use Rattle.look.specs.Scan.{Spans, spanned, layout_of, ends_of, Stretches,
 use rows::wide;
 
 // The places of a row: those from one up to another.
-#[derive(Drop)]
+#[derive(Clone, Copy)]
 pub struct Row {
     pub from: usize,
     pub stop: usize,
 }
 
 // A row as a search reads it: its first place, how many edges it has, and what is added to each target.
-#[derive(Drop)]
+#[derive(Clone, Copy)]
 pub struct Stretch {
     pub from: usize,
     pub count: usize,
@@ -23,7 +24,7 @@ pub struct Stretch {
 }
 
 // Where a scan of a row ends: at an edge, given by its index in the row, and its target, or behind the last edge.
-#[derive(Drop)]
+#[derive(Clone, Copy)]
 pub struct Scanned {
     pub edge: u16,
     pub target: u16,

@@ -1,17 +1,18 @@
 // Questions on a session: what is asked, what is replied, and how a reply is read off the arrays of a table. A question changes nothing.
+#![tactic(auto)]
 ghost use Rattle.std.specs.Prelude.{◌≡◌, length};
 ghost use Rattle.rows.specs.Rows.{Tabled};
 ghost use Rattle.question.specs.Replies.{ways_in, ShortIn};
 
 // What is asked about: the moves that leave and enter a state, or the shortest round.
-#[derive(Drop)]
+#[derive(Clone, Copy)]
 pub enum Topic {
     Ways,
     Short,
 }
 
 // A question: what is asked about, and the number that goes with it. Of `Ways` it is the state, of `Short` the budget.
-#[derive(Drop)]
+#[derive(Clone, Copy)]
 pub struct Question {
     pub topic: Topic,
     pub number: u16,
@@ -19,7 +20,7 @@ pub struct Question {
 
 // What is replied: the number of a refusal; of `Ways`, the state and the counts of moves that leave and enter it; of `Short`, the length of the best round known and the smallest that
 // is not ruled out, or that there is no round.
-#[derive(Drop)]
+#[derive(Clone, Copy)]
 pub enum Reply {
     Refused(u16),
     Degrees {

@@ -1,4 +1,5 @@
 // Where a search is taken up for a call: read off the records of the search before, while the rows are those that it has read.
+#![tactic(auto)]
 ghost use Rattle.std.specs.Prelude.{◌≡◌, ◌≤◌, length, take};
 ghost use Rattle.rows.specs.Rows.{Tabled};
 ghost use Rattle.rows.specs.Change.{rows_of};
@@ -10,7 +11,7 @@ use batch::BatchLine;
 use table::Subject;
 
 // Where a search is taken up: nowhere, since it had not come to what a change alters, or where the state was discovered that the change names.
-#[derive(Drop)]
+#[derive(Clone, Copy)]
 pub enum Resumption {
     Nowhere,
     At(u16),
@@ -154,7 +155,7 @@ fn name_states(alone: bool, only: BatchLine, lines: &[u16], states: &mut [u16; N
 }
 
 // The earliest of some copies and of those before them: its discovery number and the copy. Before any has been discovered the number is none.
-#[derive(Drop)]
+#[derive(Clone, Copy)]
 struct First {
     number: u16,
     copy: u16,

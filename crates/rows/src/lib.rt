@@ -1,6 +1,7 @@
 // The edges as compressed rows: the targets of v's edges stand at starts[v] to starts[v + 1], oldest first.
 // The states are the numbers below a size: starts[size] is the count of edges, and every start behind it is 0, so that a change moves no more starts than the table has.
 // Every function is safe for any contents of the arrays.
+#![tactic(auto)]
 ghost use Rattle.std.specs.Prelude.{◌≡◌, ◌<◌, ◌≤◌, length, get_or};
 ghost use Rattle.rows.specs.Rows.{degree_at, row_at, edge_count, place_of, Tabled};
 ghost use Rattle.rows.specs.Shift.{opened, shut, moved_one, moved_starts};

@@ -7,6 +7,7 @@
 // stamp, by state: how many states were discovered when the nested search marked it
 // walk: the open path, and behind it the path of the nested search; depth, by state: its place on the open path
 // cursor, by place of the walk: the edge that the nested search took last from the state there
+#![tactic(auto)]
 mod outer; // steps of the outer search
 mod nested; // steps of the nested search
 mod rewind; // the arrays as they stood when a state was discovered
@@ -15,7 +16,7 @@ mod run; // the search, begun or resumed, to its end
 pub use rewind::begin;
 pub use run::resume;
 
-#[derive(Drop)]
+#[derive(Clone, Copy)]
 pub enum Phase {
     Outer,
     Nested,
@@ -24,7 +25,7 @@ pub enum Phase {
 }
 
 // Where the search stands.
-#[derive(Drop)]
+#[derive(Clone, Copy)]
 pub struct Walker {
     pub phase: Phase,
     // the state whose edges are being taken, and the index of its next edge

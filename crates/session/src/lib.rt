@@ -1,4 +1,5 @@
 // One session: the game's table and the records of its search. It is made by a load and by nothing else.
+#![tactic(auto)]
 ghost use Rattle.std.specs.Prelude.{◌≡◌, ◌+◌, ◌-◌, length};
 ghost use Rattle.rows.specs.Rows.{Tabled};
 ghost use Rattle.rows.specs.Change.{rows_of};
@@ -19,7 +20,7 @@ use table::{Position, Trial};
 use verdict::Answer;
 
 // What a search has come to: the lengths of stem and walk (0: no walk), the height of the open path, and the probes.
-#[derive(Drop)]
+#[derive(Clone, Copy)]
 struct Verdict {
     stem: u16,
     length: u16,
@@ -29,7 +30,7 @@ struct Verdict {
 }
 
 // The answer to a call, what its search has come to, and the count of kinds that it leaves.
-#[derive(Drop)]
+#[derive(Clone, Copy)]
 struct Settled {
     answer: Answer,
     verdict: Verdict,
@@ -38,7 +39,7 @@ struct Settled {
 
 // stem and length are those of the last walk (0: none), height that of the open path at the search's end, total counts its probes.
 // The numbers stand between the arrays, and the longest array last: so the compiler takes the struct apart, which saves copies and stack (docs/DECISIONS.md, 106).
-#[derive(Drop)]
+#[derive(Clone, Copy)]
 pub struct Session {
     size: u16,
     // by state of the layers: discovery number, parent, index of the edge in the parent's row, probes by then
@@ -65,7 +66,7 @@ pub struct Session {
     targets: [u16; 2048],
 }
 
-#[derive(Drop)]
+#[derive(Clone, Copy)]
 pub struct Outcome {
     pub answer: Answer,
     pub session: Session,

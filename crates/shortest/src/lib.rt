@@ -1,4 +1,5 @@
 // The shortest round within a budget of looks: breadth-first searches for the lengths 1, 2 and so on. Every function is safe, and ends, for any contents of the arrays.
+#![tactic(auto)]
 ghost use Rattle.std.specs.Prelude.{◌≡◌, false, length, replicate};
 ghost use Rattle.plain.specs.Table.{Table};
 ghost use Rattle.rows.specs.Rows.{Tabled};
@@ -7,7 +8,7 @@ ghost use Rattle.shortest.specs.Model.{goes_on, root_in, board_of, Sized, Notes,
 use rows::wide;
 
 // What looks at some edges have come to: all were looked at, one came back, or the budget does not allow the next.
-#[derive(Drop)]
+#[derive(Clone, Copy)]
 enum Sweep {
     Through,
     Back,
@@ -15,14 +16,14 @@ enum Sweep {
 }
 
 // The same, and where the queue of the states seen then ends.
-#[derive(Drop)]
+#[derive(Clone, Copy)]
 struct Swept {
     sweep: Sweep,
     tail: u16,
 }
 
 // The two lengths: of the best round known, and the smallest that is not ruled out.
-#[derive(Drop)]
+#[derive(Clone, Copy)]
 pub struct Lengths {
     pub best: u16,
     pub least: u16,

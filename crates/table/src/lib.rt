@@ -1,4 +1,5 @@
 // The game's table in its arrays: a load and changes are tried on it, and accepted ones are filed in its rows and its marks. No search.
+#![tactic(auto)]
 ghost use Rattle.std.specs.Prelude.{◌≡◌, length, ◌<◌};
 ghost use Rattle.plain.specs.Lists.{any, any_below};
 ghost use Rattle.plain.specs.Table.{by_kind};
@@ -11,21 +12,21 @@ ghost use Rattle.table.specs.Filing.{recounted, counted_all, filed_in, Attempted
 use rows::wide;
 
 // Where a refusal stands: it is that of the call, or that of a line of a batch, with its position.
-#[derive(Drop)]
+#[derive(Clone, Copy)]
 pub enum Position {
     Alone,
     Line(u16),
 }
 
 // A refusal: its number in the documents' lists, and where it stands.
-#[derive(Drop)]
+#[derive(Clone, Copy)]
 pub struct Refusal {
     pub number: u16,
     pub position: Position,
 }
 
 // A change of the table: of its moves, or of its paying marks. Kinds of pay count from 1.
-#[derive(Drop)]
+#[derive(Clone, Copy)]
 pub enum Op {
     Add { from: u16, to: u16 },
     Cut { from: u16, to: u16 },
@@ -34,7 +35,7 @@ pub enum Op {
 }
 
 // What a change switches on or off: an edge (move), or a state's paying mark.
-#[derive(Drop)]
+#[derive(Clone, Copy)]
 pub enum Subject {
     Edge { from: u16, to: u16 },
     Mark { state: u16, kind: u16 },
@@ -42,14 +43,14 @@ pub enum Subject {
 
 // A change as it is made: what is switched, and whether it comes or goes. Every test of it has two ways out: a match of the four kinds between the copies of the
 // session out and in would cost a third copy (docs/DECISIONS.md, 68).
-#[derive(Drop)]
+#[derive(Clone, Copy)]
 pub struct Switch {
     pub on: bool,
     pub subject: Subject,
 }
 
 // What trying a call comes to: the number of the first condition that holds.
-#[derive(Drop)]
+#[derive(Clone, Copy)]
 pub enum Trial {
     Accepted,
     Refused(u16),

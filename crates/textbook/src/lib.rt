@@ -1,5 +1,6 @@
 // Nested depth-first search as it is taught, for a table without history. One function visits a state, the other explores its edges (its moves), and each calls the other.
 // The nested (inner) search is made in the same manner. Every function is safe, and ends, for any contents of the arrays.
+#![tactic(auto)]
 ghost use Rattle.std.specs.Prelude.{◌≡◌, Bool, true, false, List, ◌<◌, length, get_or, set};
 ghost use Rattle.plain.specs.Table.{by_kind};
 ghost use Rattle.rows.specs.Rows.{Tabled};
@@ -13,7 +14,7 @@ use table::{Position, Trial};
 use verdict::Answer;
 
 // What a search has come to: no round, or a round. The walk then has so many states, of which so many are the stem.
-#[derive(Drop)]
+#[derive(Clone, Copy)]
 enum Finding {
     Clear,
     Round { stem: u16, length: u16 },

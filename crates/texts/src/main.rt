@@ -1,6 +1,7 @@
 // Runs the watch on each of the texts of standard input, and prints each output and the number returned.
 // A block of 65,536 bytes is a list of texts, parted by a byte 30; the last block may be shorter.
 // Their results are of another hand (tests/).
+#![tactic(auto)]
 ghost use Rattle.std.specs.Prelude.{◌≤◌};
 
 use libc::{STDIN_FILENO, STDOUT_FILENO};

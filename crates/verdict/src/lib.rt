@@ -1,4 +1,5 @@
 // What a search has come to, as the answer to a call and as a walk in the list lent for it.
+#![tactic(auto)]
 ghost use Rattle.std.specs.Prelude.{◌≡◌, ◌++◌, ◌+◌, ◌≤◌, length, take, drop};
 ghost use Rattle.verdict.specs.Answers.{answer_is, refusing, is_refused, shown_walk, lowered, Tells};
 
@@ -6,7 +7,7 @@ use rows::wide;
 use table::{Position, Refusal};
 
 // The answer to a call: a refusal, or the probes spent and kept, and with a round the lengths of stem and round.
-#[derive(Drop)]
+#[derive(Clone, Copy)]
 pub enum Answer {
     Refused(Refusal),
     Clear {

@@ -1,4 +1,5 @@
 // Lines in, lines out: what the session answers to what a line asks for, and the lines that tell it.
+#![tactic(auto)]
 ghost use Rattle.std.specs.Prelude.{◌≡◌, ◌∷◌, [], ◌≤◌, min, length, take};
 ghost use Rattle.answer.specs.Bytes.{Put};
 ghost use Rattle.answer.specs.Rendering.{render};
@@ -29,14 +30,14 @@ pub const WALK: usize = 512;
 pub const LINES: usize = 3200;
 
 // The lengths of a first line and of all.
-#[derive(Drop)]
+#[derive(Clone, Copy)]
 struct LineLengths {
     first: usize,
     len: usize,
 }
 
 // What is held behind a line, and the lengths of its first output line and of all.
-#[derive(Drop)]
+#[derive(Clone, Copy)]
 pub struct Written {
     pub lead: Lead,
     pub first: usize,
