@@ -1,0 +1,44 @@
+-- `answer::put_fields` meets its contract: before each turn the fields of the first i numbers are put in.
+use Prim.Native.Nat.{◌-◌}
+use mathlib.Core.Path.{refl, ◌∙◌}
+use native.Mathlib.Omega.{arith}
+use Rattle.answer.proofs.Laws.{put_then, fields_none, fields_more, fields_all, fields_room}
+use Rattle.answer.proofs.put_fields.Goals as goal
+
+pub loop-i-init : goal.loop-i-init
+loop-i-init c = (omega arith, refl, fields_none _ _ c.args.numbers.now)
+
+pub offset_bounds-numbers-i : goal.offset_bounds-numbers-i
+offset_bounds-numbers-i c = omega arith
+
+pub bounds-numbers-i : goal.bounds-numbers-i
+bounds-numbers-i c = omega arith
+
+pub put_field-next-requires : goal.put_field-next-requires
+put_field-next-requires c = let l = c in
+    let s = l in
+    omega (arith, s.requires, fields_room s.args.numbers.now l.loop-i.i c.loop-i-test.true, l.loop-i.invariant.2.next)
+
+pub overflow_add-i : goal.overflow_add-i
+overflow_add-i c = omega arith
+
+pub loop-i-smaller : goal.loop-i-smaller
+loop-i-smaller c = omega arith
+
+pub loop-i-preserved : goal.loop-i-preserved
+loop-i-preserved c = let l = c in
+    let s = l in
+    let p = c.put_field-next in (
+      omega arith,
+      p.auto.0 ∙ l.loop-i.invariant.1,
+      rw (fields_more s.args.numbers.now l.loop-i.i (omega arith))
+          (put_then _ _ _ _ _ _ _ _ (omega (arith, s.requires)) l.loop-i.invariant.2 p.ensures),
+    )
+
+pub shape_of-out : goal.shape_of-out
+shape_of-out c = c.loop-i.invariant.1
+
+pub returns : goal.returns
+returns c = let l = c in
+    let s = l in
+    rw (← fields_all s.args.numbers.now l.loop-i.i (omega arith)) l.loop-i.invariant.2

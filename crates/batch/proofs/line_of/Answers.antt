@@ -1,0 +1,14 @@
+-- `line_of` meets its contract. Assumes nothing.
+use Rattle.batch.proofs.line_of.Goals as goal
+
+pub returns-in-Add : goal.returns-in-Add
+returns-in-Add c = rw c.op-1.given.1 c.line.ensures
+
+pub returns-in-Cut : goal.returns-in-Cut
+returns-in-Cut c = rw c.op-in-Cut-1.given.1 c.line-in-Cut.ensures
+
+pub returns-in-Mark : goal.returns-in-Mark
+returns-in-Mark c = rw c.op-in-Mark-1.given.1 c.line-in-Mark.ensures
+
+pub returns-in-Unmark : goal.returns-in-Unmark
+returns-in-Unmark c = rw c.op-in-Unmark-1.given.1 c.line-in-Unmark.ensures

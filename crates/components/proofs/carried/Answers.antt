@@ -1,0 +1,46 @@
+-- `carried` meets its contract: the test of the states that are left comes to that of all. Assumes nothing.
+use mathlib.Core.Path.{refl, sym, ◌∙◌}
+use mathlib.Core.Bool.{true, false}
+use Prim.Native.Nat.{◌-◌}
+use native.Mathlib.Omega.{arith}
+use Rattle.components.proofs.Laws.{test_ends, test_next}
+use Rattle.components.proofs.carried.Goals as goal
+
+pub loop-i-init : goal.loop-i-init
+loop-i-init c = refl
+
+pub get-requires : goal.get-requires
+get-requires c = c.requires.0
+
+pub wide-requires : goal.wide-requires
+wide-requires c = tt
+
+pub overflow_add-base : goal.overflow_add-base
+overflow_add-base c = omega (arith, c.wide.ensures.1, c.requires.1)
+
+pub accepts_in-requires : goal.accepts_in-requires
+accepts_in-requires c = tt
+
+pub returns-then-accepts_in : goal.returns-then-accepts_in
+returns-then-accepts_in c = let a = c in
+    let w = a in
+    let g = w in
+    let i = g in
+    test_next _ _ _ _ i.loop-i-test.true _ (w.wide.ensures.0 ∙ g.get.ensures) true (sym a.accepts_in.ensures ∙ c.if-accepts_in.true) ∙ i.loop-i.invariant
+
+pub overflow_add-i : goal.overflow_add-i
+overflow_add-i c = let i = c in
+    omega (arith, i.loop-i-test.true, i.ranges.stop)
+
+pub loop-i-smaller : goal.loop-i-smaller
+loop-i-smaller c = let i = c in omega (arith, i.loop-i-test.true)
+
+pub loop-i-preserved : goal.loop-i-preserved
+loop-i-preserved c = let a = c in
+    let w = a in
+    let g = w in
+    let i = g in
+    test_next _ _ _ _ i.loop-i-test.true _ (w.wide.ensures.0 ∙ g.get.ensures) false (sym a.accepts_in.ensures ∙ c.if-accepts_in.false) ∙ i.loop-i.invariant
+
+pub returns : goal.returns
+returns c = test_ends _ _ _ _ c.loop-i-test.false ∙ c.loop-i.invariant

@@ -1,0 +1,44 @@
+-- `list` meets its contract: of the states passed, those on a round are marked and counted. Assumes nothing.
+use mathlib.Core.Path.{sym, ◌∙◌}
+use mathlib.Core.Logic.{⊎_elim}
+use Prim.Native.Nat.{◌-◌}
+use native.Mathlib.Omega.{arith}
+use Rattle.components.proofs.Laws.{listed_none, listed_few, listed_one, listed_other, listed_end}
+use Rattle.components.proofs.list.Goals as goal
+
+pub loop-s-init : goal.loop-s-init
+loop-s-init c = (omega arith, listed_none _)
+
+pub get-requires : goal.get-requires
+get-requires c = c.requires
+
+pub slice_bounds-set_mark-end : goal.slice_bounds-set_mark-end
+slice_bounds-set_mark-end c = sym c.loop-s.invariant.1.states_size
+
+pub wide-requires : goal.wide-requires
+wide-requires c = tt
+
+pub set_mark-requires : goal.set_mark-requires
+set_mark-requires c = tt
+
+pub overflow_add-count : goal.overflow_add-count
+overflow_add-count c = let i = c in
+    omega (arith, i.loop-s-test.true, listed_few _ _ _ _ i.loop-s.invariant.1)
+
+pub overflow_add-s : goal.overflow_add-s
+overflow_add-s c = omega (arith, c.loop-s-test.true)
+
+pub loop-s-smaller : goal.loop-s-smaller
+loop-s-smaller c = omega (arith, c.loop-s-test.true)
+
+pub loop-s-preserved : goal.loop-s-preserved
+loop-s-preserved c = let g = c in
+    let i = g in
+    let l = i.loop-s.invariant.1 in (
+      omega (arith, i.loop-s-test.true),
+      ⊎_elim (λ w. listed_one _ _ _ _ l _ g.get.ensures _ _ w.0.taken _ w.2.ensures.0 (w.5 ∙ w.3.ensures) w.6)
+          (λ w. listed_other _ _ _ _ l _ g.get.ensures _ _ w.0.left w.1 w.2) c.if-get.branch,
+    )
+
+pub returns : goal.returns
+returns c = let h = c in listed_end _ _ _ _ h.loop-s.invariant.1 h.loop-s.invariant.0 c.loop-s-test.false

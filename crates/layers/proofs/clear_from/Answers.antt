@@ -1,0 +1,18 @@
+-- `clear_from` meets its contract: the bits from the first up to v are cleared. Assumes nothing.
+use Prim.Native.Nat.{◌-◌}
+use Rattle.layers.proofs.Clearing.{cleared_none, cleared_one, cleared_all}
+use Rattle.layers.proofs.clear_from.Goals as goal
+
+pub loop-v-init : goal.loop-v-init
+loop-v-init c = cleared_none c.args.first c.args.words.now
+
+pub clear_mark-requires : goal.clear_mark-requires
+clear_mark-requires c = tt
+
+pub loop-v-preserved : goal.loop-v-preserved
+loop-v-preserved c = let h = c in
+    rw c.clear_mark.ensures (cleared_one h.args.first h.loop-v.v h.args.words.now h.loop-v.words h.loop-v.invariant)
+
+pub returns : goal.returns
+returns c = let h = c in
+    cleared_all h.args.first h.loop-v.v h.args.words.now h.loop-v.words h.loop-v.invariant c.loop-v-test.false

@@ -1,0 +1,14 @@
+-- `lead::line_of`: by whether a change is requested.
+use mathlib.Core.Path.{sym, ap, ◌∙◌}
+use Rattle.lead.specs.Asked.{line_from, line_read}
+use Rattle.lead.proofs.Asking.{no_change}
+use Rattle.lead.proofs.line_of.Goals as goal
+
+pub returns-in-Change : goal.returns-in-Change
+unfolding line_read
+returns-in-Change c = let q = c in
+    c.line_of.ensures ∙ ap line_from (sym q.request-1.given.1 ∙ q.request_of-request.ensures)
+
+pub returns : goal.returns
+unfolding line_read
+returns c = no_change c.request_of-request.result c.in_default.keys2 ∙ ap line_from c.request_of-request.ensures

@@ -1,0 +1,32 @@
+-- `fill` meets its contract: the first i entries are x, the others are as they were. Assumes nothing.
+use Rattle.std.proofs.Common.{◌≡◌, ℕ, zero, suc, ◌-◌, ◌<◌, List, [], ◌∷◌, ◌++◌, length, drop, set, replicate, refl, ap, ◌∙◌, le_of_suc-le-suc, not-suc-le-zero, add-one, arith}
+use Rattle.look.proofs.fill.Goals as goal
+
+-- the first i entries are x, the rest as they were
+abbrev filled : ℕ → ℕ → List ℕ → List ℕ
+filled x i xs = replicate i x ++ drop i xs
+
+module _ (x : ℕ) where
+  filled-write : (xs : List ℕ) (i : ℕ) → i < length xs → set (filled x i xs) i x ≡ filled x (suc i) xs
+  filled-write [] i h = absurd (not-suc-le-zero h)
+  filled-write (y ∷ xs) zero h = refl
+  filled-write (y ∷ xs) (suc i) h = ap (λ (r : List ℕ). x ∷ r) (filled-write xs i (le_of_suc-le-suc h))
+
+  filled-all : (xs : List ℕ) (i : ℕ) → length xs ≡ i → filled x i xs ≡ replicate i x
+  filled-all [] zero h = refl
+  filled-all [] (suc i) h = absurd (omega arith)
+  filled-all (y ∷ xs) zero h = absurd (omega arith)
+  filled-all (y ∷ xs) (suc i) h = ap (λ (r : List ℕ). x ∷ r) (filled-all xs i (omega arith))
+
+pub loop-i-preserved : goal.loop-i-preserved
+loop-i-preserved c = let h = c in
+    let a = h.args in (
+      omega arith,
+      rw add-one (ap (λ (l : List ℕ). set l h.loop-i.i a.x) h.loop-i.invariant.1 ∙ filled-write a.x a.a.now h.loop-i.i (omega (arith, h.requires))),
+    )
+
+pub returns : goal.returns
+returns c = let h = c in
+    let a = h.args in
+    let all : h.loop-i.i ≡ 512 = omega (arith, h.loop-i.invariant.0) in
+    h.loop-i.invariant.1 ∙ ap (λ (i : ℕ). filled a.x i a.a.now) all ∙ filled-all a.x a.a.now 512 h.requires

@@ -1,0 +1,39 @@
+-- `lay_ends` meets its contract: the first i entries are the starts behind. Assumes nothing.
+use Rattle.std.proofs.Common.{◌≡◌, ℕ, ◌+◌, ◌-◌, ◌<◌, ◌≤◌, eqb, List, length, get_or, set, sym, ◌∙◌, ⊎_elim, arith, length-set, get_or-set_other, get_or-set_same, ext_get_or, eqb-true}
+use borrow.Author.Tests.{eqb-false}
+use Rattle.plain.proofs.Tests.{either}
+use Rattle.rows.proofs.Paste.{same_place}
+use Rattle.rows.proofs.Entries.{entries_length, entries_at}
+use Rattle.look.specs.Scan.{ends_of}
+use Rattle.look.proofs.lay_ends.Goals as goal
+
+-- the first i entries are the starts behind
+pub record Laid (starts ends : List ℕ) (i : ℕ) : Type 0 where
+  pub within : i ≤ 512
+  pub size : length ends ≡ 512
+  pub laid : (j : ℕ) → j < i → get_or ends j 0 ≡ get_or starts (1 + j) 0
+
+laid_more : (starts ends : List ℕ) (i : ℕ) → i < 512 → Laid starts ends i → Laid starts (set ends i (get_or starts (i + 1) 0)) (i + 1)
+laid_more starts ends i h r = record {
+  within = omega arith;
+  size = length-set ends i (get_or starts (i + 1) 0) ∙ r.size;
+  laid = λ j l. ⊎_elim
+      (λ e. let z : j ≡ i = eqb-true j i e in
+      same_place (set ends i (get_or starts (i + 1) 0)) z ∙ get_or-set_same ends i (get_or starts (i + 1) 0) 0 (omega (arith, r.size)) ∙ same_place starts (omega arith))
+      (λ e. let z : (j ≡ i) → ⊥ = eqb-false j i e in get_or-set_other ends i j (get_or starts (i + 1) 0) 0 z ∙ r.laid j (omega arith)) (either (eqb j i));
+}
+
+laid_all : (starts ends : List ℕ) (i : ℕ) → 512 ≤ i → Laid starts ends i → ends ≡ ends_of starts
+unfolding ends_of
+laid_all starts ends i h r =
+    ext_get_or 0 ends (ends_of starts) (r.size ∙ sym (entries_length 512 1 starts))
+    (λ j l. r.laid j (omega (arith, r.size)) ∙ sym (entries_at 512 1 starts j (omega (arith, r.size))))
+
+pub loop-v-init : goal.loop-v-init
+loop-v-init c = record { within = omega arith; size = c.requires.1; laid = λ j l. absurd (omega arith) }
+
+pub loop-v-preserved : goal.loop-v-preserved
+loop-v-preserved c = let h = c in laid_more h.args.starts.now h.loop-v.ends h.loop-v.v c.loop-v-test.true h.loop-v.invariant
+
+pub returns : goal.returns
+returns c = let h = c in laid_all h.args.starts.now h.loop-v.ends h.loop-v.v c.loop-v-test.false h.loop-v.invariant

@@ -1,0 +1,46 @@
+-- `insert` meets its contract. Assumes nothing.
+use mathlib.Core.Path.{◌≡◌, ◌∙◌}
+use mathlib.Core.Logic.{⊎_elim}
+use Prim.Native.Nat.{suc, ◌≤◌, ◌<◌}
+use native.Mathlib.Omega.{arith}
+use borrow.Author.Tests.{ltb-true, leb-true, ltb-false, leb-false}
+use lib.ListN.{get_or}
+use Rattle.rows.specs.Rows.{edge_count}
+use Rattle.rows.proofs.Paste.{same_place}
+use Rattle.rows.proofs.Outcome.{insert_done, insert_undone}
+use borrow.Author.Rules.{rules}
+use Rattle.rows.proofs.insert.Goals as goal
+use Rattle.rows.proofs.insert.Goals.{After-wide-count, Then-count-lt-EDGES}
+
+-- the place and the count that were read
+found : (c : After-wide-count) → (c.wide-at.result ≡ get_or c.args.starts.now (suc c.args.v) 0)
+    × (c.wide-count.result ≡ edge_count c.args.starts.now c.args.size)
+found c =
+    let s = c in (
+      c.wide-at.ensures.0 ∙ s.start_of.ensures ∙ same_place c.args.starts.now (omega arith),
+      c.wide-count.ensures.0 ∙ c.edge_count.ensures,
+    )
+
+-- the tests that were passed
+passed : (c : Then-count-lt-EDGES) → let w = c in
+    (w.args.size ≤ 512) × (w.args.v < w.args.size) × (w.wide-at.result ≤ w.wide-count.result) × (w.wide-count.result < 2048)
+passed c = (omega (arith, c.if-size-le-STATES.true), omega (arith, ltb-true), omega (arith, leb-true), omega (arith, ltb-true))
+
+pub move_starts-requires : goal.move_starts-requires
+move_starts-requires c = let p = passed c.before.before.before.before in
+    (omega arith, omega arith, search rules)
+
+pub returns-then-count-lt-EDGES : goal.returns-then-count-lt-EDGES
+returns-then-count-lt-EDGES c = let f = c in
+    let p = passed f.before.before.before.before.before in
+    let w = f in
+    let a = w.args in
+    insert_done a.size a.v a.t a.targets.now a.starts.now _ _ (found w.before.before.before.before.before.before.before.before.before).0 (found w.before.before.before.before.before.before.before.before.before).1 p.0 p.1 p.2 p.3 _ _
+    (omega arith) c.wide.ensures.0 _ _ c.shift_up.ensures c.move_starts.ensures
+
+pub returns-else-size-le-STATES : goal.returns-else-size-le-STATES
+returns-else-size-le-STATES c = let w = c in
+    let a = w.args in
+    insert_undone a.size a.v a.t a.targets.now a.starts.now _ _ (found w.before).0 (found w.before).1
+    (λ few state ends free.
+    ⊎_elim (λ l. omega (arith, ltb-false)) (⊎_elim (λ l. omega (arith, leb-false)) (⊎_elim (λ l. omega (arith, ltb-false)) (λ l. omega arith))) c.else-size-le-STATES.branch)

@@ -1,0 +1,49 @@
+-- `remove` meets its contract. Assumes nothing.
+use mathlib.Core.Path.{◌≡◌, ◌∙◌}
+use mathlib.Core.Logic.{⊎_elim}
+use Prim.Native.Nat.{ℕ, ◌+◌, ◌≤◌, ◌<◌}
+use native.Mathlib.Omega.{arith}
+use borrow.Author.Tests.{ltb-true, leb-true, ltb-false, leb-false}
+use lib.ListN.{get_or}
+use Rattle.rows.specs.Rows.{edge_count}
+use Rattle.rows.proofs.Paste.{same_place}
+use Rattle.rows.proofs.Outcome.{remove_done, remove_undone}
+use borrow.Author.Rules.{rules}
+use Rattle.rows.proofs.remove.Goals as goal
+use Rattle.rows.proofs.remove.Goals.{After-wide-count, Then-count-le-EDGES}
+
+-- the place of the edge
+abbrev at : After-wide-count → ℕ
+at c = c.wide.result + c.wide-2.result
+
+-- the place and the count that were read
+found : (c : After-wide-count) → (at c ≡ get_or c.args.starts.now c.args.v 0 + c.args.k)
+    × (c.wide-count.result ≡ edge_count c.args.starts.now c.args.size)
+found c =
+    let s = c in
+    let from = s.start_of.ensures ∙ same_place c.args.starts.now s.wide-i.ensures.0 in
+    (omega arith, c.wide-count.ensures.0 ∙ c.edge_count.ensures)
+
+-- the tests that were passed
+passed : (c : Then-count-le-EDGES) → let w = c in
+    (w.args.size ≤ 512) × (w.args.v < w.args.size) × (at w.before.before.before.before < w.wide-count.result) × (w.wide-count.result ≤ 2048)
+passed c = (omega (arith, c.if-size-le-STATES.true), omega (arith, ltb-true), omega (arith, ltb-true), omega (arith, leb-true))
+
+pub move_starts-requires : goal.move_starts-requires
+move_starts-requires c = let p = passed c.before.before.before.before in
+    (omega arith, omega arith, search rules)
+
+pub returns-then-count-le-EDGES : goal.returns-then-count-le-EDGES
+returns-then-count-le-EDGES c = let f = c in
+    let p = passed f.before.before.before.before.before in
+    let w = f in
+    let a = w.args in
+    remove_done a.size a.v a.k a.targets.now a.starts.now _ _ (found w.before.before.before.before.before.before.before.before.before).0 (found w.before.before.before.before.before.before.before.before.before).1 p.0 p.1 p.2 p.3 _ _
+    (omega arith) c.wide-then-count-le-EDGES.ensures.0 _ _ c.shift_down.ensures c.move_starts.ensures
+
+pub returns-else-size-le-STATES : goal.returns-else-size-le-STATES
+returns-else-size-le-STATES c = let w = c in
+    let a = w.args in
+    remove_undone a.size a.v a.k a.targets.now a.starts.now _ _ (found w.before).0 (found w.before).1
+    (λ few state there held.
+    ⊎_elim (λ l. omega (arith, leb-false)) (⊎_elim (λ l. omega (arith, ltb-false)) (⊎_elim (λ l. omega (arith, ltb-false)) (λ l. omega arith))) c.else-size-le-STATES.branch)

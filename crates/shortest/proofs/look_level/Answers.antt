@@ -1,0 +1,45 @@
+-- `look_level` meets its contract: each turn is a state of the level, and what is left of the level comes to what the whole does. Assumes nothing.
+use mathlib.Core.Path.{sym, ◌∙◌}
+use Prim.Native.Nat.{◌-◌}
+use native.Mathlib.Omega.{arith}
+use borrow.Author.Tests.{not-true, not-false}
+use Rattle.shortest.proofs.Levels.{left_begins, left_ends, left_halts, left_goes_on}
+use Rattle.shortest.proofs.look_level.Goals as goal
+
+pub loop-i-init : goal.loop-i-init
+loop-i-init c = (c.requires.1, left_begins _ _ _ _ _ _ _)
+
+pub get-v-requires : goal.get-v-requires
+get-v-requires c = c.loop-i.invariant.0.queue_size
+
+pub look_through-r-requires : goal.look_through-r-requires
+look_through-r-requires c = let h = c in
+    (h.requires.0, h.loop-i.invariant.0)
+
+pub goes_on-requires : goal.goes_on-requires
+goes_on-requires c = tt
+
+pub returns-then-not-goes_on : goal.returns-then-not-goes_on
+returns-then-not-goes_on c = let o = c in
+    let l = o in
+    let k = l in
+    let i = k in
+    let h = i in
+    left_halts _ _ _ _ _ _ _ _ _ _ h.loop-i.invariant.1 i.loop-i-test.true _ k.get-v.ensures _ _ l.look_through-r.ensures (sym o.goes_on.ensures ∙ not-true _ c.if-not-goes_on.true-raw)
+
+pub overflow_add-i : goal.overflow_add-i
+overflow_add-i c = let i = c in omega (arith, i.loop-i-test.true, i.ranges.stop)
+
+pub loop-i-smaller : goal.loop-i-smaller
+loop-i-smaller c = let i = c in omega (arith, i.loop-i-test.true)
+
+pub loop-i-preserved : goal.loop-i-preserved
+loop-i-preserved c = let o = c in
+    let l = o in
+    let k = l in
+    let i = k in
+    let h = i in
+    (l.look_through-r.ensures.sized, left_goes_on _ _ _ _ _ _ _ _ _ _ h.loop-i.invariant.1 i.loop-i-test.true _ k.get-v.ensures _ _ l.look_through-r.ensures (sym o.goes_on.ensures ∙ not-false _ c.if-not-goes_on.false-raw))
+
+pub returns : goal.returns
+returns c = let h = c in left_ends _ _ _ _ _ _ _ _ _ _ h.loop-i.invariant.1 h.loop-i.invariant.0 c.loop-i-test.false

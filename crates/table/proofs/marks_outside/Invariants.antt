@@ -1,0 +1,13 @@
+-- `marks_outside` meets its contract: the kinds below one tell what all of them tell. Assumes nothing.
+use mathlib.Core.Path.{◌≡◌}
+use Prim.Native.Nat.{◌≤◌}
+use Rattle.plain.specs.Lists.{any_below}
+use Rattle.plain.specs.Table.{by_kind}
+use Rattle.plain.specs.Refusals.{bad_marks}
+use Rattle.table.proofs.marks_outside.Given as goal
+
+abbrev pub invariant-loop-kind : goal.invariant-loop-kind
+invariant-loop-kind l = (l.kind ≤ 4) × (any_below l.kind (badKind l.size l.kinds l.marks) ≡ bad_marks l.size l.kinds (by_kind l.marks))
+
+abbrev pub decreases-loop-kind : goal.decreases-loop-kind
+decreases-loop-kind l = l.kind

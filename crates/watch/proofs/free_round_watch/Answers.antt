@@ -1,0 +1,13 @@
+-- `watch::free_round_watch`: the watch on what counts of the text, within the space.
+use mathlib.Core.Path.{sym}
+use lib.Seq.{length-take-le}
+use Rattle.watch.proofs.Counting.{watched_as}
+use Rattle.watch.proofs.free_round_watch.Goals as goal
+
+pub slice_bounds-watch_text-end : goal.slice_bounds-watch_text-end
+slice_bounds-watch_text-end c = sym (length-take-le _ _ c.counted_end-end.ensures.0)
+
+pub returns : goal.returns
+returns c = let w = c in
+    let l = w in
+    watched_as _ _ _ _ _ _ l.counted_end-end.ensures.1 l.least-space.ensures w.watch_text.ensures
