@@ -228,7 +228,7 @@ def built(*paths):
     """Fails where something is not built yet."""
     for path in paths:
         if not os.path.exists(path):
-            fail(path + " is not there: rt check monitor, rt check desk, rt staticlib watch")
+            fail(path + " is not there: tests/build monitor, tests/build desk, tests/build watch_c")
 
 
 def need(name, *packages):
