@@ -6,30 +6,19 @@ use Rattle.line.proofs.read_row.Goals as goal
 
 pub returns : goal.returns
 unfolding bytes words
-returns c = let kinds = c in
-    let ways = kinds in
-    let end = ways in
-    let begin = end in
-    let unmark = begin in
-    let mark = unmark in
-    let cut = mark in
-    let add = cut in
-    let go = add in
-    let move = go in
-    let pay = move in
-    let game = pay in
+returns c =
     row_found _
-    (row_then _ _ _ _ _ game.or_row-r.ensures
-    (row_then _ _ _ _ _ pay.or_row-r-2.ensures
-    (row_then _ _ _ _ _ move.or_row-r-3.ensures
-    (row_then _ _ _ _ _ go.or_row-r-4.ensures
-    (row_then _ _ _ _ _ add.or_row-r-5.ensures
-    (row_then _ _ _ _ _ cut.or_row-r-6.ensures
-    (row_then _ _ _ _ _ mark.or_row-r-7.ensures
-    (row_then _ _ _ _ _ unmark.or_row-r-8.ensures
-    (row_then _ _ _ _ _ begin.or_row-r-9.ensures
-    (row_then _ _ _ _ _ end.or_row-r-10.ensures
-    (row_then _ _ _ _ _ ways.or_row-r-11.ensures
-    (row_then _ _ _ _ _ kinds.or_row-r-12.ensures
+    (row_then _ _ _ _ _ c.or_row-r.ensures
+    (row_then _ _ _ _ _ c.or_row-r-2.ensures
+    (row_then _ _ _ _ _ c.or_row-r-3.ensures
+    (row_then _ _ _ _ _ c.or_row-r-4.ensures
+    (row_then _ _ _ _ _ c.or_row-r-5.ensures
+    (row_then _ _ _ _ _ c.or_row-r-6.ensures
+    (row_then _ _ _ _ _ c.or_row-r-7.ensures
+    (row_then _ _ _ _ _ c.or_row-r-8.ensures
+    (row_then _ _ _ _ _ c.or_row-r-9.ensures
+    (row_then _ _ _ _ _ c.or_row-r-10.ensures
+    (row_then _ _ _ _ _ c.or_row-r-11.ensures
+    (row_then _ _ _ _ _ c.or_row-r-12.ensures
     (row_then _ _ _ _ _ c.or_row-r-13.ensures
     (rows_end _ _))))))))))))))

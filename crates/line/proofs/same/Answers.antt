@@ -1,5 +1,4 @@
 -- `same` meets its contract: the rests from i on compare as the whole lists do. Assumes nothing.
-use Prim.Native.Nat.{◌-◌}
 use mathlib.Core.Path.{refl, sym, ◌∙◌}
 use native.Mathlib.Omega.{arith}
 use Rattle.line.proofs.Words.{same_step, same_differ, same_end, same_long}
@@ -18,8 +17,7 @@ pub bounds-b-i : goal.bounds-b-i
 bounds-b-i c = omega arith
 
 pub returns-then-a-i : goal.returns-then-a-i
-returns-then-a-i c = let l = c in
-    sym (same_differ _ _ l.loop-i.i (omega arith) (omega arith) c.if-a-i.true) ∙ l.loop-i.invariant.1
+returns-then-a-i c = sym (same_differ _ _ c.loop-i.i (omega arith) (omega arith) c.if-a-i.true) ∙ c.loop-i.invariant.1
 
 pub overflow_add-i : goal.overflow_add-i
 overflow_add-i c = omega arith
@@ -28,9 +26,7 @@ pub loop-i-smaller : goal.loop-i-smaller
 loop-i-smaller c = omega arith
 
 pub loop-i-preserved : goal.loop-i-preserved
-loop-i-preserved c = let l = c in
-    (omega arith, sym (same_step _ _ l.loop-i.i (omega arith) (omega arith) c.if-a-i.false) ∙ l.loop-i.invariant.1)
+loop-i-preserved c = (omega arith, sym (same_step _ _ c.loop-i.i (omega arith) (omega arith) c.if-a-i.false) ∙ c.loop-i.invariant.1)
 
 pub returns : goal.returns
-returns c = let l = c in
-    sym (same_end _ _ l.loop-i.i (omega arith) (omega arith)) ∙ l.loop-i.invariant.1
+returns c = sym (same_end _ _ c.loop-i.i (omega arith) (omega arith)) ∙ c.loop-i.invariant.1
