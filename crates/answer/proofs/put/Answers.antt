@@ -27,13 +27,13 @@ pub loop-i-smaller : goal.loop-i-smaller
 loop-i-smaller c = omega arith
 
 pub loop-i-preserved : goal.loop-i-preserved
-loop-i-preserved c = let l = c in
-    let d = l.args.out.now in
-    let s = l.args.src.now in
-    let at = l.args.at in
-    let i = l.loop-i.i in
+loop-i-preserved c =
+    let d = c.args.out.now in
+    let s = c.args.src.now in
+    let at = c.args.at in
+    let i = c.loop-i.i in
     let store : set (paste d at s i) (at + i) (get_or s i 0) ≡ paste d at s (i + 1) = paste-suc d at s i 0 (omega arith) (omega arith) ∙ rw (← add-one i) in
-    (omega arith, simp length-set l.loop-i.invariant.1, rw l.loop-i.invariant.2 store)
+    (omega arith, simp length-set c.loop-i.invariant.1, rw c.loop-i.invariant.2 store)
 
 pub overflow_add-result : goal.overflow_add-result
 overflow_add-result c = omega arith
@@ -42,7 +42,7 @@ pub shape_of-out : goal.shape_of-out
 shape_of-out c = c.loop-i.invariant.1
 
 pub returns : goal.returns
-returns c = let l = c in
-    let s = l.args.src.now in
-    let e : l.loop-i.i ≡ length s = omega arith in
-    record { next = ap (λ (k : ℕ). l.args.at + k) e; made = l.loop-i.invariant.2 ∙ rw e (put_paste _ _ s) }
+returns c =
+    let s = c.args.src.now in
+    let e : c.loop-i.i ≡ length s = omega arith in
+    record { next = ap (λ (k : ℕ). c.args.at + k) e; made = c.loop-i.invariant.2 ∙ rw e (put_paste _ _ s) }

@@ -15,9 +15,8 @@ pub bounds-numbers-i : goal.bounds-numbers-i
 bounds-numbers-i c = omega arith
 
 pub put_field-next-requires : goal.put_field-next-requires
-put_field-next-requires c = let l = c in
-    let s = l in
-    omega (arith, s.requires, fields_room s.args.numbers.now l.loop-i.i c.loop-i-test.true, l.loop-i.invariant.2.next)
+put_field-next-requires c =
+    omega (arith, c.requires, fields_room c.args.numbers.now c.loop-i.i c.loop-i-test.true, c.loop-i.invariant.2.next)
 
 pub overflow_add-i : goal.overflow_add-i
 overflow_add-i c = omega arith
@@ -26,19 +25,16 @@ pub loop-i-smaller : goal.loop-i-smaller
 loop-i-smaller c = omega arith
 
 pub loop-i-preserved : goal.loop-i-preserved
-loop-i-preserved c = let l = c in
-    let s = l in
-    let p = c.put_field-next in (
+loop-i-preserved c = (
       omega arith,
-      p.auto.0 ∙ l.loop-i.invariant.1,
-      rw (fields_more s.args.numbers.now l.loop-i.i (omega arith))
-          (put_then _ _ _ _ _ _ _ _ (omega (arith, s.requires)) l.loop-i.invariant.2 p.ensures),
+      c.put_field-next.auto.out ∙ c.loop-i.invariant.1,
+      rw (fields_more c.args.numbers.now c.loop-i.i (omega arith))
+          (put_then _ _ _ _ _ _ _ _ (omega (arith, c.requires)) c.loop-i.invariant.2 c.put_field-next.ensures),
     )
 
 pub shape_of-out : goal.shape_of-out
 shape_of-out c = c.loop-i.invariant.1
 
 pub returns : goal.returns
-returns c = let l = c in
-    let s = l in
-    rw (← fields_all s.args.numbers.now l.loop-i.i (omega arith)) l.loop-i.invariant.2
+returns c =
+    rw (← fields_all c.args.numbers.now c.loop-i.i (omega arith)) c.loop-i.invariant.2
