@@ -3,16 +3,14 @@ use Prim.Native.Nat.{◌+◌, ◌≤◌, ◌<◌}
 use mathlib.Core.Path.{◌≡◌, refl, sym, ap}
 use mathlib.Core.Bool.{Bool, true, false, ◌&&◌, and-false}
 use mathlib.Core.List.{[], ◌∷◌}
-use mathlib.Core.Logic.{⊎_elim}
 use native.Mathlib.Omega.{arith}
-use denote.Enum.Declared.{tag_of}
-use types.Run.{OneOf}
 use borrow.Author.Tests.{eq-eqb, ne_eqb, lt-ltb, le-ltb}
 use lib.Dec.{eqb}
 use Rattle.line.specs.Words.{is_word}
 use Rattle.line.specs.declared.Word.{Word}
 use Rattle.line.specs.declared.Word.TheVariants.{Game, Pay, Move, Go, End, Kinds}
 use Rattle.line.specs.declared.Record.{Record}
+use Rattle.table.specs.declared.Op.{Op}
 use Rattle.batch.specs.Batches.{line_for}
 use Rattle.lead.specs.declared.Stage.{Stage}
 use Rattle.lead.specs.declared.Stage.TheVariants.{Opened, Gathering, Over}
@@ -20,7 +18,6 @@ use Rattle.lead.specs.declared.Lead.{Lead}
 use Rattle.lead.specs.declared.Request.{Request}
 use Rattle.lead.specs.declared.Request.TheVariants as R
 use Rattle.lead.specs.Asked.{staged, no_task, refusing, loading, ending, batching, is_full, asked_first, asked_move, asked_before, asked_opened, request_by, request_of, held_most, holding, asked_inside, asked_at, asked, line_from}
-use Rattle.lead.specs.contracts.Request.{the_type}
 
 -- ---- a `move`
 
@@ -98,9 +95,9 @@ pub request_at : (r : Record) (w : Word) → r.word ≡ w → request_by w r.fir
 unfolding request_of
 request_at r w e = ap (λ (x : Word). request_by x r.first r.second) (sym e)
 
--- a line that requests no change: the tags of the others
-pub no_change : (q : Request) → OneOf (1 ∷ 2 ∷ 3 ∷ 4 ∷ 5 ∷ []) (tag_of the_type q) → line_for 0 0 0 ≡ line_from q
-no_change (R.Change op) o = absurd (⊎_elim (λ z. omega arith) (⊎_elim (λ z. omega arith) (⊎_elim (λ z. omega arith) (⊎_elim (λ z. omega arith) (λ z. omega arith)))) o)
+-- a line that requests no change
+pub no_change : (q : Request) → ((op : Op) → q ≡ R.Change op → ⊥) → line_for 0 0 0 ≡ line_from q
+no_change (R.Change op) o = absurd (o op refl)
 no_change R.Begin o = refl
 no_change R.End o = refl
 no_change (R.Kinds k) o = refl

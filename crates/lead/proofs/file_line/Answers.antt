@@ -12,9 +12,8 @@ bounds-numbers-at-then-at-numbers c = let h : c.wide-at.result + 1 < length c.ar
     search (rules, h)
 
 pub returns-then-at-numbers : goal.returns-then-at-numbers
-returns-then-at-numbers c = let i = c in
-    let w = i in
-    line_filed _ _ _ _ _ (sym w.takes_line.ensures ∙ w.if-takes_line.true) w.wide-at.ensures.0 i.if-at-numbers.true c.line_of-l.ensures
+returns-then-at-numbers c =
+    line_filed _ _ _ _ _ (sym c.takes_line.ensures ∙ c.if-takes_line.true) c.wide-at.ensures.0 c.if-at-numbers.true c.line_of-l.ensures
 
 pub returns-else-at-numbers : goal.returns-else-at-numbers
 returns-else-at-numbers c = line_full _ _ _ _ c.wide-at.ensures.0 c.if-at-numbers.false

@@ -4,8 +4,8 @@ use Rattle.lead.proofs.Filing.{filed_both, filed_not, filed_full}
 use Rattle.lead.proofs.file_move.Goals as goal
 
 pub returns-then-at-numbers : goal.returns-then-at-numbers
-returns-then-at-numbers c = let w = c in
-    filed_both _ _ _ _ (sym w.takes_move.ensures ∙ w.if-takes_move.true) w.wide-at.ensures.0 c.if-at-numbers.true
+returns-then-at-numbers c =
+    filed_both _ _ _ _ (sym c.takes_move.ensures ∙ c.if-takes_move.true) c.wide-at.ensures.0 c.if-at-numbers.true
 
 pub returns-else-at-numbers : goal.returns-else-at-numbers
 returns-else-at-numbers c = filed_full _ _ _ _ c.wide-at.ensures.0 c.if-at-numbers.false

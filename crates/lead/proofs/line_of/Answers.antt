@@ -6,9 +6,9 @@ use Rattle.lead.proofs.line_of.Goals as goal
 
 pub returns-in-Change : goal.returns-in-Change
 unfolding line_read
-returns-in-Change c = let q = c in
-    c.line_of.ensures ∙ ap line_from (sym q.request-1.given.1 ∙ q.request_of-request.ensures)
+returns-in-Change c =
+    c.line_of.ensures ∙ ap line_from (sym c.in-Change.is ∙ c.request_of-request.ensures)
 
 pub returns : goal.returns
 unfolding line_read
-returns c = no_change c.request_of-request.result c.in_default.keys2 ∙ ap line_from c.request_of-request.ensures
+returns c = no_change _ c.in_default.not-Change ∙ ap line_from c.request_of-request.ensures
