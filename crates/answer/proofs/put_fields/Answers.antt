@@ -1,5 +1,4 @@
 -- `answer::put_fields` meets its contract: before each turn the fields of the first i numbers are put in.
-use Prim.Native.Nat.{◌-◌}
 use mathlib.Core.Path.{refl, ◌∙◌}
 use native.Mathlib.Omega.{arith}
 use Rattle.answer.proofs.Laws.{put_then, fields_none, fields_more, fields_all, fields_room}

@@ -1,8 +1,7 @@
 -- `lead::takes_line`: by whether there is room for a line, and by the stage.
-use mathlib.Core.Path.{◌≡◌, ap, ◌∙◌}
-use mathlib.Core.Bool.{true, not}
+use mathlib.Core.Path.{ap, ◌∙◌}
+use mathlib.Core.Bool.{not}
 use borrow.Author.Tests.{lt-ltb, le-ltb}
-use lib.Dec.{ltb}
 use Rattle.lead.specs.declared.Stage.TheVariants.{Waiting, Opened, Gathering, Playing, Batching, Over}
 use Rattle.lead.specs.Asked.{held_most, inside_line, takes_line}
 use Rattle.lead.proofs.Asking.{none_taken, taken_at}

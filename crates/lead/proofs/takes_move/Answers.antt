@@ -1,8 +1,8 @@
 -- `lead::takes_move`: by whether there is room for a move, and by the stage.
-use mathlib.Core.Path.{◌≡◌, sym, ap, ◌∙◌}
-use mathlib.Core.Bool.{true, not}
+use mathlib.Core.Path.{sym, ap, ◌∙◌}
+use mathlib.Core.Bool.{not}
 use Rattle.lead.specs.declared.Stage.TheVariants.{Waiting, Opened, Gathering, Playing, Batching, Over}
-use Rattle.lead.specs.Asked.{is_full, gathers_move, takes_move}
+use Rattle.lead.specs.Asked.{gathers_move, takes_move}
 use Rattle.lead.proofs.Asking.{none_taken, taken_at}
 use Rattle.lead.proofs.takes_move.Goals as goal
 
