@@ -6,7 +6,7 @@ use Rattle.table.proofs.attempt_kinds.Goals as goal
 pub returns-in-Refused : goal.returns-in-Refused
 returns-in-Refused c = let k = c in
     record {
-      trial_is = sym k.trial-1.given.1 ∙ k.kinds_trial-trial.ensures;
+      trial_is = sym k.in-Refused.is ∙ k.kinds_trial-trial.ensures;
       kept = λ e. absurd (not_accepted e);
       untouched = λ n e. refl;
     }
@@ -14,7 +14,7 @@ returns-in-Refused c = let k = c in
 pub returns : goal.returns
 returns c = let e = c in
     record {
-      trial_is = sym e.enum_told-1.given.1 ∙ e.kinds_trial-trial.ensures;
+      trial_is = sym e.in_default.is ∙ e.kinds_trial-trial.ensures;
       kept = λ z. c.keep_kinds.ensures;
       untouched = λ n z. absurd (not_refused z);
     }

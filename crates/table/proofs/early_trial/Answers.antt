@@ -1,7 +1,8 @@
 -- `early_trial` meets its contract: the conditions are tried in their order. Assumes nothing.
 use mathlib.Core.Path.{◌≡◌, sym, ap, ◌∙◌}
-use mathlib.Core.Bool.{false}
-use mathlib.Core.List.{[], ◌∷◌}
+use mathlib.Core.Bool.{Bool, false}
+use mathlib.Core.List.{List, [], ◌∷◌}
+use Prim.Native.Nat.{ℕ, ◌/◌, ◌%◌, ◌≤◌, ◌<◌}
 use native.Mathlib.Omega.{arith}
 use lib.ListN.{length}
 use borrow.Author.Tests.{le-leb, lt-leb}
@@ -15,20 +16,10 @@ use Rattle.table.specs.Trials.{tried, early_trial}
 use Rattle.table.proofs.Trying.{stop, skip, none_held, size_none, size_large, size_fine, count_odd, count_large}
 use Rattle.table.proofs.Pairs.{pairs_half}
 use Rattle.table.proofs.early_trial.Goals as goal
-use Rattle.table.proofs.early_trial.Goals.{After-kinds_outside, Else-kinds_outside, Else-marks_outside, Else-numbers-gt-NUMBERS, Else-size-gt-STATES, Else-size-start}
 
-size_ok : (c : Else-size-gt-STATES) → bad_size c.args.size ≡ false
-size_ok c = size_fine c.args.size c.if-size-eq0.false c.if-size-gt-STATES.false
-
-start_ok : (c : Else-size-start) → bad_start c.args.size c.args.start ≡ false
+start_ok : (size start : ℕ) → start < size → bad_start size start ≡ false
 unfolding bad_start
-start_ok c = lt-leb _ _ c.if-size-start.false
-
-marks_ok : (c : Else-marks_outside) → (let a = c.args in bad_marks a.size a.kinds (by_kind a.marks.now)) ≡ false
-marks_ok c = sym c.marks_outside.ensures ∙ c.if-marks_outside.false
-
-count_ok : (c : Else-numbers-gt-NUMBERS) → bad_count c.args.numbers.now ≡ false
-count_ok c = count_fine _ c.if-numbers-eq1.false c.if-numbers-gt-NUMBERS.false
+start_ok size start h = lt-leb _ _ h
 
 pub returns-then-size-eq0 : goal.returns-then-size-eq0
 unfolding early_trial
@@ -40,50 +31,63 @@ returns-then-size-gt-STATES c = stop 2 _ _ (size_large _ c.if-size-gt-STATES.tru
 
 pub returns-then-size-start : goal.returns-then-size-start
 unfolding early_trial bad_start
-returns-then-size-start c = skip (Refused 3) _ _ _ (size_ok c.before) (stop 3 _ _ (le-leb _ _ c.if-size-start.true))
+returns-then-size-start c = skip (Refused 3) _ _ _ (size_fine _ c.if-size-eq0.false c.if-size-gt-STATES.false) (stop 3 _ _ (le-leb _ _ c.if-size-start.true))
 
 pub returns-then-marks_outside : goal.returns-then-marks_outside
 unfolding early_trial
-returns-then-marks_outside c = let c3 = c in
-    skip (Refused 4) _ _ _ (size_ok c3.before.before.before) (skip (Refused 4) _ _ _ (start_ok c3.before.before) (stop 4 _ _ (sym c.marks_outside.ensures ∙ c.if-marks_outside.true)))
+returns-then-marks_outside c = skip (Refused 4) _ _ _ (size_fine _ c.if-size-eq0.false c.if-size-gt-STATES.false)
+    (skip (Refused 4) _ _ _ (start_ok _ _ c.if-size-start.false) (stop 4 _ _ (sym c.marks_outside.ensures ∙ c.if-marks_outside.true)))
 
--- the conditions behind that of the marks decide
-behind : (c : Else-marks_outside) (k : Trial) → let a = c.args in
-    k ≡ tried (first_held ((5, bad_count a.numbers.now) ∷ (16, bad_kinds a.kinds a.size (length (pairs a.numbers.now))) ∷ (6, any (outside a.size) (pairs a.numbers.now)) ∷ []))
-    → k ≡ tried (early_trial a.size a.start a.kinds a.marks.now a.numbers.now)
-unfolding early_trial
-behind c k h = let c3 = c in skip k 2 _ _ (size_ok c3.before.before.before) (skip k 3 _ _ (start_ok c3.before.before) (skip k 4 _ _ (marks_ok c) h))
+-- the numbers of whole moves are two for each
+halves : (kinds size : ℕ) (numbers : List ℕ) → (length numbers % 2 ≡ 1 → ⊥) → (r : Bool) → r ≡ bad_kinds kinds size (length numbers / 2)
+    → bad_kinds kinds size (length (pairs numbers)) ≡ r
+halves kinds size numbers even r is = ap (bad_kinds kinds size) (pairs_half numbers even) ∙ sym is
+
+-- no condition before that of the count holds
+module _ (size start kinds : ℕ) (marks numbers : List ℕ) (some : size ≡ 0 → ⊥) (few : size ≤ 512) (starts : start < size) (marked : Bool) (marks_are : marked ≡ bad_marks size kinds (by_kind marks)) (unmarked : marked ≡ false) (k : Trial) where
+  -- the conditions behind that of the marks decide
+  behind : k ≡ tried (first_held ((5, bad_count numbers) ∷ (16, bad_kinds kinds size (length (pairs numbers))) ∷ (6, any (outside size) (pairs numbers)) ∷ []))
+      → k ≡ tried (early_trial size start kinds marks numbers)
+  unfolding early_trial
+  behind h = skip k 2 _ _ (size_fine size some few) (skip k 3 _ _ (start_ok size start starts) (skip k 4 _ _ (sym marks_are ∙ unmarked) h))
+
+  module _ (even : length numbers % 2 ≡ 1 → ⊥) (short : length numbers ≤ 4096) where
+    -- behind the condition of the count
+    counted : k ≡ tried (first_held ((16, bad_kinds kinds size (length (pairs numbers))) ∷ (6, any (outside size) (pairs numbers)) ∷ []))
+        → k ≡ tried (early_trial size start kinds marks numbers)
+    counted h = behind (skip k 5 _ _ (count_fine numbers even short) h)
+
+    -- the last condition decides
+    last : (r : Bool) → r ≡ bad_kinds kinds size (length numbers / 2) → r ≡ false → k ≡ tried (first_held ((6, any (outside size) (pairs numbers)) ∷ [])) → k ≡ tried (early_trial size start kinds marks numbers)
+    last r is e h = counted (skip k 16 _ _ (halves kinds size numbers even r is ∙ e) h)
 
 pub returns-then-numbers-eq1 : goal.returns-then-numbers-eq1
-returns-then-numbers-eq1 c = behind c.before (Refused 5) (stop 5 _ _ (count_odd _ c.if-numbers-eq1.true))
+returns-then-numbers-eq1 c = let a = c.args in
+    behind a.size a.start a.kinds a.marks.now a.numbers.now c.if-size-eq0.false c.if-size-gt-STATES.false c.if-size-start.false _ c.marks_outside.ensures c.if-marks_outside.false (Refused 5)
+    (stop 5 _ _ (count_odd _ c.if-numbers-eq1.true))
 
 pub returns-then-numbers-gt-NUMBERS : goal.returns-then-numbers-gt-NUMBERS
-returns-then-numbers-gt-NUMBERS c = behind c.before.before (Refused 5) (stop 5 _ _ (count_large _ c.if-numbers-gt-NUMBERS.true))
+returns-then-numbers-gt-NUMBERS c = let a = c.args in
+    behind a.size a.start a.kinds a.marks.now a.numbers.now c.if-size-eq0.false c.if-size-gt-STATES.false c.if-size-start.false _ c.marks_outside.ensures c.if-marks_outside.false (Refused 5)
+    (stop 5 _ _ (count_large _ c.if-numbers-gt-NUMBERS.true))
 
 pub kinds_outside-requires : goal.kinds_outside-requires
 kinds_outside-requires c = omega arith
 
--- the numbers of whole moves are two for each
-halves : (c : After-kinds_outside) → let a = c.args in
-    bad_kinds a.kinds a.size (length (pairs a.numbers.now)) ≡ c.kinds_outside.result
-halves c =
-    let e = c in
-    let a = e.args in
-    ap (bad_kinds a.kinds a.size) (pairs_half a.numbers.now e.if-numbers-eq1.false) ∙ sym c.kinds_outside.ensures
-
 pub returns-then-kinds_outside : goal.returns-then-kinds_outside
-returns-then-kinds_outside c = let c6 = c in
-    behind c6.before.before.before.before (Refused 16) (skip (Refused 16) 5 _ _ (count_ok c6.before.before) (stop 16 _ _ (halves c.before ∙ c.if-kinds_outside.true)))
-
--- the last condition decides
-last : (c : Else-kinds_outside) (k : Trial) → let a = c.args in
-    k ≡ tried (first_held ((6, any (outside a.size) (pairs a.numbers.now)) ∷ [])) → k ≡ tried (early_trial a.size a.start a.kinds a.marks.now a.numbers.now)
-last c k h =
-    let c6 = c in
-    behind c6.before.before.before.before k (skip k 5 _ _ (count_ok c6.before.before) (skip k 16 _ _ (halves c.before ∙ c.if-kinds_outside.false) h))
+returns-then-kinds_outside c = let a = c.args in
+    counted a.size a.start a.kinds a.marks.now a.numbers.now c.if-size-eq0.false c.if-size-gt-STATES.false c.if-size-start.false _ c.marks_outside.ensures c.if-marks_outside.false (Refused 16)
+    c.if-numbers-eq1.false c.if-numbers-gt-NUMBERS.false
+    (stop 16 _ _ (halves a.kinds a.size a.numbers.now c.if-numbers-eq1.false _ c.kinds_outside.ensures ∙ c.if-kinds_outside.true))
 
 pub returns-then-any_outside : goal.returns-then-any_outside
-returns-then-any_outside c = last c.before.before (Refused 6) (stop 6 _ _ (sym c.any_outside.ensures ∙ c.if-any_outside.true))
+returns-then-any_outside c = let a = c.args in
+    last a.size a.start a.kinds a.marks.now a.numbers.now c.if-size-eq0.false c.if-size-gt-STATES.false c.if-size-start.false _ c.marks_outside.ensures c.if-marks_outside.false (Refused 6)
+    c.if-numbers-eq1.false c.if-numbers-gt-NUMBERS.false _ c.kinds_outside.ensures c.if-kinds_outside.false
+    (stop 6 _ _ (sym c.any_outside.ensures ∙ c.if-any_outside.true))
 
 pub returns : goal.returns
-returns c = last c.before.before Accepted (skip Accepted 6 _ _ (sym c.any_outside.ensures ∙ c.if-any_outside.false) none_held)
+returns c = let a = c.args in
+    last a.size a.start a.kinds a.marks.now a.numbers.now c.if-size-eq0.false c.if-size-gt-STATES.false c.if-size-start.false _ c.marks_outside.ensures c.if-marks_outside.false Accepted
+    c.if-numbers-eq1.false c.if-numbers-gt-NUMBERS.false _ c.kinds_outside.ensures c.if-kinds_outside.false
+    (skip Accepted 6 _ _ (sym c.any_outside.ensures ∙ c.if-any_outside.false) none_held)

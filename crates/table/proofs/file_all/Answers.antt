@@ -53,7 +53,7 @@ loop-i-preserved c = let e = c in
     let a = s.args in (
       omega (arith, turn.loop-i-test.true),
       went_on a.size a.numbers.now s.loop-i.i s.loop-i.targets s.loop-i.starts s.loop-i.invariant.1 turn.loop-i-test.true p.is_there.result p.is_there.ensures
-          a.targets.now a.starts.now s.requires e.if-is_there.false c.insert.new.0 c.insert.new.1.0 c.insert.ensures,
+          a.targets.now a.starts.now s.requires e.if-is_there.false c.insert.new.targets c.insert.new.starts c.insert.ensures,
     )
 
 pub returns : goal.returns

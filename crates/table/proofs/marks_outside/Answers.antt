@@ -1,19 +1,12 @@
 -- `marks_outside` meets its contract: the kinds below one tell what all of them tell. Assumes nothing.
 use mathlib.Core.Path.{sym, ap, ◌∙◌}
-use mathlib.Core.Bool.{Bool}
-use mathlib.Core.List.{List}
 use Prim.Native.Nat.{ℕ}
 use native.Mathlib.Omega.{arith}
 use Rattle.plain.specs.Lists.{any_below}
-use Rattle.plain.specs.Table.{by_kind}
 use Rattle.plain.specs.Refusals.{bad_marks}
-use Rattle.table.specs.Trials.{bad_mark}
 use Rattle.table.proofs.Pairs.{below_found, below_passed, below_none}
+use Rattle.table.proofs.marks_outside.Invariants.{badKind}
 use Rattle.table.proofs.marks_outside.Goals as goal
-
--- is a mark of a kind bad?
-abbrev badKind : ℕ → ℕ → List ℕ → ℕ → Bool
-badKind size kinds marks kind = any_below 512 (bad_mark size kinds (by_kind marks) kind)
 
 pub loop-kind-init : goal.loop-kind-init
 unfolding bad_marks
