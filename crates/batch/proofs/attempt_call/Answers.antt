@@ -23,7 +23,7 @@ returns-then-is_refused-2 c = let w = c in
     let n = w in
     let k = n in
     call_made _ _ _ _ _ _
-    (call_tried _ _ _ _ _ _ k.ahead_trial-ahead.result k.ahead_trial-ahead.ensures (sym k.is_refused.ensures ∙ n.if-is_refused.left) _ _ w.attempt_lines-r.ensures)
+    (call_tried _ _ _ _ _ _ k.ahead_trial-ahead.result k.ahead_trial-ahead.ensures (sym k.is_refused.ensures ∙ n.if-is_refused.false) _ _ w.attempt_lines-r.ensures)
     (λ e. absurd (contra (sym c.is_refused-2.ensures ∙ c.if-is_refused-2.true) e)) (λ e. refl)
 
 pub returns-else-is_refused-2 : goal.returns-else-is_refused-2
@@ -31,5 +31,5 @@ returns-else-is_refused-2 c = let w = c in
     let n = w in
     let k = n in
     call_made _ _ _ _ _ _
-    (call_tried _ _ _ _ _ _ k.ahead_trial-ahead.result k.ahead_trial-ahead.ensures (sym k.is_refused.ensures ∙ n.if-is_refused.left) _ _ w.attempt_lines-r.ensures)
+    (call_tried _ _ _ _ _ _ k.ahead_trial-ahead.result k.ahead_trial-ahead.ensures (sym k.is_refused.ensures ∙ n.if-is_refused.false) _ _ w.attempt_lines-r.ensures)
     (λ e. refl) (λ e. absurd (contra e (sym c.is_refused-2.ensures ∙ c.if-is_refused-2.false)))

@@ -1,7 +1,7 @@
 -- `attempt_line` meets its contract. Assumes nothing.
 use mathlib.Core.Path.{◌≡◌, sym, ◌∙◌}
 use mathlib.Core.Bool.{true, false, not}
-use borrow.Author.Tests.{not-true, not-false}
+use borrow.Author.Tests.{not-true}
 use Rattle.plain.proofs.Tests.{and-true}
 use Rattle.batch.specs.declared.BatchLine.{BatchLine}
 use Rattle.batch.specs.Batches.{is_change, misnamed_in, is_valid}
@@ -11,7 +11,7 @@ use Rattle.batch.proofs.attempt_line.Goals.{Else-not-is_valid}
 
 pub returns-then-not-is_valid : goal.returns-then-not-is_valid
 returns-then-not-is_valid c = let k = c in
-    attempt_invalid k.args.line _ _ _ _ _ (sym k.is_valid.ensures ∙ not-true _ c.if-not-is_valid.true-raw)
+    attempt_invalid k.args.line _ _ _ _ _ (sym k.is_valid.ensures ∙ c.if-not-is_valid.true)
 
 -- it makes a change, and its kind is one
 parts : (l : BatchLine) → is_valid l ≡ true → (is_change l ≡ true) × (misnamed_in l ≡ false)
@@ -19,7 +19,7 @@ unfolding is_valid
 parts l e = let w = and-true (is_change l) (not (misnamed_in l)) e in (w.0, not-true (misnamed_in l) w.1)
 
 valid : (c : Else-not-is_valid) → is_valid c.args.line ≡ true
-valid c = sym c.is_valid.ensures ∙ not-false _ c.if-not-is_valid.false-raw
+valid c = sym c.is_valid.ensures ∙ c.if-not-is_valid.false
 
 pub returns-then-position-gt-CHANGES : goal.returns-then-position-gt-CHANGES
 returns-then-position-gt-CHANGES c = let e = c in

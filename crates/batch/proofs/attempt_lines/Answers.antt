@@ -24,7 +24,7 @@ pub returns-then-is_refused : goal.returns-then-is_refused
 returns-then-is_refused c = let t = c in
     let p = t in
     let k = p in
-    walk_stopped _ _ _ _ _ _ _ _ k.loop-at.invariant (line-at-requires k p.line_at-line.lifetimes).0 p.line_at-line.result p.line_at-line.ensures t.attempt_line-trial.result _ t.attempt_line-trial.ensures
+    walk_stopped _ _ _ _ _ _ _ _ k.loop-at.invariant (omega (arith, k.lines_end-end.ensures, numbers_length k.args.alone k.args.only k.args.lines.now)) p.line_at-line.result p.line_at-line.ensures t.attempt_line-trial.result _ t.attempt_line-trial.ensures
     _ _ c.ended.ensures (sym c.is_refused.ensures ∙ c.if-is_refused.true)
 
 pub overflow_add-at : goal.overflow_add-at
@@ -40,7 +40,7 @@ pub loop-at-preserved : goal.loop-at-preserved
 loop-at-preserved c = let t = c in
     let p = t in
     let k = p in
-    walk_on _ _ _ _ _ _ _ _ k.loop-at.invariant (line-at-requires k p.line_at-line.lifetimes).0 p.line_at-line.result p.line_at-line.ensures t.attempt_line-trial.result _ t.attempt_line-trial.ensures
+    walk_on _ _ _ _ _ _ _ _ k.loop-at.invariant (omega (arith, k.lines_end-end.ensures, numbers_length k.args.alone k.args.only k.args.lines.now)) p.line_at-line.result p.line_at-line.ensures t.attempt_line-trial.result _ t.attempt_line-trial.ensures
     (sym c.is_refused.ensures ∙ c.if-is_refused.false)
 
 pub returns : goal.returns

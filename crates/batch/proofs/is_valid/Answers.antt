@@ -2,17 +2,16 @@
 use mathlib.Core.Path.{◌≡◌, sym, ◌∙◌}
 use mathlib.Core.Bool.{true}
 use Prim.Native.Nat.{◌<◌}
-use borrow.Author.Tests.{not-true, not-false}
 use Rattle.batch.specs.Batches.{is_change}
 use Rattle.batch.proofs.Batches.{valid_none, valid_move, valid_0, valid_kind}
 use Rattle.batch.proofs.is_valid.Goals as goal
 use Rattle.batch.proofs.is_valid.Goals.{Else-line-le2, Else-not-is_change}
 
 pub returns-then-not-is_change : goal.returns-then-not-is_change
-returns-then-not-is_change c = sym (valid_none c.args.line (sym c.is_change.ensures ∙ not-true _ c.if-not-is_change.true-raw))
+returns-then-not-is_change c = sym (valid_none c.args.line (sym c.is_change.ensures ∙ c.if-not-is_change.true))
 
 made : (c : Else-not-is_change) → is_change c.args.line ≡ true
-made c = sym c.is_change.ensures ∙ not-false _ c.if-not-is_change.false-raw
+made c = sym c.is_change.ensures ∙ c.if-not-is_change.false
 
 pub returns-then-line-le2 : goal.returns-then-line-le2
 returns-then-line-le2 c = let e = c in

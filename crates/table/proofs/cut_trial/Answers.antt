@@ -1,7 +1,6 @@
 -- `cut_trial` meets its contract: the conditions are tried in their order. Assumes nothing.
 use mathlib.Core.Path.{sym, ap, ◌∙◌}
 use mathlib.Core.Bool.{not}
-use borrow.Author.Tests.{not-true, not-false}
 use Rattle.table.specs.declared.Trial.TheVariants.{Accepted, Refused}
 use Rattle.table.specs.Trials.{cut_conditions}
 use Rattle.table.proofs.Trying.{stop, skip, none_held}
@@ -14,10 +13,10 @@ returns-then-is_outside c = stop 6 _ _ (sym c.is_outside.ensures ∙ c.if-is_out
 pub returns-then-not-is_there : goal.returns-then-not-is_there
 unfolding cut_conditions
 returns-then-not-is_there c = let o = c in
-    skip (Refused 10) 6 _ _ (sym o.is_outside.ensures ∙ o.if-is_outside.false) (stop 10 _ _ (ap not (sym c.is_there.ensures ∙ not-true _ c.if-not-is_there.true-raw)))
+    skip (Refused 10) 6 _ _ (sym o.is_outside.ensures ∙ o.if-is_outside.false) (stop 10 _ _ (ap not (sym c.is_there.ensures ∙ c.if-not-is_there.true)))
 
 pub returns : goal.returns
 unfolding cut_conditions
 returns c = let o = c in
     skip Accepted 6 _ _ (sym o.is_outside.ensures ∙ o.if-is_outside.false)
-    (skip Accepted 10 _ _ (ap not (sym c.is_there.ensures ∙ not-false _ c.if-not-is_there.false-raw)) none_held)
+    (skip Accepted 10 _ _ (ap not (sym c.is_there.ensures ∙ c.if-not-is_there.false)) none_held)

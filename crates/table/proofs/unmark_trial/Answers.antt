@@ -1,7 +1,7 @@
 -- `unmark_trial` meets its contract: the conditions are tried in their order. Assumes nothing.
 use mathlib.Core.Path.{sym, ap, ◌∙◌}
 use mathlib.Core.Bool.{not}
-use borrow.Author.Tests.{lt-ltb, le-ltb, le-leb, lt-leb, not-true, not-false}
+use borrow.Author.Tests.{lt-ltb, le-ltb, le-leb, lt-leb}
 use Rattle.plain.specs.Refusals.{beyond}
 use Rattle.table.specs.declared.Trial.TheVariants.{Accepted, Refused}
 use Rattle.table.specs.Trials.{unmark_conditions}
@@ -19,9 +19,9 @@ returns-then-size-state c = skip (Refused 6) 4 _ _ (le-ltb _ _ c.if-kinds-kind.f
 pub returns-then-not-carries : goal.returns-then-not-carries
 unfolding unmark_conditions beyond
 returns-then-not-carries c = let o = c in
-    skip (Refused 14) 4 _ _ (le-ltb _ _ o.if-kinds-kind.false) (skip (Refused 14) 6 _ _ (lt-leb _ _ o.if-size-state.false) (stop 14 _ _ (ap not (sym c.carries.ensures ∙ not-true _ c.if-not-carries.true-raw))))
+    skip (Refused 14) 4 _ _ (le-ltb _ _ o.if-kinds-kind.false) (skip (Refused 14) 6 _ _ (lt-leb _ _ o.if-size-state.false) (stop 14 _ _ (ap not (sym c.carries.ensures ∙ c.if-not-carries.true))))
 
 pub returns : goal.returns
 unfolding unmark_conditions beyond
 returns c = let o = c in
-    skip Accepted 4 _ _ (le-ltb _ _ o.if-kinds-kind.false) (skip Accepted 6 _ _ (lt-leb _ _ o.if-size-state.false) (skip Accepted 14 _ _ (ap not (sym c.carries.ensures ∙ not-false _ c.if-not-carries.false-raw)) none_held))
+    skip Accepted 4 _ _ (le-ltb _ _ o.if-kinds-kind.false) (skip Accepted 6 _ _ (lt-leb _ _ o.if-size-state.false) (skip Accepted 14 _ _ (ap not (sym c.carries.ensures ∙ c.if-not-carries.false)) none_held))
