@@ -14,7 +14,7 @@ returns-then-above-eq0 c = let w = c in
     ∙ ap (λ (l : List ℕ). shown_walk a.len l a.lent.now) (sym (lowered_one a.size a.above a.walk.now (omega (arith, c.if-above-eq0.true))))
 
 pub returns-then-lent-wide : goal.returns-then-lent-wide
-returns-then-lent-wide c = λ low fits room. absurd (omega (arith, c.wide.ensures, c.if-lent-wide.true, same-length-2 c))
+returns-then-lent-wide c = λ low fits room. absurd (omega (arith, c.wide.ensures, c.if-lent-wide.true))
 
 pub returns : goal.returns
 returns c = let l = c in

@@ -1,11 +1,11 @@
 -- `write_part` meets its contract: the first i entries are written. Assumes nothing.
 use mathlib.Core.Path.{◌≡◌, refl, ap, ◌∙◌}
-use mathlib.Core.Logic.{⊎_elim}
 use Prim.Native.Nat.{ℕ, ◌+◌, ◌-◌, ◌<◌}
 use native.Mathlib.Omega.{arith}
-use lib.ListN.{length, get_or, set, drop, length-set}
+use lib.ListN.{length, drop}
 use Rattle.verdict.proofs.Writing.{over, written_one}
 use Rattle.verdict.proofs.write_part.Goals as goal
+use Rattle.verdict.proofs.write_part.Goals.{then-at-lt512+then-i-out, then-at-lt512+else-i-out, else-at-lt512}
 
 pub loop-i-init : goal.loop-i-init
 loop-i-init c = (omega arith, refl, λ h k. refl)
@@ -34,18 +34,17 @@ loop-i-preserved c = let s = c in
     let at = c.wide-in-loop-i.result + s.loop-i.i in
     let here : at ≡ a.from + s.loop-i.i = omega (arith, c.wide-in-loop-i.ensures) in
     let less : s.loop-i.i < a.count = omega (arith, c.wide.ensures, c.loop-i-test.true) in
-    ⊎_elim
-    (λ w.
-    let new : c.if-at-lt512.out ≡ set s.loop-i.out s.loop-i.i (get_or a.walk.now at 0) = w.3 in (
-      omega arith,
-      ap length new ∙ simp length-set s.loop-i.invariant.1,
-      λ h k. new
-          ∙ written_one a.walk.now a.out.now s.loop-i.out a.from s.loop-i.i at here (omega (arith, s.requires)) (omega arith) (s.loop-i.invariant.2 h k),
-    ))
-    (⊎_elim
-    (λ w. (omega arith, ap length w.2 ∙ s.loop-i.invariant.1, λ h k. absurd (omega (arith, w.1.left, s.loop-i.invariant.1))))
-    (λ w. (omega arith, ap length w.1 ∙ s.loop-i.invariant.1, λ h k. absurd (omega (arith, w.0.left)))))
-    c.if-at-lt512.branch
+    let kept : length c.if-at-lt512.out ≡ length a.out.now = c.if-at-lt512.auto.out ∙ s.loop-i.invariant.1 in
+    elim c.if-at-lt512.branch [
+      then-at-lt512+then-i-out w ↦ (
+        omega arith,
+        kept,
+        λ h k. w.out-is
+            ∙ written_one a.walk.now a.out.now s.loop-i.out a.from s.loop-i.i at here (omega (arith, s.requires)) (omega arith) (s.loop-i.invariant.2 h k),
+      )
+    | then-at-lt512+else-i-out w ↦ (omega arith, kept, λ h k. absurd (omega (arith, w.if-i-out.false, s.loop-i.invariant.1)))
+    | else-at-lt512 w ↦ (omega arith, kept, λ h k. absurd (omega (arith, w.if-at-lt512.false)))
+    ]
 
 pub shape_of-out : goal.shape_of-out
 shape_of-out c = c.loop-i.invariant.1

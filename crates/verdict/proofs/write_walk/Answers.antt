@@ -10,7 +10,7 @@ returns-then-wide-lent c = let n = c in
     let e = f in
     let a = e.args in
     λ low fits room. written_both a.walk.now a.lent.now a.stem a.len e.requires low fits room
-    f.write_part.new.1.1.1.0 n.write_part-then-wide-lent.new.1.1.1.0 w.wide-at.result w.wide-at.ensures.0
+    f.write_part.new.out n.write_part-then-wide-lent.new.out w.wide-at.result w.wide-at.ensures.0
     f.write_part.ensures.1 f.write_part.ensures.0 n.write_part-then-wide-lent.ensures.0
 
 pub returns-else-wide-lent : goal.returns-else-wide-lent
