@@ -9,10 +9,9 @@ use Rattle.resumption.specs.declared.First.{First}
 use Rattle.resumption.specs.Model.{copies_up, first_of}
 use Rattle.resumption.proofs.Lines.{copies_next}
 use Rattle.resumption.proofs.FirstMet.{turn_less, turn_stays}
+use Rattle.resumption.proofs.earlier.Invariants.{found}
 use Rattle.resumption.proofs.earlier.Goals as goal
-
-abbrev found : ℕ → ℕ → First
-found least earliest = record { number = least; copy = earliest }
+use Rattle.resumption.proofs.earlier.Goals.{then-n-least, else-n-least}
 
 pub loop-left-init : goal.loop-left-init
 loop-left-init c = refl
@@ -32,10 +31,10 @@ loop-left-preserved c = let j = c in
     let rest = copies_up a.size (w.left - 1) (plus w.copy a.size) in
     let all : copies_up a.size w.left w.copy ≡ w.copy ∷ rest = copies_next a.size w.copy w.left t.loop-left-test.true in
     ap (λ (v : ℕ). first_of (found j.if-n-least.least j.if-n-least.earliest) (copies_up a.size (w.left - 1) v) a.number.now) c.plus-copy.ensures
-    ∙ ⊎_elim
-    (λ k. (λ i. first_of (found (k.1 i) (k.2 i)) rest a.number.now) ∙ turn_less a.number.now w.least w.earliest w.copy g.get-n.result rest g.get-n.ensures k.0.taken)
-    (λ k. (λ i. first_of (found (k.1 i) (k.2 i)) rest a.number.now) ∙ turn_stays a.number.now w.least w.earliest w.copy g.get-n.result rest g.get-n.ensures k.0.left)
-    j.if-n-least.branch
+    ∙ (elim c.if-n-least.branch [
+      then-n-least k ↦ (λ i. first_of (found (k.least-is i) (k.earliest-is i)) rest a.number.now) ∙ turn_less a.number.now w.least w.earliest w.copy c.get-n.result rest c.get-n.ensures k.if-n-least.true
+    | else-n-least k ↦ (λ i. first_of (found (k.least-is i) (k.earliest-is i)) rest a.number.now) ∙ turn_stays a.number.now w.least w.earliest w.copy c.get-n.result rest c.get-n.ensures k.if-n-least.false
+    ])
     ∙ ap (λ (vs : List ℕ). first_of (found w.least w.earliest) vs a.number.now) (sym all) ∙ w.invariant
 
 no_copy : (first : First) (size left copy : ℕ) (number : List ℕ) → left ≤ 0 → first_of first (copies_up size left copy) number ≡ first

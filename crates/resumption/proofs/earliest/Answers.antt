@@ -8,11 +8,8 @@ use lib.Seq.{drop-cons}
 use Rattle.resumption.specs.declared.First.{First}
 use Rattle.resumption.specs.Model.{copies_up, copies_up_all, first_of, taken_up_at}
 use Rattle.resumption.proofs.FirstMet.{first_append, taken_none, taken_at}
+use Rattle.resumption.proofs.earliest.Invariants.{among}
 use Rattle.resumption.proofs.earliest.Goals as goal
-
--- the first of all copies of the states, behind one that is found
-abbrev among : ℕ → ℕ → List ℕ → First → List ℕ → First
-among size kinds number first states = first_of first (copies_up_all size kinds states) number
 
 pub loop-i-init : goal.loop-i-init
 loop-i-init c = (omega arith, refl)

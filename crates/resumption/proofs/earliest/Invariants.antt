@@ -1,12 +1,19 @@
 -- `earliest` meets its contract: the first so far, and the copies of the states that are left, give that of all. Assumes nothing.
 use mathlib.Core.Path.{◌≡◌}
-use Prim.Native.Nat.{◌-◌, ◌≤◌}
+use mathlib.Core.List.{List}
+use Prim.Native.Nat.{ℕ, ◌-◌, ◌≤◌}
 use lib.ListN.{length, drop}
+use Rattle.resumption.specs.declared.First.{First}
+use Rattle.resumption.specs.Model.{copies_up_all, first_of}
 use Rattle.look.specs.Numbers.{no_number}
 use Rattle.resumption.proofs.earliest.Given as goal
 
+-- the first of all copies of the states, behind one that is found
+abbrev pub among : ℕ → ℕ → List ℕ → First → List ℕ → First
+among size kinds number first states = first_of first (copies_up_all size kinds states) number
+
 abbrev pub invariant-loop-i : goal.invariant-loop-i
-invariant-loop-i l = (l.i ≤ length l.states) × (among l.size l.kinds l.number l.first (drop l.i l.states) ≡ among l.size l.kinds l.number (record { l.number = no_number; copy = 0 }) l.states)
+invariant-loop-i l = (l.i ≤ length l.states) × (among l.size l.kinds l.number l.first (drop l.i l.states) ≡ among l.size l.kinds l.number (record { number = no_number; copy = 0 }) l.states)
 
 abbrev pub decreases-loop-i : goal.decreases-loop-i
 decreases-loop-i l = length l.states - l.i

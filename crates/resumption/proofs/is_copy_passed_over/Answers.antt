@@ -12,19 +12,11 @@ returns-then-get c = let g = c in
     sym (copy_unmet a.line (rows_of a.targets.now a.starts.now) a.number.now a.index.now a.walk.now a.height a.copy (sym g.get.ensures ∙ c.if-get.true))
 
 pub returns-in-Edge : goal.returns-in-Edge
-returns-in-Edge c = let d = c in
-    let k = d in
-    let s = k in
-    let e = s in
-    let g = e in
-    let a = g.args in
+returns-in-Edge c = let a = c.args in
     c.is_unexplored.ensures
-    ∙ ap (λ (n : ℕ). unexplored_edge s.switch_in-switch.result.on a.copy k.subject-1.given.0.0 k.subject-1.given.0.1.0 (rows_of a.targets.now a.starts.now) a.index.now a.walk.now n) d.down-tip.ensures
-    ∙ sym (copy_edge a.line (rows_of a.targets.now a.starts.now) a.number.now a.index.now a.walk.now a.height a.copy (λ z. e.if-get.false (g.get.ensures ∙ z)) s.switch_in-switch.result s.switch_in-switch.ensures k.subject-1.given.0.0 k.subject-1.given.0.1.0 k.subject-1.given.1)
+    ∙ ap (λ (n : ℕ). unexplored_edge c.switch_in-switch.result.on a.copy c.in-Edge.from c.in-Edge.to (rows_of a.targets.now a.starts.now) a.index.now a.walk.now n) c.down-tip.ensures
+    ∙ sym (copy_edge a.line (rows_of a.targets.now a.starts.now) a.number.now a.index.now a.walk.now a.height a.copy (λ z. c.if-get.false (c.get.ensures ∙ z)) c.switch_in-switch.result c.switch_in-switch.ensures c.in-Edge.from c.in-Edge.to c.in-Edge.is)
 
 pub returns : goal.returns
-returns c = let s = c in
-    let e = s in
-    let g = e in
-    let a = g.args in
-    sym (copy_mark a.line (rows_of a.targets.now a.starts.now) a.number.now a.index.now a.walk.now a.height a.copy (λ z. e.if-get.false (g.get.ensures ∙ z)) s.switch_in-switch.result s.switch_in-switch.ensures c.enum_told-1.given.0.0 c.enum_told-1.given.0.1.0 c.enum_told-1.given.1)
+returns c = let a = c.args in
+    sym (copy_mark a.line (rows_of a.targets.now a.starts.now) a.number.now a.index.now a.walk.now a.height a.copy (λ z. c.if-get.false (c.get.ensures ∙ z)) c.switch_in-switch.result c.switch_in-switch.ensures c.in_default.field-0 c.in_default.field-1 c.in_default.is)

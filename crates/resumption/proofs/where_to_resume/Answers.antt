@@ -16,7 +16,7 @@ slice_bounds-states-end c = omega (arith, c.name_states-n.ensures.0, c.name_stat
 
 pub slice_bounds-earliest-end : goal.slice_bounds-earliest-end
 slice_bounds-earliest-end c = let n = c.name_states-n in
-    sym (length-take-le n.result n.new.1.1.1.0 (omega (arith, n.ensures.0, n.ensures.1)))
+    sym (length-take-le n.result n.new.states (omega (arith, n.ensures.0, n.ensures.1)))
 
 pub returns : goal.returns
 returns c = let n = c in
