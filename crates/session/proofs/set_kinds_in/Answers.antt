@@ -3,12 +3,7 @@ use Rattle.session.proofs.Changing.{kinds_refused, kinds_accepted}
 use Rattle.session.proofs.set_kinds_in.Goals as goal
 
 pub returns-in-Refused : goal.returns-in-Refused
-returns-in-Refused c = let k = c in
-    let e = k in
-    kinds_refused _ _ _ _ _ _ _ _ _ e.attempt_kinds-trial.result _ k.trial-1.given.0.0 _ e.attempt_kinds-trial.ensures k.trial-1.given.1 c.refused.ensures
+returns-in-Refused c = kinds_refused _ _ _ _ _ _ _ _ _ c.attempt_kinds-trial.result _ c.in-Refused.n _ c.attempt_kinds-trial.ensures c.in-Refused.is c.refused.ensures
 
 pub returns : goal.returns
-returns c = let w = c in
-    let t = w in
-    let e = t in
-    kinds_accepted _ _ _ _ _ _ _ _ _ e.attempt_kinds-trial.result _ w.search_afresh.result _ _ e.attempt_kinds-trial.ensures t.enum_told-1.given.1 w.search_afresh.ensures
+returns c = kinds_accepted _ _ _ _ _ _ _ _ _ c.attempt_kinds-trial.result _ c.search_afresh.result _ _ c.attempt_kinds-trial.ensures c.in_default.is c.search_afresh.ensures

@@ -12,11 +12,8 @@ above : (spent kept stem len size m n : ℕ) (walk lent : List ℕ) (r : Answer)
 above spent kept stem len size m n walk lent r lent' e t = subst (λ (k : ℕ). Tells spent kept stem len (lowered size k walk) lent r lent') e t
 
 pub returns : goal.returns
-returns c = let t = c in
-    let d = t in
-    let s = d in
-    record {
-      sought = s.seek-v.ensures.0;
-      tells = above _ _ _ _ s.args.size _ _ s.seek-v.new.1.1.1.1.1.1.1.1.0 _ _ _ d.down-above.ensures t.tell-answer.ensures;
+returns c = record {
+      sought = c.seek-v.ensures.sought;
+      tells = above _ _ _ _ c.args.size _ _ c.seek-v.new.walk _ _ _ c.down-above.ensures c.tell-answer.ensures;
       kinds_is = refl;
     }
