@@ -1,6 +1,5 @@
 -- `file_root` meets its contract. Assumes nothing.
 use mathlib.Core.Path.{refl, sym, ◌∙◌}
-use borrow.Author.Tests.{not-true, not-false}
 use Rattle.plain.proofs.Tests.{contra}
 use Rattle.shortest.proofs.file_root.Goals as goal
 
@@ -8,7 +7,7 @@ pub is_root-requires : goal.is_root-requires
 is_root-requires c = c.requires.0
 
 pub returns-then-not-is_root : goal.returns-then-not-is_root
-returns-then-not-is_root c = let none = sym c.is_root.ensures ∙ not-true _ c.if-not-is_root.true-raw in
+returns-then-not-is_root c = let none = sym c.is_root.ensures ∙ c.if-not-is_root.true in
     record { filed = λ e. absurd (contra e none); unfiled = λ e. (refl, refl) }
 
 pub put-requires : goal.put-requires
@@ -20,5 +19,5 @@ further-requires c = tt
 pub returns : goal.returns
 returns c = let p = c in
     let i = p in
-    let some = sym i.is_root.ensures ∙ not-false _ i.if-not-is_root.false-raw in
+    let some = sym i.is_root.ensures ∙ i.if-not-is_root.false in
     record { filed = λ e. (p.put.ensures, c.further.ensures); unfiled = λ e. absurd (contra some e) }

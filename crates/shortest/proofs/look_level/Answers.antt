@@ -2,7 +2,6 @@
 use mathlib.Core.Path.{sym, ◌∙◌}
 use Prim.Native.Nat.{◌-◌}
 use native.Mathlib.Omega.{arith}
-use borrow.Author.Tests.{not-true, not-false}
 use Rattle.shortest.proofs.Levels.{left_begins, left_ends, left_halts, left_goes_on}
 use Rattle.shortest.proofs.look_level.Goals as goal
 
@@ -25,7 +24,7 @@ returns-then-not-goes_on c = let o = c in
     let k = l in
     let i = k in
     let h = i in
-    left_halts _ _ _ _ _ _ _ _ _ _ h.loop-i.invariant.1 i.loop-i-test.true _ k.get-v.ensures _ _ l.look_through-r.ensures (sym o.goes_on.ensures ∙ not-true _ c.if-not-goes_on.true-raw)
+    left_halts _ _ _ _ _ _ _ _ _ _ h.loop-i.invariant.1 i.loop-i-test.true _ k.get-v.ensures _ _ l.look_through-r.ensures (sym o.goes_on.ensures ∙ c.if-not-goes_on.true)
 
 pub overflow_add-i : goal.overflow_add-i
 overflow_add-i c = let i = c in omega (arith, i.loop-i-test.true, i.ranges.stop)
@@ -39,7 +38,7 @@ loop-i-preserved c = let o = c in
     let k = l in
     let i = k in
     let h = i in
-    (l.look_through-r.ensures.sized, left_goes_on _ _ _ _ _ _ _ _ _ _ h.loop-i.invariant.1 i.loop-i-test.true _ k.get-v.ensures _ _ l.look_through-r.ensures (sym o.goes_on.ensures ∙ not-false _ c.if-not-goes_on.false-raw))
+    (l.look_through-r.ensures.sized, left_goes_on _ _ _ _ _ _ _ _ _ _ h.loop-i.invariant.1 i.loop-i-test.true _ k.get-v.ensures _ _ l.look_through-r.ensures (sym o.goes_on.ensures ∙ c.if-not-goes_on.false))
 
 pub returns : goal.returns
 returns c = let h = c in left_ends _ _ _ _ _ _ _ _ _ _ h.loop-i.invariant.1 h.loop-i.invariant.0 c.loop-i-test.false

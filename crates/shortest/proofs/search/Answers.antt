@@ -3,7 +3,6 @@ use mathlib.Core.Path.{sym, ap, ◌∙◌}
 use Prim.Native.Nat.{◌-◌}
 use native.Mathlib.Omega.{arith}
 use lib.ListN.{length}
-use borrow.Author.Tests.{not-true, not-false}
 use Rattle.shortest.proofs.Searching.{left_begins, left_empty, left_ends, left_halts, left_goes_on}
 use Rattle.shortest.proofs.search.Goals as goal
 
@@ -29,7 +28,7 @@ returns-then-not-goes_on c = let o = c in
     let l = o in
     let i = l in
     let h = i in
-    left_halts _ _ _ _ _ _ _ _ _ _ _ h.loop-depth.invariant.1 i.loop-depth-test.true _ _ l.look_level-r.ensures (sym o.goes_on.ensures ∙ not-true _ c.if-not-goes_on.true-raw)
+    left_halts _ _ _ _ _ _ _ _ _ _ _ h.loop-depth.invariant.1 i.loop-depth-test.true _ _ l.look_level-r.ensures (sym o.goes_on.ensures ∙ c.if-not-goes_on.true)
 
 pub overflow_add-depth : goal.overflow_add-depth
 overflow_add-depth c = let i = c in
@@ -43,7 +42,7 @@ loop-depth-preserved c = let o = c in
     let l = o in
     let i = l in
     let h = i in
-    (l.look_level-r.ensures.sized, left_goes_on _ _ _ _ _ _ _ _ _ _ _ h.loop-depth.invariant.1 i.loop-depth-test.true _ _ l.look_level-r.ensures (sym o.goes_on.ensures ∙ not-false _ c.if-not-goes_on.false-raw))
+    (l.look_level-r.ensures.sized, left_goes_on _ _ _ _ _ _ _ _ _ _ _ h.loop-depth.invariant.1 i.loop-depth-test.true _ _ l.look_level-r.ensures (sym o.goes_on.ensures ∙ c.if-not-goes_on.false))
 
 pub returns : goal.returns
 returns c = let h = c in left_ends _ _ _ _ _ _ _ _ _ _ _ h.loop-depth.invariant.1 h.loop-depth.invariant.0 c.loop-depth-test.false

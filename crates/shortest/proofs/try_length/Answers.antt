@@ -2,7 +2,6 @@
 use mathlib.Core.Path.{refl, sym, ◌∙◌}
 use Prim.Native.Nat.{◌-◌}
 use native.Mathlib.Omega.{arith}
-use borrow.Author.Tests.{not-true, not-false}
 use Rattle.shortest.proofs.Trying.{left_begins, left_ends, left_halts, left_goes_on}
 use Rattle.shortest.proofs.try_length.Goals as goal
 
@@ -25,7 +24,7 @@ returns-then-not-goes_on c = let o = c in
     let k = l in
     let i = k in
     let h = i in
-    left_halts _ _ _ _ _ _ _ _ _ h.loop-i.invariant.1 i.loop-i-test.true _ k.get-s.ensures _ _ l.search-r.ensures (sym o.goes_on.ensures ∙ not-true _ c.if-not-goes_on.true-raw)
+    left_halts _ _ _ _ _ _ _ _ _ h.loop-i.invariant.1 i.loop-i-test.true _ k.get-s.ensures _ _ l.search-r.ensures (sym o.goes_on.ensures ∙ c.if-not-goes_on.true)
 
 pub overflow_add-i : goal.overflow_add-i
 overflow_add-i c = let i = c in omega (arith, i.loop-i-test.true, i.ranges.count)
@@ -40,7 +39,7 @@ loop-i-preserved c = let o = c in
     let i = k in
     let h = i in (
       l.search-r.ensures.sized.queue_size,
-      left_goes_on _ _ _ _ _ _ _ _ _ h.loop-i.invariant.1 i.loop-i-test.true _ k.get-s.ensures _ _ l.search-r.ensures (sym o.goes_on.ensures ∙ not-false _ c.if-not-goes_on.false-raw),
+      left_goes_on _ _ _ _ _ _ _ _ _ h.loop-i.invariant.1 i.loop-i-test.true _ k.get-s.ensures _ _ l.search-r.ensures (sym o.goes_on.ensures ∙ c.if-not-goes_on.false),
     )
 
 pub returns : goal.returns

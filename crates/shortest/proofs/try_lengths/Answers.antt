@@ -2,7 +2,6 @@
 use mathlib.Core.Path.{sym, ◌∙◌}
 use Prim.Native.Nat.{◌-◌}
 use native.Mathlib.Omega.{arith}
-use borrow.Author.Tests.{not-true, not-false}
 use Rattle.shortest.proofs.Trying.{lengths_begin, lengths_end, lengths_halt, lengths_go_on}
 use Rattle.shortest.proofs.try_lengths.Goals as goal
 
@@ -28,7 +27,7 @@ returns-then-not-goes_on c = let n = c in
     let l = o in
     let i = l in
     let h = i in
-    lengths_halt _ _ _ _ _ _ _ _ h.loop-ruled_out.invariant.2 i.loop-ruled_out-test.true _ _ _ l.try_length-r.ensures (sym o.goes_on.ensures ∙ not-true _ n.if-not-goes_on.true-raw) _ c.lengths_at.ensures
+    lengths_halt _ _ _ _ _ _ _ _ h.loop-ruled_out.invariant.2 i.loop-ruled_out-test.true _ _ _ l.try_length-r.ensures (sym o.goes_on.ensures ∙ n.if-not-goes_on.true) _ c.lengths_at.ensures
 
 pub loop-ruled_out-smaller : goal.loop-ruled_out-smaller
 loop-ruled_out-smaller c = let i = c in omega (arith, i.loop-ruled_out-test.true)
@@ -40,7 +39,7 @@ loop-ruled_out-preserved c = let o = c in
     let h = i in (
       l.try_length-r.ensures.queue_size,
       omega (arith, i.loop-ruled_out-test.true),
-      lengths_go_on _ _ _ _ _ _ _ _ h.loop-ruled_out.invariant.2 i.loop-ruled_out-test.true _ _ _ l.try_length-r.ensures (sym o.goes_on.ensures ∙ not-false _ c.if-not-goes_on.false-raw),
+      lengths_go_on _ _ _ _ _ _ _ _ h.loop-ruled_out.invariant.2 i.loop-ruled_out-test.true _ _ _ l.try_length-r.ensures (sym o.goes_on.ensures ∙ c.if-not-goes_on.false),
     )
 
 pub further-requires : goal.further-requires
