@@ -3,7 +3,7 @@ use Rattle.std.proofs.Common.{◌≡◌, ℕ, zero, suc, ◌+◌, ◌-◌, ◌%�
 use lib.ListN.{length-map}
 use borrow.Author.Tests.{lt-leb}
 use Rattle.plain.specs.Lists.{In}
-use Rattle.plain.proofs.Tests.{contra, either, in_head, in_tail}
+use Rattle.plain.proofs.Tests.{contra, either, map_same}
 use Rattle.rows.specs.Rows.{entries, row_at, Compressed}
 use Rattle.rows.proofs.Paste.{same_place}
 use Rattle.rows.proofs.Entries.{entries_length, entries_at, no_row}

@@ -1,10 +1,7 @@
 -- `fill` meets its contract: the first i entries are x, the others are as they were. Assumes nothing.
 use Rattle.std.proofs.Common.{◌≡◌, ℕ, zero, suc, ◌-◌, ◌<◌, List, [], ◌∷◌, ◌++◌, length, drop, set, replicate, refl, ap, ◌∙◌, le_of_suc-le-suc, not-suc-le-zero, add-one, arith}
+use Rattle.look.proofs.fill.Invariants.{filled}
 use Rattle.look.proofs.fill.Goals as goal
-
--- the first i entries are x, the rest as they were
-abbrev filled : ℕ → ℕ → List ℕ → List ℕ
-filled x i xs = replicate i x ++ drop i xs
 
 module _ (x : ℕ) where
   filled-write : (xs : List ℕ) (i : ℕ) → i < length xs → set (filled x i xs) i x ≡ filled x (suc i) xs

@@ -5,13 +5,8 @@ use Rattle.plain.proofs.Tests.{either}
 use Rattle.rows.proofs.Paste.{same_place}
 use Rattle.rows.proofs.Entries.{entries_length, entries_at}
 use Rattle.look.specs.Scan.{ends_of}
+use Rattle.look.proofs.lay_ends.Invariants.{Laid}
 use Rattle.look.proofs.lay_ends.Goals as goal
-
--- the first i entries are the starts behind
-pub record Laid (starts ends : List ℕ) (i : ℕ) : Type 0 where
-  pub within : i ≤ 512
-  pub size : length ends ≡ 512
-  pub laid : (j : ℕ) → j < i → get_or ends j 0 ≡ get_or starts (1 + j) 0
 
 laid_more : (starts ends : List ℕ) (i : ℕ) → i < 512 → Laid starts ends i → Laid starts (set ends i (get_or starts (i + 1) 0)) (i + 1)
 laid_more starts ends i h r = record {

@@ -7,4 +7,4 @@ pub wrapping_add_u16-requires : goal.wrapping_add_u16-requires
 wrapping_add_u16-requires c = tt
 
 pub returns : goal.returns
-returns c = c.wrapping_add_u16.ensures ∙ sym (plus_is c.args.a c.args.b)
+returns c = c.wrapping_add_u16.ensures.value ∙ sym (plus_is c.args.a c.args.b)

@@ -15,19 +15,19 @@ use Rattle.marks.proofs.count.Goals as goal
 use Rattle.marks.proofs.count.Goals.{In-loop-i, Start}
 
 -- each word is below 2 ^ 64, and so is what they are taken together
-fit : (c : Start) (i : ℕ) → get_or c.args.t1 i 0 < 2 ^ 64
-fit c i = let f : Fits w64 (get_or c.args.t1 i 0) = search rules in f.fits
+fit : (c : Start) (i : ℕ) → get_or c.args.marks i 0 < 2 ^ 64
+fit c i = let f : Fits w64 (get_or c.args.marks i 0) = search rules in f.fits
 
-joined-fits : (c : Start) (i : ℕ) → i < 8 → joined_at c.args.t1 i < 2 ^ 64
+joined-fits : (c : Start) (i : ℕ) → i < 8 → joined_at c.args.marks i < 2 ^ 64
 unfolding joined_at
 joined-fits c i h = or_lt 64 _ _ (or_lt 64 _ _ (or_lt 64 _ _ (fit c i) (fit c (i + 8))) (fit c (i + 16))) (fit c (i + 24))
 
 -- the sum after one more word
 next : (c : In-loop-i)
-    → c.loop-i.sum + ones (joined_at c.args.t1 c.loop-i.i) ≡ total (joined_at c.args.t1) (c.loop-i.i + 1)
+    → c.loop-i.sum + ones (joined_at c.args.marks c.loop-i.i) ≡ total (joined_at c.args.marks) (c.loop-i.i + 1)
 unfolding total
 next c =
-    let word = joined_at c.args.t1 in
+    let word = joined_at c.args.marks in
     let i = c.loop-i.i in
     ap (λ (k : ℕ). k + ones (word i)) c.loop-i.invariant.1 ∙ ap (total word) (sym (add-one i))
 
@@ -70,7 +70,7 @@ bounds-marks-i-in-loop-i-3 c = omega arith
 
 pub overflow_add-sum : goal.overflow_add-sum
 unfolding joined_at
-overflow_add-sum c = omega (arith, next c, total_le (joined_at c.args.t1) 8 (joined-fits c.before.before) (c.loop-i.i + 1) (omega arith))
+overflow_add-sum c = omega (arith, next c, total_le (joined_at c.args.marks) 8 (joined-fits c.before.before) (c.loop-i.i + 1) (omega arith))
 
 pub overflow_add-i : goal.overflow_add-i
 overflow_add-i c = omega arith
@@ -84,7 +84,7 @@ loop-i-preserved c = (search rules, next c)
 
 pub returns : goal.returns
 unfolding accepting_count
-returns c = let marks = c.args.t1 in
+returns c = let marks = c.args.marks in
     let e : c.loop-i.i ≡ 8 = omega arith in
     c.loop-i.invariant.1
     ∙ ap (total (joined_at marks)) e

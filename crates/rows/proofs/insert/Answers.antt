@@ -1,9 +1,8 @@
 -- `insert` meets its contract. Assumes nothing.
 use mathlib.Core.Path.{◌≡◌, ◌∙◌}
-use mathlib.Core.Logic.{⊎_elim}
 use Prim.Native.Nat.{suc, ◌≤◌, ◌<◌}
 use native.Mathlib.Omega.{arith}
-use borrow.Author.Tests.{ltb-true, leb-true, ltb-false, leb-false}
+use borrow.Author.Tests.{ltb-true, leb-true}
 use lib.ListN.{get_or}
 use Rattle.rows.specs.Rows.{edge_count}
 use Rattle.rows.proofs.Paste.{same_place}
@@ -11,6 +10,7 @@ use Rattle.rows.proofs.Outcome.{insert_done, insert_undone}
 use borrow.Author.Rules.{rules}
 use Rattle.rows.proofs.insert.Goals as goal
 use Rattle.rows.proofs.insert.Goals.{After-wide-count, Then-count-lt-EDGES}
+use Rattle.rows.proofs.insert.Goals.{else-size-le-STATES-via-then-size-le-STATES+then-v-size+then-at-count+else-count-lt-EDGES, else-size-le-STATES-via-then-size-le-STATES+then-v-size+else-at-count, else-size-le-STATES-via-then-size-le-STATES+else-v-size, else-size-le-STATES-via-else-size-le-STATES}
 
 -- the place and the count that were read
 found : (c : After-wide-count) → (c.wide-at.result ≡ get_or c.args.starts.now (suc c.args.v) 0)
@@ -39,8 +39,12 @@ returns-then-count-lt-EDGES c = let f = c in
     (omega arith) c.wide.ensures.0 _ _ c.shift_up.ensures c.move_starts.ensures
 
 pub returns-else-size-le-STATES : goal.returns-else-size-le-STATES
-returns-else-size-le-STATES c = let w = c in
-    let a = w.args in
-    insert_undone a.size a.v a.t a.targets.now a.starts.now _ _ (found w.before).0 (found w.before).1
+returns-else-size-le-STATES c =
+    let a = c.args in
+    insert_undone a.size a.v a.t a.targets.now a.starts.now _ _ (found c.before).0 (found c.before).1
     (λ few state ends free.
-    ⊎_elim (λ l. omega (arith, ltb-false)) (⊎_elim (λ l. omega (arith, leb-false)) (⊎_elim (λ l. omega (arith, ltb-false)) (λ l. omega arith))) c.else-size-le-STATES.branch)
+    elim c.else-size-le-STATES.branch [
+      else-size-le-STATES-via-then-size-le-STATES+then-v-size+then-at-count+else-count-lt-EDGES w ↦ omega arith
+    | else-size-le-STATES-via-then-size-le-STATES+then-v-size+else-at-count w ↦ omega arith
+    | else-size-le-STATES-via-then-size-le-STATES+else-v-size w ↦ omega arith
+    | else-size-le-STATES-via-else-size-le-STATES w ↦ omega arith ])

@@ -1,9 +1,8 @@
 -- `remove` meets its contract. Assumes nothing.
 use mathlib.Core.Path.{◌≡◌, ◌∙◌}
-use mathlib.Core.Logic.{⊎_elim}
 use Prim.Native.Nat.{ℕ, ◌+◌, ◌≤◌, ◌<◌}
 use native.Mathlib.Omega.{arith}
-use borrow.Author.Tests.{ltb-true, leb-true, ltb-false, leb-false}
+use borrow.Author.Tests.{ltb-true, leb-true}
 use lib.ListN.{get_or}
 use Rattle.rows.specs.Rows.{edge_count}
 use Rattle.rows.proofs.Paste.{same_place}
@@ -11,6 +10,7 @@ use Rattle.rows.proofs.Outcome.{remove_done, remove_undone}
 use borrow.Author.Rules.{rules}
 use Rattle.rows.proofs.remove.Goals as goal
 use Rattle.rows.proofs.remove.Goals.{After-wide-count, Then-count-le-EDGES}
+use Rattle.rows.proofs.remove.Goals.{else-size-le-STATES-via-then-size-le-STATES+then-v-size+then-at-count+else-count-le-EDGES, else-size-le-STATES-via-then-size-le-STATES+then-v-size+else-at-count, else-size-le-STATES-via-then-size-le-STATES+else-v-size, else-size-le-STATES-via-else-size-le-STATES}
 
 -- the place of the edge
 abbrev at : After-wide-count → ℕ
@@ -42,8 +42,12 @@ returns-then-count-le-EDGES c = let f = c in
     (omega arith) c.wide-then-count-le-EDGES.ensures.0 _ _ c.shift_down.ensures c.move_starts.ensures
 
 pub returns-else-size-le-STATES : goal.returns-else-size-le-STATES
-returns-else-size-le-STATES c = let w = c in
-    let a = w.args in
-    remove_undone a.size a.v a.k a.targets.now a.starts.now _ _ (found w.before).0 (found w.before).1
+returns-else-size-le-STATES c =
+    let a = c.args in
+    remove_undone a.size a.v a.k a.targets.now a.starts.now _ _ (found c.before).0 (found c.before).1
     (λ few state there held.
-    ⊎_elim (λ l. omega (arith, leb-false)) (⊎_elim (λ l. omega (arith, ltb-false)) (⊎_elim (λ l. omega (arith, ltb-false)) (λ l. omega arith))) c.else-size-le-STATES.branch)
+    elim c.else-size-le-STATES.branch [
+      else-size-le-STATES-via-then-size-le-STATES+then-v-size+then-at-count+else-count-le-EDGES w ↦ omega arith
+    | else-size-le-STATES-via-then-size-le-STATES+then-v-size+else-at-count w ↦ omega arith
+    | else-size-le-STATES-via-then-size-le-STATES+else-v-size w ↦ omega arith
+    | else-size-le-STATES-via-else-size-le-STATES w ↦ omega arith ])

@@ -18,7 +18,7 @@ found c =
     (omega arith, omega arith)
 
 pub returns-then-at-lt-EDGES : goal.returns-then-at-lt-EDGES
-returns-then-at-lt-EDGES c = let f = found c.before.before.before in
+returns-then-at-lt-EDGES c = let f = found c.before.before.before.before in
     same_place c.args.targets.now f.1 ∙ sym (row_at_lem _ _ _ _ f.0)
 
 pub returns-else-at-lt-EDGES : goal.returns-else-at-lt-EDGES
