@@ -1,85 +1,56 @@
 -- `pack` meets its contract: the bits below v are packed, and v is the copy that the turn stands at. Assumes nothing.
 use mathlib.Core.Path.{sym, ◌∙◌}
-use mathlib.Core.Logic.{⊎_elim}
-use mathlib.Core.List.{List}
-use Prim.Native.Nat.{ℕ, ◌+◌, ◌*◌, ◌-◌, ◌<◌}
+use Prim.Native.Nat.{◌+◌, ◌*◌, ◌<◌}
 use native.Mathlib.Omega.{arith}
 use Rattle.layers.proofs.Packing.{copied_first, copied_on, copied_up, layer_low, mark_read, PackedBelow, packed_none, packed_set, packed_kept, packed_all}
 use Rattle.layers.proofs.pack.Goals as goal
-use Rattle.layers.proofs.pack.Goals.{At-loop-v, In-loop-v, Joined-accepts_in, Start}
-
-pub times-end-requires : goal.times-end-requires
-times-end-requires c = tt
+use Rattle.layers.proofs.pack.Goals.{In-loop-v, Joined-accepts_in, then-accepts_in, else-accepts_in}
 
 pub loop-v-init : goal.loop-v-init
 loop-v-init c = let a = c.args in (packed_none a.size a.kinds a.marks.now, copied_first a.size c.requires.2)
 
 -- a turn: v is a state of the layers, and its layer is one of the kinds
-module _ (i : In-loop-v) where
-  abbrev head : At-loop-v
-  head = i
+there : (c : In-loop-v) → c.loop-v.v < c.args.kinds * c.args.size
+there c = omega (arith, c.loop-v-test.true, c.times-end.ensures.0)
 
-  abbrev start : Start
-  start = head.before.before
-
-  abbrev n : ℕ
-  n = start.args.size
-
-  abbrev k : ℕ
-  k = start.args.kinds
-
-  abbrev marks : List ℕ
-  marks = start.args.marks.now
-
-  there : head.loop.v < k * n
-  there = omega (arith, i.loop-v-test.taken, head.before.times.ensures.0)
-
-  first_small : head.loop.first < 2048
-  first_small =
-      omega (arith, start.pre.1, head.loop.inv.1.marks_from, layer_low n head.loop.v head.loop.s head.loop.first head.loop.inv.1 k there)
+first_small : (c : In-loop-v) → c.loop-v.first < 2048
+first_small c =
+    let l = c.loop-v in
+    omega (arith, c.requires.1, l.invariant.1.marks_from, layer_low c.args.size l.v l.s l.first l.invariant.1 c.args.kinds (there c))
 
 pub overflow_add-first : goal.overflow_add-first
-overflow_add-first c = omega (arith, first_small c, c.loop-v.invariant.1.inside, (start c).fits.size)
-
-pub accepts_in-requires : goal.accepts_in-requires
-accepts_in-requires c = tt
-
-pub set_mark-requires : goal.set_mark-requires
-set_mark-requires c = tt
+overflow_add-first c = omega (arith, first_small c.before, c.loop-v.invariant.1.inside)
 
 -- once the bit of v is set or not, it is packed
-packed : (c : Joined-accepts_in) → let i = c in PackedBelow (n i) (k i) (marks i) c.if-accepts_in.words ((head i).loop.v + 1)
+packed : (c : Joined-accepts_in) → PackedBelow c.args.size c.args.kinds c.args.marks.now c.if-accepts_in.words (c.loop-v.v + 1)
 packed c =
-    let call = c.accepts_in in
-    let i = c in
-    let l = (head i).loop in
-    let read = mark_read (n i) l.v l.s l.first l.inv.1 (k i) (start i).requires.1 (start i).requires.3 (there i) (marks i) in
-    ⊎_elim
-    (λ w. rw (w.4 ∙ w.2.ensures) (packed_set (n i) (k i) (marks i) l.words l.v l.inv.0 (there i) (start i).requires.3 (sym (call.ensures ∙ read) ∙ w.0.taken)))
-    (λ w. rw w.1 (packed_kept (n i) (k i) (marks i) l.words l.v l.inv.0 (there i) (sym (call.ensures ∙ read) ∙ w.0.left))) c.if-accepts_in.branch
+    let n = c.args.size in
+    let k = c.args.kinds in
+    let marks = c.args.marks.now in
+    let l = c.loop-v in
+    let low = there c.before.before.before in
+    let read = sym (c.accepts_in.ensures ∙ mark_read n l.v l.s l.first l.invariant.1 k c.requires.1 c.requires.3 low marks) in
+    elim c.if-accepts_in.branch [
+      then-accepts_in w ↦ rw (w.words-is ∙ w.set_mark.ensures) (packed_set n k marks l.words l.v l.invariant.0 low c.requires.3 (read ∙ w.if-accepts_in.true))
+    | else-accepts_in w ↦ rw w.words-is (packed_kept n k marks l.words l.v l.invariant.0 low (read ∙ w.if-accepts_in.false)) ]
 
 pub overflow_add-v : goal.overflow_add-v
-overflow_add-v c = omega (arith, there c, (start c).pre.3)
-
-pub wide-requires : goal.wide-requires
-wide-requires c = tt
+overflow_add-v c = omega arith
 
 pub overflow_add-first-then-s-wide : goal.overflow_add-first-then-s-wide
-overflow_add-first-then-s-wide c = omega (arith, first_small c)
+overflow_add-first-then-s-wide c = omega (arith, first_small c.before.before.before.before.before)
 
 pub loop-v-preserved-then-s-wide : goal.loop-v-preserved-then-s-wide
-loop-v-preserved-then-s-wide c = let j = c in
-    let i = j in
-    let l = (head i).loop in
-    (packed j.before.before, copied_up (n i) l.v l.s l.first l.inv.1 (c.if-s-wide.true ∙ c.wide.ensures.0))
+loop-v-preserved-then-s-wide c =
+    let l = c.loop-v in
+    (packed c.before.before, copied_up c.args.size l.v l.s l.first l.invariant.1 (c.if-s-wide.true ∙ c.wide.ensures.0))
 
 pub loop-v-preserved : goal.loop-v-preserved
-loop-v-preserved c = let j = c in
-    let i = j in
-    let l = (head i).loop in
-    (packed j.before.before, copied_on (n i) l.v l.s l.first l.inv.1 (λ e. c.if-s-wide.false (e ∙ sym c.wide.ensures.0)))
+loop-v-preserved c =
+    let l = c.loop-v in
+    (packed c.before.before, copied_on c.args.size l.v l.s l.first l.invariant.1 (λ e. c.if-s-wide.false (e ∙ sym c.wide.ensures.0)))
 
 pub returns : goal.returns
-returns c = let h = c in
-    let a = h.args in
-    packed_all a.size a.kinds a.marks.now h.loop-v.words h.loop-v.v h.loop-v.invariant.0 (omega (arith, c.loop-v-test.false, h.times-end.ensures.0))
+returns c =
+    let a = c.args in
+    packed_all a.size a.kinds a.marks.now c.loop-v.words c.loop-v.v c.loop-v.invariant.0 (omega (arith, c.loop-v-test.false, c.times-end.ensures.0))
