@@ -1,5 +1,4 @@
 -- `climb` meets its contract: what is counted and what is left to count make the whole. Assumes nothing.
-use Prim.Native.Nat.{◌-◌}
 use native.Mathlib.Nat.{zero-add}
 use native.Mathlib.Omega.{arith}
 use Rattle.search.proofs.Ways.{climb_ends, climb_goes_on, climb_stops}

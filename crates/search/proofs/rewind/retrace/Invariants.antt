@@ -1,6 +1,5 @@
 -- `retrace` meets its contract: what is left to write, from here, makes what was to be written. Assumes nothing.
 use mathlib.Core.Path.{◌≡◌}
-use Prim.Native.Nat.{◌-◌}
 use lib.ListN.{length}
 use Rattle.search.specs.Core.{retrace_walk, retrace_depth}
 use Rattle.search.proofs.rewind.retrace.Given as goal
