@@ -583,7 +583,7 @@ module _ (g : Graph) (game : Game) (m : Matches g game) where
       rw (sym (step_at game s Outer a.phase_is))
       (visit_fits (elem t d) s r x t ts p d k l refl (target_is s x t b a.cur_is e.target) (has_edge_lem s x b a.cur_is e.there) o n u u' h a)
   one_step s r (nested b p [] d k l) (o, (old, w)) z n u u' h a =
-      rw (sym (step_at game s Nested a.phase_is), sym (nested_leaves game s (omega (arith, a.top_is, a.height_is))))
+      subst (λ (x : Core). Fits g x r (outer p d k l)) (nested_leaves game s (omega (arith, a.top_is, a.height_is)) ∙ step_at game s Nested a.phase_is)
       (nested_leave s r b p d k l u (o.known b (on_head b [] p)) w.base z.0 h a)
   one_step s r (nested b p (frame x [] ∷ []) d k l) (o, (old, w)) z n u u' h a =
       let done = edges_done s x (u.below x (w.done x (w.known x (on_head x [] []))).0) a.cur_is (no_edge (g.successors x) s.walker.next a.pending_is) in
