@@ -13,34 +13,18 @@ leave-requires c = (c.requires.0, c.requires.1)
 
 pub returns-then-w : goal.returns-then-w
 returns-then-w c = λ spent number probes depth.
-    let p = c in
-    let i = p in
-    let a = i.args in
+    let a = c.args in
     let s : Core = core_of a.w spent number a.parent.now a.index.now probes a.stamp.now a.walk.now depth a.cursor.now in
-    back_out s i.if-w.true p.put.ensures c.leave.ensures
-
-pub down-top-requires : goal.down-top-requires
-down-top-requires c = tt
-
-pub down-at-requires : goal.down-at-requires
-down-at-requires c = tt
+    back_out s c.if-w.true c.put.ensures c.leave.ensures
 
 pub get-requires : goal.get-requires
 get-requires c = c.requires.4
-
-pub wide-next-requires : goal.wide-next-requires
-wide-next-requires c = tt
 
 pub get-requires-2 : goal.get-requires-2
 get-requires-2 c = c.requires.3
 
 pub returns : goal.returns
 returns c = λ spent number probes depth.
-    let n = c in
-    let g = n in
-    let e = g in
-    let d = e in
-    let i = d in
-    let a = i.args in
+    let a = c.args in
     let s : Core = core_of a.w spent number a.parent.now a.index.now probes a.stamp.now a.walk.now depth a.cursor.now in
-    back_down s i.if-w.false d.down-top.ensures e.down-at.ensures c.get-2.ensures (n.wide-next.ensures.0 ∙ g.get.ensures) (add-one n.wide-next.result)
+    back_down s c.if-w.false c.down-top.ensures c.down-at.ensures c.get-2.ensures (c.wide-next.ensures.0 ∙ c.get.ensures) (add-one c.wide-next.result)

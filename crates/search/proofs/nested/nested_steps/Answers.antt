@@ -17,9 +17,6 @@ nested_step-q-requires c =
     let i = c.loop-stamp.invariant in
     (i.0, i.1, subst (λ (n : ℕ). n < no_number) (sym i.2) c.requires.2, c.requires.3, i.3)
 
-pub nested_stopped-requires : goal.nested_stopped-requires
-nested_stopped-requires c = tt
-
 pub returns-then-nested_stopped : goal.returns-then-nested_stopped
 returns-then-nested_stopped c = record {
   by_index = λ words number probes size.

@@ -9,9 +9,8 @@ pub get-requires : goal.get-requires
 get-requires c = c.requires.0
 
 pub returns-then-at-height : goal.returns-then-at-height
-returns-then-at-height c = let g = c in
-    let a = g.args in
-    on_path_below a.walk.now a.depth.now a.height a.t _ _ g.get-at.ensures c.get.ensures c.if-at-height.true
+returns-then-at-height c = let a = c.args in
+    on_path_below a.walk.now a.depth.now a.height a.t _ _ c.get-at.ensures c.get.ensures c.if-at-height.true
 
 pub returns-else-at-height : goal.returns-else-at-height
 returns-else-at-height c = let a = c.args in

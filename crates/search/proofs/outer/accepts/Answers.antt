@@ -5,17 +5,9 @@ use Rattle.plain.specs.Table.{accepts}
 use Rattle.search.proofs.Ways.{accepts_below_lem, accepts_beyond}
 use Rattle.search.proofs.outer.accepts.Goals as goal
 
-pub wide-requires : goal.wide-requires
-wide-requires c = tt
-
-pub accepts_in-requires : goal.accepts_in-requires
-accepts_in-requires c = tt
-
 pub returns-then-v-size : goal.returns-then-v-size
-returns-then-v-size c = let w = c in
-    let i = w in
-    let a = i.args in
-    c.accepts_in.ensures ∙ ap (λ (n : ℕ). accepts a.words.now (n % 512)) w.wide.ensures.0 ∙ accepts_below_lem a.words.now a.size a.v i.if-v-size.true
+returns-then-v-size c = let a = c.args in
+    c.accepts_in.ensures ∙ ap (λ (n : ℕ). accepts a.words.now (n % 512)) c.wide.ensures.0 ∙ accepts_below_lem a.words.now a.size a.v c.if-v-size.true
 
 pub returns : goal.returns
 returns c = let a = c.args in accepts_beyond a.words.now a.size a.v c.if-v-size.false

@@ -3,9 +3,6 @@ use mathlib.Core.Path.{sym, ◌∙◌}
 use Rattle.search.proofs.Ways.{finish_nests, finish_leaves}
 use Rattle.search.proofs.outer.finish.Goals as goal
 
-pub accepts-requires : goal.accepts-requires
-accepts-requires c = tt
-
 pub returns-then-accepts : goal.returns-then-accepts
 returns-then-accepts c = let a = c.args in
     finish_nests a.parent.now a.index.now a.w (sym c.accepts.ensures ∙ c.if-accepts.true)
@@ -14,6 +11,5 @@ pub leave-requires : goal.leave-requires
 leave-requires c = c.requires
 
 pub returns : goal.returns
-returns c = let i = c in
-    let a = i.args in
-    finish_leaves a.parent.now a.index.now a.w _ c.leave.ensures (sym i.accepts.ensures ∙ i.if-accepts.false)
+returns c = let a = c.args in
+    finish_leaves a.parent.now a.index.now a.w _ c.leave.ensures (sym c.accepts.ensures ∙ c.if-accepts.false)

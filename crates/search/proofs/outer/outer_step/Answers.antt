@@ -9,9 +9,6 @@ use Rattle.search.proofs.Turns.{turn_exhausts, turn_discovers, turn_finishes}
 use Rattle.search.proofs.Scans.{advanced_one, then_discovers, then_finishes}
 use Rattle.search.proofs.outer.outer_step.Goals as goal
 
-pub exhaust-requires : goal.exhaust-requires
-exhaust-requires c = tt
-
 pub returns-then-w-eq0 : goal.returns-then-w-eq0
 returns-then-w-eq0 c =
     let a = c.args in

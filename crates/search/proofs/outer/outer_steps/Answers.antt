@@ -14,9 +14,6 @@ loop-number-init c = (c.requires.0, c.requires.1, c.requires.3, λ stamp cursor.
 pub outer_step-q-requires : goal.outer_step-q-requires
 outer_step-q-requires c = let i = c.loop-number.invariant in (i.0, i.1, c.requires.2, i.2)
 
-pub outer_stopped-requires : goal.outer_stopped-requires
-outer_stopped-requires c = tt
-
 pub returns-then-outer_stopped : goal.returns-then-outer_stopped
 returns-then-outer_stopped c = record {
   by_index = λ stamp cursor. made_then _ (c.loop-number.invariant.3 stamp cursor) (c.outer_step-q.ensures.by_index stamp cursor);

@@ -24,16 +24,10 @@ pub fill-requires-5 : goal.fill-requires-5
 fill-requires-5 c = c.requires.4
 
 pub returns : goal.returns
-returns c = let f4 = c in
-    let f3 = f4 in
-    let f2 = f3 in
-    let p = f2 in
-    let f1 = p in
-    let a = f1.args in
-    record {
-      number_is = p.put.ensures ∙ ap (λ (l : List ℕ). set l a.start 0) f1.fill.ensures;
-      parent_is = f2.fill-2.ensures;
-      index_is = f3.fill-3.ensures;
-      probes_is = f4.fill-4.ensures;
-      stamp_is = c.fill-5.ensures;
-    }
+returns c = record {
+  number_is = c.put.ensures ∙ ap (λ (l : List ℕ). set l c.args.start 0) c.fill.ensures;
+  parent_is = c.fill-2.ensures;
+  index_is = c.fill-3.ensures;
+  probes_is = c.fill-4.ensures;
+  stamp_is = c.fill-5.ensures;
+}

@@ -8,19 +8,16 @@ pub loop-n-init : goal.loop-n-init
 loop-n-init c = (omega arith, zero-add _)
 
 pub returns-then-x-start : goal.returns-then-x-start
-returns-then-x-start c = let h = c in
-    let a = h.args in
-    climb_ends a.parent.now a.start h.loop-n.x h.loop-n.n _ h.loop-n.invariant.1 c.loop-n-test.true c.if-x-start.true
+returns-then-x-start c = let a = c.args in
+    climb_ends a.parent.now a.start c.loop-n.x c.loop-n.n _ c.loop-n.invariant.1 c.loop-n-test.true c.if-x-start.true
 
 pub loop-n-preserved : goal.loop-n-preserved
-loop-n-preserved c = let h = c in
-    let a = h.args in (
+loop-n-preserved c = let a = c.args in (
       omega arith,
-      climb_goes_on a.parent.now a.start h.loop-n.x h.loop-n.n _ h.loop-n.invariant.1 _ c.loop-n-test.true
+      climb_goes_on a.parent.now a.start c.loop-n.x c.loop-n.n _ c.loop-n.invariant.1 _ c.loop-n-test.true
           c.if-x-start.false c.get-x.ensures,
     )
 
 pub returns : goal.returns
-returns c = let h = c in
-    let a = h.args in
-    climb_stops a.parent.now a.start h.loop-n.x h.loop-n.n _ h.loop-n.invariant.1 c.loop-n-test.false h.loop-n.invariant.0
+returns c = let a = c.args in
+    climb_stops a.parent.now a.start c.loop-n.x c.loop-n.n _ c.loop-n.invariant.1 c.loop-n-test.false c.loop-n.invariant.0

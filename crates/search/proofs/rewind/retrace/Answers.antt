@@ -20,23 +20,19 @@ pub get-x-requires : goal.get-x-requires
 get-x-requires c = c.requires.0
 
 pub loop-i-preserved : goal.loop-i-preserved
-loop-i-preserved c = let p2 = c in
-    let p1 = p2 in
-    let h = p1 in
-    let parent = h.args.parent.now in
-    let q = h.loop-i in
+loop-i-preserved c = let parent = c.args.parent.now in
+    let q = c.loop-i in
     let one : q.i ≡ suc (q.i - 1) = omega arith in (
-      (ap length p1.put.ensures ∙ simp length-set q.invariant.0.0, ap length p2.put-in-loop-i.ensures ∙ simp length-set q.invariant.0.1),
+      (ap length c.put.ensures ∙ simp length-set q.invariant.0.0, ap length c.put-in-loop-i.ensures ∙ simp length-set q.invariant.0.1),
       (
-        (λ j. retrace_walk parent (q.i - 1) (c.get-x.ensures j) (p1.put.ensures j)) ∙ walk_turn parent q.x q.i (q.i - 1) q.walk one ∙ q.invariant.1.0,
-        (λ j. retrace_depth parent (q.i - 1) (c.get-x.ensures j) (p2.put-in-loop-i.ensures j)) ∙ depth_turn parent q.x q.i (q.i - 1) q.depth one ∙ q.invariant.1.1,
+        (λ j. retrace_walk parent (q.i - 1) (c.get-x.ensures j) (c.put.ensures j)) ∙ walk_turn parent q.x q.i (q.i - 1) q.walk one ∙ q.invariant.1.0,
+        (λ j. retrace_depth parent (q.i - 1) (c.get-x.ensures j) (c.put-in-loop-i.ensures j)) ∙ depth_turn parent q.x q.i (q.i - 1) q.depth one ∙ q.invariant.1.1,
       ),
     )
 
 pub returns : goal.returns
-returns c = let h = c in
-    let parent = h.args.parent.now in
-    let q = h.loop-i in
+returns c = let parent = c.args.parent.now in
+    let q = c.loop-i in
     let none : q.i ≡ 0 = omega arith in (
       sym (ap (λ (n : ℕ). retrace_walk parent n q.x q.walk) none ∙ walk_none parent q.x q.walk) ∙ q.invariant.1.0,
       sym (ap (λ (n : ℕ). retrace_depth parent n q.x q.depth) none ∙ depth_none parent q.x q.depth) ∙ q.invariant.1.1,

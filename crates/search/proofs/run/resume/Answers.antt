@@ -22,9 +22,6 @@ climb-height-requires c = c.requires.1.parent_size
 pub retrace-requires : goal.retrace-requires
 retrace-requires c = let z = c.requires.1 in (z.parent_size, z.walk_size, length-replicate {A = ℕ} 512 0)
 
-pub up-requires : goal.up-requires
-up-requires c = tt
-
 pub get-requires : goal.get-requires
 get-requires c = c.requires.1.probes_size
 

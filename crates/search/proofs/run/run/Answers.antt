@@ -6,9 +6,6 @@ use Rattle.search.proofs.run.run.Goals as goal
 pub loop-left-init : goal.loop-left-init
 loop-left-init c = (c.requires.1, omega arith, c.requires.2, c.requires.3, made_none _ _ c.args.phases)
 
-pub over-requires : goal.over-requires
-over-requires c = tt
-
 pub returns-then-over : goal.returns-then-over
 returns-then-over c = ran_over _ _ _ c.args.phases c.loop-left.left c.loop-left.invariant.4 (sym c.over.ensures ∙ c.if-over.true)
 
