@@ -13,11 +13,6 @@ returns-then-not-is_root c = let none = sym c.is_root.ensures ∙ c.if-not-is_ro
 pub put-requires : goal.put-requires
 put-requires c = c.requires.1
 
-pub further-requires : goal.further-requires
-further-requires c = tt
-
 pub returns : goal.returns
-returns c = let p = c in
-    let i = p in
-    let some = sym i.is_root.ensures ∙ i.if-not-is_root.false in
-    record { filed = λ e. (p.put.ensures, c.further.ensures); unfiled = λ e. absurd (contra some e) }
+returns c = let some = sym c.is_root.ensures ∙ c.if-not-is_root.false in
+    record { filed = λ e. (c.put.ensures, c.further.ensures); unfiled = λ e. absurd (contra some e) }

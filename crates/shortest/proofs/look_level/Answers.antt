@@ -1,6 +1,5 @@
 -- `look_level` meets its contract: each turn is a state of the level, and what is left of the level comes to what the whole does. Assumes nothing.
 use mathlib.Core.Path.{sym, ◌∙◌}
-use Prim.Native.Nat.{◌-◌}
 use native.Mathlib.Omega.{arith}
 use Rattle.shortest.proofs.Levels.{left_begins, left_ends, left_halts, left_goes_on}
 use Rattle.shortest.proofs.look_level.Goals as goal
@@ -12,33 +11,19 @@ pub get-v-requires : goal.get-v-requires
 get-v-requires c = c.loop-i.invariant.0.queue_size
 
 pub look_through-r-requires : goal.look_through-r-requires
-look_through-r-requires c = let h = c in
-    (h.requires.0, h.loop-i.invariant.0)
-
-pub goes_on-requires : goal.goes_on-requires
-goes_on-requires c = tt
+look_through-r-requires c = (c.requires.0, c.loop-i.invariant.0)
 
 pub returns-then-not-goes_on : goal.returns-then-not-goes_on
-returns-then-not-goes_on c = let o = c in
-    let l = o in
-    let k = l in
-    let i = k in
-    let h = i in
-    left_halts _ _ _ _ _ _ _ _ _ _ h.loop-i.invariant.1 i.loop-i-test.true _ k.get-v.ensures _ _ l.look_through-r.ensures (sym o.goes_on.ensures ∙ c.if-not-goes_on.true)
+returns-then-not-goes_on c = left_halts _ _ _ _ _ _ _ _ _ _ c.loop-i.invariant.1 c.loop-i-test.true _ c.get-v.ensures _ _ c.look_through-r.ensures (sym c.goes_on.ensures ∙ c.if-not-goes_on.true)
 
 pub overflow_add-i : goal.overflow_add-i
-overflow_add-i c = let i = c in omega (arith, i.loop-i-test.true, i.ranges.stop)
+overflow_add-i c = omega (arith, c.loop-i-test.true, c.ranges.stop)
 
 pub loop-i-smaller : goal.loop-i-smaller
-loop-i-smaller c = let i = c in omega (arith, i.loop-i-test.true)
+loop-i-smaller c = omega (arith, c.loop-i-test.true)
 
 pub loop-i-preserved : goal.loop-i-preserved
-loop-i-preserved c = let o = c in
-    let l = o in
-    let k = l in
-    let i = k in
-    let h = i in
-    (l.look_through-r.ensures.sized, left_goes_on _ _ _ _ _ _ _ _ _ _ h.loop-i.invariant.1 i.loop-i-test.true _ k.get-v.ensures _ _ l.look_through-r.ensures (sym o.goes_on.ensures ∙ c.if-not-goes_on.false))
+loop-i-preserved c = (c.look_through-r.ensures.sized, left_goes_on _ _ _ _ _ _ _ _ _ _ c.loop-i.invariant.1 c.loop-i-test.true _ c.get-v.ensures _ _ c.look_through-r.ensures (sym c.goes_on.ensures ∙ c.if-not-goes_on.false))
 
 pub returns : goal.returns
-returns c = let h = c in left_ends _ _ _ _ _ _ _ _ _ _ h.loop-i.invariant.1 h.loop-i.invariant.0 c.loop-i-test.false
+returns c = left_ends _ _ _ _ _ _ _ _ _ _ c.loop-i.invariant.1 c.loop-i.invariant.0 c.loop-i-test.false

@@ -7,9 +7,7 @@ pub contains-requires : goal.contains-requires
 contains-requires c = c.requires.seen_size
 
 pub returns-then-contains : goal.returns-then-contains
-returns-then-contains c = let k = c in
-    let a = k in
-    notes_again a.args.queue.now a.args.seen.now a.args.tail a.args.t a.requires (sym c.if-contains.true ∙ k.contains.ensures)
+returns-then-contains c = notes_again c.args.queue.now c.args.seen.now c.args.tail c.args.t c.requires (sym c.if-contains.true ∙ c.contains.ensures)
 
 pub insert-requires : goal.insert-requires
 insert-requires c = c.requires.seen_size
@@ -17,14 +15,6 @@ insert-requires c = c.requires.seen_size
 pub put-requires : goal.put-requires
 put-requires c = c.requires.queue_size
 
-pub further-requires : goal.further-requires
-further-requires c = tt
-
 pub returns : goal.returns
-returns c = let p = c in
-    let n = p in
-    let e = n in
-    let k = e in
-    let a = k in
-    notes_new a.args.queue.now a.args.seen.now a.args.tail a.args.t a.requires _ _ _ p.put.ensures n.insert.ensures c.further.ensures
-    (sym e.if-contains.false ∙ k.contains.ensures)
+returns c = notes_new c.args.queue.now c.args.seen.now c.args.tail c.args.t c.requires _ _ _ c.put.ensures c.insert.ensures c.further.ensures
+    (sym c.if-contains.false ∙ c.contains.ensures)
