@@ -1,7 +1,7 @@
 -- `search` meets its contract: a refusal, or the table filed, its marks packed and the start state visited. Assumes nothing.
 use Rattle.std.proofs.Common.{refl, sym, ◌∙◌, ℕ, List, length}
 use Rattle.plain.specs.Table.{by_kind}
-use Rattle.plain.specs.Refusals.{accepted, Load, load_trial}
+use Rattle.plain.specs.Refusals.{Load, load_trial}
 use Rattle.table.proofs.Trying.{tried_refused, tried_accepted}
 use Rattle.verdict.proofs.Loads.{load_refused}
 use Rattle.table.proofs.Holding.{packs}
