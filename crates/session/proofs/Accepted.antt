@@ -372,7 +372,7 @@ module _ (u : PlainUpdate) (alone : Bool) (ns : List ℕ) (q : Asks u alone (lin
         (next_answers u ns s b a r.verdict w.sought t h (length lent) (is t h) (lines t h) (stored t h) lent lent' r.answer (omega arith) w.tells);
     holds = λ t h. subst⁻¹ (λ (x : Table). Holds (next u ns s b a r.verdict w.sought t h (length lent) (is t h) (lines t h) (stored t h)) x)
         (table_accepted (call_of (update u) lent) t (is t h)) (next_holds u ns s b a r.verdict w.sought t h (length lent) (is t h) (lines t h) (stored t h));
-    refused = λ m z. absurd (never_refused r.verdict.spent r.verdict.kept r.verdict.stem r.verdict.length m (sym w.tells.answer_is_lem ∙ z));
+    refused = λ m z. absurd (never_refused r.verdict.spent r.verdict.kept r.verdict.stem r.verdict.length m (sym w.tells.answer_is ∙ z));
     no_game = λ z. absurd (not_both (sym (none_is z).0 ∙ e));
   }
     where

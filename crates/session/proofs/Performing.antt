@@ -78,7 +78,7 @@ module _ (k : ℕ) (s : Session) (lent : List ℕ) where
     kinds_accepted = record {
       answers = λ t h. subst⁻¹ (λ (x : PlainAnswer). Answered x lent r.answer lent') (kinds_answer k t (length lent) (trial_is t h ∙ e)) (held_answered t h).1;
       holds = λ t h. subst⁻¹ (λ (x : Table). Holds next x) (table_accepted (call_of (set_kinds k) lent) t (trial_is t h ∙ e)) (held_answered t h).0;
-      refused = λ m z. absurd (never_refused r.verdict.spent r.verdict.kept r.verdict.stem r.verdict.length m (sym settles.tells.answer_is_lem ∙ z));
+      refused = λ m z. absurd (never_refused r.verdict.spent r.verdict.kept r.verdict.stem r.verdict.length m (sym settles.tells.answer_is ∙ z));
       no_game = λ z. absurd (not_both (sym (none_is z) ∙ e));
     }
 

@@ -36,7 +36,7 @@ lowered size above walk = map (state_of size above) walk
 
 -- What telling leaves: the answer, and the walk at the head of the list, where it fits. Only a forged session has a walk that does not: of what the list then holds nothing is said.
 pub record Tells (spent kept stem len : ℕ) (walk lent : List ℕ) (r : Answer) (lent' : List ℕ) : Type 0 where
-  pub answer_is_lem : r ≡ answer_is spent kept stem len
+  pub answer_is : r ≡ answer_is spent kept stem len
   pub wrote : stem ≤ len → len ≤ 512 → len ≤ length lent → lent' ≡ shown_walk len walk lent
 
 -- ---- an answer, as the plain table tells it
