@@ -9,7 +9,6 @@ use Rattle.plain.specs.Machine.{Change, add, cut, mark, unmark, named}
 use Rattle.rows.specs.Rows.{entries, row_at, place_of}
 use Rattle.rows.specs.Change.{Rows}
 use Rattle.table.specs.declared.Subject.{Subject}
-use Rattle.table.specs.declared.Subject.TheVariants as Subject
 use Rattle.table.specs.Trials.{switching}
 use Rattle.table.specs.Filing.{named_by}
 use Rattle.batch.specs.Batches.{op_for}

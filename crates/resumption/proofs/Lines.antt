@@ -13,7 +13,6 @@ use Rattle.rows.specs.Change.{Rows}
 use Rattle.look.specs.Numbers.{no_number, plus}
 use Rattle.batch.specs.declared.BatchLine.{BatchLine}
 use Rattle.table.specs.declared.Subject.{Subject}
-use Rattle.table.specs.declared.Subject.TheVariants as Subject
 use Rattle.table.specs.declared.Switch.{Switch}
 use Rattle.table.specs.Trials.{op_of}
 use Rattle.table.specs.Filing.{named_by}

@@ -13,7 +13,6 @@ use Rattle.plain.proofs.Trials.{held_first, held_later}
 use Rattle.plain.proofs.Tables.{Valid}
 use Rattle.plain.proofs.Batches.{batch_made}
 use Rattle.batch.specs.declared.Update.{Update}
-use Rattle.batch.specs.declared.Update.TheVariants as Update
 use Rattle.table.specs.declared.Position.TheVariants as Position
 use Rattle.table.specs.Trials.{Arrays, change_of, add_conditions, cut_conditions, mark_conditions, unmark_conditions}
 use Rattle.table.specs.Filing.{Stored}

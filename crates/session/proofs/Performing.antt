@@ -20,7 +20,6 @@ use Rattle.table.specs.Filing.{with_words}
 use Rattle.table.proofs.NewKinds.{kinds_trial_is, stored_kinds}
 use Rattle.batch.specs.declared.Update.{Update}
 use Rattle.batch.specs.declared.Command.{Command}
-use Rattle.batch.specs.declared.Command.TheVariants as Command
 use Rattle.batch.specs.declared.BatchLine.{BatchLine}
 use Rattle.batch.specs.Batches.{numbers_in}
 use Rattle.verdict.specs.Answers.{refusing, Answered}

@@ -11,7 +11,6 @@ use Rattle.plain.proofs.Tests.{contra}
 use Rattle.question.specs.declared.Topic.{Topic}
 use Rattle.question.specs.declared.Topic.TheVariants.{Ways, Short}
 use Rattle.question.specs.declared.Reply.{Reply}
-use Rattle.question.specs.declared.Reply.TheVariants as Reply
 use Rattle.question.specs.Replies.{topic_of, ways_in, RoundOf, ShortIn}
 use Rattle.question.proofs.Replies.{ways_outside, ways_same, short_same}
 use Rattle.verdict.specs.Answers.{WalkOf}

@@ -1,12 +1,9 @@
 -- What the inner functions of the session do, over the lists that its arrays hold. Cited by their contracts alone. Assumes nothing.
 use Rattle.std.specs.Prelude.{ℕ, ◌*◌, ◌-◌, ◌%◌, min, ◌≡◌, Bool, true, false, cond, List, length, set, replicate}
-use Rattle.plain.specs.Lists.{all}
 use Rattle.plain.specs.Refusals.{accepted, refused}
 use Rattle.rows.specs.Change.{Rows}
 use Rattle.batch.specs.declared.Update.{Update}
-use Rattle.batch.specs.declared.Update.TheVariants as Update
 use Rattle.batch.specs.declared.Command.{Command}
-use Rattle.batch.specs.declared.Command.TheVariants as Command
 use Rattle.batch.specs.declared.BatchLine.{BatchLine}
 use Rattle.table.specs.declared.Position.TheVariants as Position
 use Rattle.table.specs.Trials.{Arrays, arrays_of, kinds_trial_in}

@@ -10,16 +10,12 @@ use Rattle.search.specs.Archive.{Archived}
 use Rattle.verdict.specs.declared.Answer.{Answer}
 use Rattle.verdict.specs.declared.Answer.TheVariants.{Refused}
 use Rattle.question.specs.declared.Reply.{Reply}
-use Rattle.question.specs.declared.Reply.TheVariants as Reply
 use Rattle.question.specs.Replies.{replied, reply_shown}
 use Rattle.verdict.specs.Answers.{shown, WalkOf, Answered, LoadAnswered}
 use Rattle.table.specs.declared.Refusal.{Refusal}
 use Rattle.table.specs.declared.Position.{Position}
-use Rattle.table.specs.declared.Position.TheVariants as Position
 use Rattle.batch.specs.declared.Update.{Update}
-use Rattle.batch.specs.declared.Update.TheVariants as Update
 use Rattle.batch.specs.declared.Command.{Command}
-use Rattle.batch.specs.declared.Command.TheVariants as Command
 use Rattle.session.specs.declared.Session.{Session}
 use Rattle.session.specs.declared.Outcome.{Outcome}
 use Rattle.table.specs.Trials.{change_of}

@@ -1,6 +1,6 @@
 -- `earlier` meets its contract: the first so far, and the copies that are left, give that of all. Assumes nothing.
 use mathlib.Core.Path.{◌≡◌}
-use Prim.Native.Nat.{ℕ, ◌-◌}
+use Prim.Native.Nat.{ℕ}
 use Rattle.resumption.specs.declared.First.{First}
 use Rattle.resumption.specs.Model.{copies_up, first_of}
 use Rattle.resumption.proofs.earlier.Given as goal

@@ -2,7 +2,7 @@
 use mathlib.Core.Path.{◌≡◌}
 use mathlib.Core.Bool.{Bool}
 use mathlib.Core.List.{List}
-use Prim.Native.Nat.{ℕ, ◌-◌}
+use Prim.Native.Nat.{ℕ}
 use Rattle.plain.specs.Lists.{all}
 use Rattle.rows.specs.Change.{rows_of}
 use Rattle.batch.specs.declared.BatchLine.{BatchLine}

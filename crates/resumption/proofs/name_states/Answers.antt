@@ -2,7 +2,7 @@
 use mathlib.Core.Path.{ap}
 use mathlib.Core.Bool.{Bool}
 use native.Mathlib.Omega.{arith}
-use Rattle.batch.specs.Batches.{numbers_in, end_in}
+use Rattle.batch.specs.Batches.{end_in}
 use Rattle.batch.proofs.Batches.{numbers_length}
 use Rattle.resumption.proofs.Lines.{named_begun, named_on, named_all_lem, named_full}
 use Rattle.resumption.proofs.name_states.Goals as goal
