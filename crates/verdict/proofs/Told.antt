@@ -88,7 +88,7 @@ module _ (spent kept stem len : ℕ) where
       let few : len ≤ 512 = omega (arith, fit.1, mul_comm t.size t.kinds, ok.states_few) in
       let list : lent' ≡ written (answer w spent kept) lent = s.wrote fit.0 few (omega (arith, fit.1)) ∙ tells_written w (lowered t.size (t.kinds - 1) walk) lent p in
       record {
-        line = tells_answer w (lowered t.size (t.kinds - 1) walk) lent p ∙ (λ i. shown (sym s.answer_is_lem i) (sym list i) ∷ []);
+        line = tells_answer w (lowered t.size (t.kinds - 1) walk) lent p ∙ (λ i. shown (sym s.answer_is i) (sym list i) ∷ []);
         list = list;
       }
 
