@@ -1,6 +1,7 @@
 // The layers of a game with several kinds of pay: the copies of its states, where their marks stand and where their rows lie. The rows are stored once.
 // `above` is how many layers lie above the first.
 #![tactic(auto)]
+
 ghost use Rattle.std.specs.Prelude.{◌≡◌, ℕ, suc, ◌+◌, ◌*◌, ◌%◌, ◌≤◌, ◌<◌, min, length, replicate};
 ghost use Rattle.plain.specs.Table.{accepts, by_kind};
 ghost use Rattle.plain.specs.Layers.{copy, state_of, landing};

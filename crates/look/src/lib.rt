@@ -1,6 +1,7 @@
 // How a search reads a row: numbers of 16 bits, arrays of them, sets of states, the one function that hands out a target and counts, and the scan of a row.
 // Every function is safe for any contents of the arrays.
 #![tactic(auto)]
+
 ghost use Rattle.std.specs.Prelude.{◌≡◌, ◌+◌, ◌-◌, ◌*◌, ◌%◌, ◌<◌, true, length, replicate, slice_index, slice_index_or, slice_set};
 ghost use Rattle.rows.specs.Rows.{entries, place_of};
 ghost use Rattle.look.specs.Numbers.{up as upped, further as oneFurther, plus as added};

@@ -1,5 +1,6 @@
 // The paying marks: eight 64-bit words for each kind. State s has bit (s mod 64) of word (s div 64).
 #![tactic(auto)]
+
 ghost use Rattle.std.specs.Prelude.{◌≡◌, ◌%◌, ◌^◌};
 ghost use Rattle.plain.specs.Table.{accepts, with_mark, without_mark, by_kind, accepting_count};
 

@@ -2,6 +2,7 @@
 // The states are the numbers below a size: starts[size] is the count of edges, and every start behind it is 0, so that a change moves no more starts than the table has.
 // Every function is safe for any contents of the arrays.
 #![tactic(auto)]
+
 ghost use Rattle.std.specs.Prelude.{◌≡◌, ◌<◌, ◌≤◌, length, get_or};
 ghost use Rattle.rows.specs.Rows.{degree_at, row_at, edge_count, place_of, Tabled};
 ghost use Rattle.rows.specs.Shift.{opened, shut, moved_one, moved_starts};

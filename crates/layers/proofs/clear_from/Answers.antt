@@ -1,5 +1,4 @@
 -- `clear_from` meets its contract: the bits from the first up to v are cleared. Assumes nothing.
-use Prim.Native.Nat.{◌-◌}
 use Rattle.layers.proofs.Clearing.{cleared_none, cleared_one, cleared_all}
 use Rattle.layers.proofs.clear_from.Goals as goal
 

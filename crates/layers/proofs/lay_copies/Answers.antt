@@ -14,23 +14,26 @@ loop-v-init c =
 pub loop-v-preserved-then-left-gt0 : goal.loop-v-preserved-then-left-gt0
 loop-v-preserved-then-left-gt0 c =
     let p = c.requires in
-    let t = c.loop-v.invariant.1 in
-    (laid_more _ _ _ _ _ _ _ p.1 p.0 p.2 p.3 _ _ _ _ c.loop-v.invariant.0 c.loop-v-test.true _ _ _ t _ (c.base_of.ensures t.layer _ t.first t.above),
-     stands_up _ _ _ _ _ _ t (c.if-s-wide.true ∙ c.wide.ensures.0) c.if-left-gt0.true _ c.wide-at.ensures.0)
+    let t = c.loop-v.invariant.1 in (
+      laid_more _ _ _ _ _ _ _ p.1 p.0 p.2 p.3 _ _ _ _ c.loop-v.invariant.0 c.loop-v-test.true _ _ _ t _ (c.base_of.ensures t.layer _ t.first t.above),
+      stands_up _ _ _ _ _ _ t (c.if-s-wide.true ∙ c.wide.ensures.0) c.if-left-gt0.true _ c.wide-at.ensures.0,
+    )
 
 pub loop-v-preserved-else-left-gt0 : goal.loop-v-preserved-else-left-gt0
 loop-v-preserved-else-left-gt0 c =
     let p = c.requires in
-    let t = c.loop-v.invariant.1 in
-    (laid_more _ _ _ _ _ _ _ p.1 p.0 p.2 p.3 _ _ _ _ c.loop-v.invariant.0 c.loop-v-test.true _ _ _ t _ (c.base_of.ensures t.layer _ t.first t.above),
-     stands_on _ _ _ _ _ _ t (λ e. omega arith))
+    let t = c.loop-v.invariant.1 in (
+      laid_more _ _ _ _ _ _ _ p.1 p.0 p.2 p.3 _ _ _ _ c.loop-v.invariant.0 c.loop-v-test.true _ _ _ t _ (c.base_of.ensures t.layer _ t.first t.above),
+      stands_on _ _ _ _ _ _ t (λ e. omega arith),
+    )
 
 pub loop-v-preserved : goal.loop-v-preserved
 loop-v-preserved c =
     let p = c.requires in
-    let t = c.loop-v.invariant.1 in
-    (laid_more _ _ _ _ _ _ _ p.1 p.0 p.2 p.3 _ _ _ _ c.loop-v.invariant.0 c.loop-v-test.true _ _ _ t _ (c.base_of.ensures t.layer _ t.first t.above),
-     stands_on _ _ _ _ _ _ t (λ e. absurd (c.if-s-wide.false (e ∙ sym c.wide.ensures.0))))
+    let t = c.loop-v.invariant.1 in (
+      laid_more _ _ _ _ _ _ _ p.1 p.0 p.2 p.3 _ _ _ _ c.loop-v.invariant.0 c.loop-v-test.true _ _ _ t _ (c.base_of.ensures t.layer _ t.first t.above),
+      stands_on _ _ _ _ _ _ t (λ e. absurd (c.if-s-wide.false (e ∙ sym c.wide.ensures.0))),
+    )
 
 pub returns : goal.returns
 returns c =

@@ -31,8 +31,9 @@ packed c =
     let low = there c.before.before.before in
     let read = sym (c.accepts_in.ensures ∙ mark_read n l.v l.s l.first l.invariant.1 k c.requires.1 c.requires.3 low marks) in
     elim c.if-accepts_in.branch [
-      then-accepts_in w ↦ rw (w.words-is ∙ w.set_mark.ensures) (packed_set n k marks l.words l.v l.invariant.0 low c.requires.3 (read ∙ w.if-accepts_in.true))
-    | else-accepts_in w ↦ rw w.words-is (packed_kept n k marks l.words l.v l.invariant.0 low (read ∙ w.if-accepts_in.false)) ]
+      | then-accepts_in w ↦ rw (w.words-is ∙ w.set_mark.ensures) (packed_set n k marks l.words l.v l.invariant.0 low c.requires.3 (read ∙ w.if-accepts_in.true))
+      | else-accepts_in w ↦ rw w.words-is (packed_kept n k marks l.words l.v l.invariant.0 low (read ∙ w.if-accepts_in.false))
+    ]
 
 pub overflow_add-v : goal.overflow_add-v
 overflow_add-v c = omega arith

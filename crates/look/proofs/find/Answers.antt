@@ -1,5 +1,5 @@
 -- `find` meets its contract. The loop: the place is that of x in what is left of the entries, behind the i that were passed. Assumes nothing.
-use Rattle.std.proofs.Common.{◌-◌, ◌∙◌, add-one, arith}
+use Rattle.std.proofs.Common.{◌∙◌, add-one, arith}
 use Rattle.rows.specs.Rows.{entries}
 use Rattle.rows.proofs.Entries.{entries_length, entries_first, place_found, place_passed, place_end}
 use Rattle.look.proofs.find.Goals as goal

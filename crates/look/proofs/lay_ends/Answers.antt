@@ -1,5 +1,5 @@
 -- `lay_ends` meets its contract: the first i entries are the starts behind. Assumes nothing.
-use Rattle.std.proofs.Common.{◌≡◌, ℕ, ◌+◌, ◌-◌, ◌<◌, ◌≤◌, eqb, List, length, get_or, set, sym, ◌∙◌, ⊎_elim, arith, length-set, get_or-set_other, get_or-set_same, ext_get_or, eqb-true}
+use Rattle.std.proofs.Common.{◌≡◌, ℕ, ◌+◌, ◌<◌, ◌≤◌, eqb, List, get_or, set, sym, ◌∙◌, ⊎_elim, arith, length-set, get_or-set_other, get_or-set_same, ext_get_or, eqb-true}
 use borrow.Author.Tests.{eqb-false}
 use Rattle.plain.proofs.Tests.{either}
 use Rattle.rows.proofs.Paste.{same_place}

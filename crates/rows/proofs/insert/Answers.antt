@@ -44,7 +44,8 @@ returns-else-size-le-STATES c =
     insert_undone a.size a.v a.t a.targets.now a.starts.now _ _ (found c.before).0 (found c.before).1
     (λ few state ends free.
     elim c.else-size-le-STATES.branch [
-      else-size-le-STATES-via-then-size-le-STATES+then-v-size+then-at-count+else-count-lt-EDGES w ↦ omega arith
-    | else-size-le-STATES-via-then-size-le-STATES+then-v-size+else-at-count w ↦ omega arith
-    | else-size-le-STATES-via-then-size-le-STATES+else-v-size w ↦ omega arith
-    | else-size-le-STATES-via-else-size-le-STATES w ↦ omega arith ])
+      | else-size-le-STATES-via-then-size-le-STATES+then-v-size+then-at-count+else-count-lt-EDGES w ↦ omega arith
+      | else-size-le-STATES-via-then-size-le-STATES+then-v-size+else-at-count w ↦ omega arith
+      | else-size-le-STATES-via-then-size-le-STATES+else-v-size w ↦ omega arith
+      | else-size-le-STATES-via-else-size-le-STATES w ↦ omega arith
+    ])

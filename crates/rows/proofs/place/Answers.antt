@@ -1,5 +1,4 @@
 -- `place` meets its contract. The loop: the place is that of t in what is left of the row, behind the k that were passed. Assumes nothing.
-use Prim.Native.Nat.{◌-◌}
 use native.Mathlib.Numerals.{add-one}
 use native.Mathlib.Omega.{arith}
 use Rattle.rows.specs.Rows.{row_at}
