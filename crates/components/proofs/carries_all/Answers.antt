@@ -3,7 +3,6 @@ use mathlib.Core.Path.{refl, sym, ◌∙◌}
 use mathlib.Core.Bool.{true, false}
 use Prim.Native.Nat.{◌-◌}
 use native.Mathlib.Omega.{arith}
-use borrow.Author.Tests.{not-true, not-false}
 use Rattle.components.proofs.Laws.{kinds_end, kinds_next}
 use Rattle.components.proofs.carries_all.Goals as goal
 
@@ -23,7 +22,7 @@ pub returns-then-not-carried : goal.returns-then-not-carried
 returns-then-not-carried c = let d = c in
     let t = d in
     let i = t in
-    kinds_next _ _ _ _ _ i.loop-kind-test.true t.times.ensures.0 false (sym d.carried.ensures ∙ not-true _ c.if-not-carried.true-raw) ∙ i.loop-kind.invariant
+    kinds_next _ _ _ _ _ i.loop-kind-test.true t.times.ensures.0 false (sym d.carried.ensures ∙ c.if-not-carried.true) ∙ i.loop-kind.invariant
 
 pub loop-kind-smaller : goal.loop-kind-smaller
 loop-kind-smaller c = omega arith
@@ -32,7 +31,7 @@ pub loop-kind-preserved : goal.loop-kind-preserved
 loop-kind-preserved c = let d = c in
     let t = d in
     let i = t in
-    kinds_next _ _ _ _ _ i.loop-kind-test.true t.times.ensures.0 true (sym d.carried.ensures ∙ not-false _ c.if-not-carried.false-raw) ∙ i.loop-kind.invariant
+    kinds_next _ _ _ _ _ i.loop-kind-test.true t.times.ensures.0 true (sym d.carried.ensures ∙ c.if-not-carried.false) ∙ i.loop-kind.invariant
 
 pub returns : goal.returns
 returns c = kinds_end _ _ _ _ c.loop-kind-test.false ∙ c.loop-kind.invariant

@@ -1,11 +1,11 @@
 -- `leave` meets its contract, on each of its ways. Assumes nothing.
 use mathlib.Core.Path.{ap, sym, ◌∙◌}
-use mathlib.Core.Logic.{⊎_elim}
 use mathlib.Core.Bool.{Bool, cond}
 use native.Mathlib.Omega.{arith}
 use Rattle.components.specs.Model.{closed, on_round}
 use Rattle.components.proofs.Laws.{left_none, left_newest, left_older, departs, departs_closed}
 use Rattle.components.proofs.leave.Goals as goal
+use Rattle.components.proofs.leave.Goals.{then-height-gt0+else-first-get, else-height-gt0, then-round, else-round}
 
 pub down-height-requires : goal.down-height-requires
 down-height-requires c = tt
@@ -42,15 +42,16 @@ pub renumber-requires : goal.renumber-requires
 renumber-requires c = let a = c in (a.requires.1, a.requires.2)
 
 pub returns : goal.returns
-returns c = let j = c in
-    let r = j in
-    let m = r in
-    let f = m in
-    let g = f in
-    let h = g.down-height.ensures in
-    λ next. departs_closed _ _ _ h _ g.down-groups.ensures _ f.get-first.ensures _ _ _ _ _
-    (⊎_elim (λ w. left_older _ _ _ h _ g.down-groups.ensures _ f.get-first.ensures w.0.taken _ w.2.ensures _ w.3.ensures w.4.left)
-    (λ w. left_none _ _ _ h _ g.down-groups.ensures _ f.get-first.ensures w.left) m.if-height-gt0.branch)
-    _ r.is_round-round.ensures _
-    (⊎_elim (λ w. w.1 ∙ ap (λ (t : Bool). cond t on_round closed) (sym w.0.taken)) (λ w. w.1 ∙ ap (λ (t : Bool). cond t on_round closed) (sym w.0.left)) j.if-round.branch)
+returns c =
+    let h = c.down-height.ensures in
+    λ next. departs_closed _ _ _ h _ c.down-groups.ensures _ c.get-first.ensures _ _ _ _ _
+    (elim c.if-height-gt0.branch [
+      | then-height-gt0+else-first-get w ↦ left_older _ _ _ h _ c.down-groups.ensures _ c.get-first.ensures w.if-height-gt0.true _ w.get.ensures _ w.get-then-height-gt0.ensures w.if-first-get.false
+      | else-height-gt0 w ↦ left_none _ _ _ h _ c.down-groups.ensures _ c.get-first.ensures w.if-height-gt0.false
+    ])
+    _ c.is_round-round.ensures _
+    (elim c.if-round.branch [
+      | then-round w ↦ w.renumber-is ∙ ap (λ (t : Bool). cond t on_round closed) (sym w.if-round.true)
+      | else-round w ↦ w.renumber-is ∙ ap (λ (t : Bool). cond t on_round closed) (sym w.if-round.false)
+    ])
     _ c.renumber.ensures

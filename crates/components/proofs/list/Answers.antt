@@ -1,10 +1,10 @@
 -- `list` meets its contract: of the states passed, those on a round are marked and counted. Assumes nothing.
 use mathlib.Core.Path.{sym, ◌∙◌}
-use mathlib.Core.Logic.{⊎_elim}
 use Prim.Native.Nat.{◌-◌}
 use native.Mathlib.Omega.{arith}
 use Rattle.components.proofs.Laws.{listed_none, listed_few, listed_one, listed_other, listed_end}
 use Rattle.components.proofs.list.Goals as goal
+use Rattle.components.proofs.list.Goals.{then-get, else-get}
 
 pub loop-s-init : goal.loop-s-init
 loop-s-init c = (omega arith, listed_none _)
@@ -32,12 +32,13 @@ pub loop-s-smaller : goal.loop-s-smaller
 loop-s-smaller c = omega (arith, c.loop-s-test.true)
 
 pub loop-s-preserved : goal.loop-s-preserved
-loop-s-preserved c = let g = c in
-    let i = g in
-    let l = i.loop-s.invariant.1 in (
-      omega (arith, i.loop-s-test.true),
-      ⊎_elim (λ w. listed_one _ _ _ _ l _ g.get.ensures _ _ w.0.taken _ w.2.ensures.0 (w.5 ∙ w.3.ensures) w.6)
-          (λ w. listed_other _ _ _ _ l _ g.get.ensures _ _ w.0.left w.1 w.2) c.if-get.branch,
+loop-s-preserved c =
+    let l = c.loop-s.invariant.1 in (
+      omega (arith, c.loop-s-test.true),
+      elim c.if-get.branch [
+        | then-get w ↦ listed_one _ _ _ _ l _ c.get.ensures _ _ w.if-get.true _ w.wide.ensures.0 (w.states-is ∙ w.set_mark.ensures) w.count-is
+        | else-get w ↦ listed_other _ _ _ _ l _ c.get.ensures _ _ w.if-get.false w.states-is w.count-is
+      ],
     )
 
 pub returns : goal.returns

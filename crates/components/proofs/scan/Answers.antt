@@ -55,8 +55,7 @@ pub join-n-requires : goal.join-n-requires
 join-n-requires c = c.requires.2
 
 pub overflow_add-e : goal.overflow_add-e
-overflow_add-e c = let i = c in
-    omega (arith, short i.before.before.before.before.before.before.before.before, i.wide.ensures.0)
+overflow_add-e c = omega (arith, c.loop-unused-test.true, c.wide.ensures.0, c.row_of-row.ensures.stop_small)
 
 pub loop-unused-smaller : goal.loop-unused-smaller
 loop-unused-smaller c = let i = c in
