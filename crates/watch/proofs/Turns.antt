@@ -1,5 +1,5 @@
 -- The lines of a text, one after the other. Assumes nothing.
-use Prim.Native.Nat.{ℕ, ◌+◌, ◌-◌, ◌≤◌, ◌<◌}
+use Prim.Native.Nat.{ℕ, ◌+◌, ◌*◌, ◌-◌, ◌≤◌, ◌<◌}
 use mathlib.Core.Path.{◌≡◌, refl, sym, ap, subst, subst⁻¹, ◌∙◌}
 use mathlib.Core.Bool.{Bool, true, false, cond}
 use mathlib.Core.Logic.{⊎_elim}
@@ -14,6 +14,7 @@ use Rattle.line.specs.Records.{record_of}
 use Rattle.line.specs.declared.Record.{Record}
 use Rattle.line.proofs.Paying.{PayFits}
 use Rattle.line.proofs.Fields.{lines_at, lines_none}
+use Rattle.answer.specs.Bytes.{Put}
 use Rattle.answer.specs.Rendering.{render}
 use Rattle.verdict.specs.declared.Answer.{Answer}
 use Rattle.verdict.specs.Answers.{is_refused}
@@ -28,10 +29,10 @@ use Rattle.lead.specs.declared.Task.TheVariants.{Nothing, Refuse, Ask as Asks, Q
 use Rattle.lead.specs.declared.Plan.{Plan}
 use Rattle.lead.specs.Asked.{numbers_most, asked, is_over}
 use Rattle.lead.specs.contracts.Task.{the_type}
-use Rattle.watch.specs.Text.{Held, waiting, opened, gathering, playing, batching, ended, room, step, printed}
+use Rattle.watch.specs.Text.{Held, waiting, opened, gathering, playing, batching, ended, room, Step, step, printed, output_of, Fitted}
 use Rattle.watch.specs.declared.Written.{Written}
-use Rattle.watch.specs.Model.{Serves, Replied, lines_most, lines_for, lines_told, Laid, Writes}
-use Rattle.watch.proofs.Output.{AtMostTwo}
+use Rattle.watch.specs.Model.{Serves, Replied, lines_most, lines_for, lines_told, fits, Laid, Writes}
+use Rattle.watch.proofs.Output.{Rest, rest_end, AtMostTwo, all_put, not_put, fits_within, laid_within, laid_first}
 use Rattle.watch.proofs.Steps.{Lent, filed_in, Tracks, Follows, stepped}
 use Rattle.watch.proofs.Writing.{told_lines}
 
@@ -95,7 +96,14 @@ module _ (l : Lead) (y : Lent) (walk : List ℕ) (k : length walk ≡ room) (c :
       → Serves ask l y.marks y.numbers s walk r w → Done task l y s walk c walk'
   done_asked task ask s r w e f g h v = rw (e, f, g) (record { follows = v; size = h ∙ k })
 
-  -- the tags of the tasks that ask for no load and no call
+  -- a task that asks for no load and no call
+  pub done_else : (task : Task) (c₀ : Outcome) → ((ask : Ask) → task ≡ Asks ask → ⊥) → walk' ≡ walk → c ≡ c₀ → Done task l y c₀.session walk c walk'
+  done_else Nothing c₀ o f g = record { follows = ap (λ (x : Outcome). x.session) g; size = ap length f ∙ k }
+  done_else (Refuse n) c₀ o f g = record { follows = ap (λ (x : Outcome). x.session) g; size = ap length f ∙ k }
+  done_else (Asks ask) c₀ o f g = absurd (o ask refl)
+  done_else (Questions q) c₀ o f g = record { follows = ap (λ (x : Outcome). x.session) g; size = ap length f ∙ k }
+
+  -- the same, by the tags of such tasks
   pub done_not : (task : Task) (c₀ : Outcome) → OneOf (0 ∷ 1 ∷ 3 ∷ []) (tag_of the_type task) → walk' ≡ walk → c ≡ c₀ → Done task l y c₀.session walk c walk'
   done_not Nothing c₀ o f g = record { follows = ap (λ (x : Outcome). x.session) g; size = ap length f ∙ k }
   done_not (Refuse n) c₀ o f g = record { follows = ap (λ (x : Outcome). x.session) g; size = ap length f ∙ k }
@@ -128,3 +136,33 @@ module _ (l : Lead) (y : Lent) (s : Session) (p : Held) (walk : List ℕ) (r : R
   pub behind : (plan : Plan) → plan ≡ asked l r → Done plan.task l y' s walk c walk' → Replied plan.task c.session reply → Writes plan y'.marks c.answer reply walk' d d' w → Behind p r y' c.session d d' w
   behind plan e v u t =
       behind_asked (subst (λ (x : Plan). Done x.task l y' s walk c walk') e v) (subst (λ (x : Plan). Replied x.task c.session reply) e u) (subst (λ (x : Plan). Writes x y'.marks c.answer reply walk' d d' w) e t)
+
+-- ---- how much of the lines is put
+
+-- what fits whole is within the space and within the buffer
+pub fitting_sizes : (ls : List Line) (d d' : List ℕ) (first len space n : ℕ) → Laid ls d d' first len → n ≡ fits space first len → (n ≤ space) × (n ≤ length d')
+fitting_sizes ls d d' first len space n t e =
+    let w = fits_within space first len (laid_first ls d d' first len t) in
+    (omega (arith, e, w.0), omega (arith, e, w.1, laid_within ls d d' first len t))
+
+-- One line read from a text, and as much of its answer as fits put behind `at`, where the output lent holds the lines before.
+module _ (lent text out : List ℕ) (space at from end : ℕ) (p : Held) (y : Lent) (s : Session) (d d' : List ℕ) (w : Written) (inside : from < length text) (stops : end ≡ from + up_to 10 (drop from text))
+    (low : at ≤ space) (wide : space ≤ length out) (rest : Rest lent space (output_of text) out at (to_tell p text from))
+    (b : Behind p (record_of (take (end - from) (drop from text))) y s d d' w) (out' : List ℕ) (n r : ℕ) (most : n ≡ fits (space - at) w.first w.len) (put : Put out at (take n d') out' r) where
+  abbrev answered : Step
+  answered = step p (record_of (take (end - from) (drop from text)))
+
+  both : Rest lent space (output_of text) out at (map render answered.lines ++ to_tell answered.next text (end + 1))
+  both = subst (λ (ls : List (List ℕ)). Rest lent space (output_of text) out at ls) (turn p text from end inside stops) rest
+
+  -- a line did not fit
+  pub line_cut : n < w.len → Fitted (output_of text) space lent out' (2 * r + 1)
+  line_cut h = not_put lent space (output_of text) out at answered.lines (to_tell answered.next text (end + 1)) b.few d' w.first w.len d b.laid low wide both out' n r most h put
+
+  -- all did
+  pub line_put : w.len ≤ n → Rest lent space (output_of text) out' r (to_tell answered.next text (end + 1))
+  line_put h = (all_put lent space (output_of text) out at answered.lines (to_tell answered.next text (end + 1)) b.few d' w.first w.len d b.laid low wide both out' n r most h put).1
+
+  -- and the run is over
+  pub line_last : w.len ≤ n → is_over w.lead.stage ≡ true → Fitted (output_of text) space lent out' (2 * r)
+  line_last h o = rest_end lent space (output_of text) out' r (to_tell answered.next text (end + 1)) (over_told answered.next w.lead y s text (end + 1) o b.tracks) (line_put h)

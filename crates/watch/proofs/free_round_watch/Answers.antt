@@ -8,6 +8,4 @@ pub slice_bounds-watch_text-end : goal.slice_bounds-watch_text-end
 slice_bounds-watch_text-end c = sym (length-take-le _ _ c.counted_end-end.ensures.0)
 
 pub returns : goal.returns
-returns c = let w = c in
-    let l = w in
-    watched_as _ _ _ _ _ _ l.counted_end-end.ensures.1 l.least-space.ensures w.watch_text.ensures
+returns c = watched_as _ _ _ _ _ _ c.counted_end-end.ensures.1 c.least-space.ensures c.watch_text.ensures

@@ -7,4 +7,4 @@ use Rattle.watch.proofs.no_session.Goals as goal
 
 pub returns : goal.returns
 unfolding first_held bad_size load_trial load_answer answer_line
-returns c = let l = c.load in (shown_refused l.result.answer _ 2 l.ensures.answers.line, l.ensures.empty 2 refl)
+returns c = (shown_refused c.load.result.answer _ 2 c.load.ensures.answers.line, c.load.ensures.empty 2 refl)

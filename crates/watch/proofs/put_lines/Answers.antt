@@ -3,22 +3,16 @@ use Rattle.watch.proofs.Writing.{no_lines, one_line}
 use Rattle.watch.proofs.put_lines.Goals as goal
 
 pub returns-in-Nothing : goal.returns-in-Nothing
-returns-in-Nothing c = rw c.enum_told-1.given.1 (no_lines _)
+returns-in-Nothing c = rw c.in-Nothing.is (no_lines _)
 
 pub returns-in-Refuse : goal.returns-in-Refuse
-returns-in-Refuse c = let p = c in
-    rw p.task-1.given.1 p.put_one.ensures
+returns-in-Refuse c = rw c.in-Refuse.is c.put_one.ensures
 
 pub returns-in-Load : goal.returns-in-Load
-returns-in-Load c = let p = c in
-    let t = p in
-    rw (t.task-in-Ask-1.given.1, t.enum_told-in-Load-1.given.1) p.put_load.ensures
+returns-in-Load c = rw (c.in-Ask.is, c.in-Load.is) c.put_load.ensures
 
 pub returns-in-Call : goal.returns-in-Call
-returns-in-Call c = let p = c in
-    let t = p in
-    rw (t.task-in-Ask-1.given.1, t.ask-1.given.1) p.put_one-in-Call.ensures
+returns-in-Call c = rw (c.in-Ask.is, c.in-Call.is) c.put_one-in-Call.ensures
 
 pub returns-in-Question : goal.returns-in-Question
-returns-in-Question c = let p = c in
-    rw p.task-in-Question-1.given.1 (one_line _ _ _ _ p.put_reply-n.ensures)
+returns-in-Question c = rw c.in-Question.is (one_line _ _ _ _ c.put_reply-n.ensures)

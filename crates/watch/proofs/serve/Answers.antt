@@ -10,13 +10,7 @@ pub slice_bounds-update-end : goal.slice_bounds-update-end
 slice_bounds-update-end c = least_length _ _ _ c.least-n.ensures
 
 pub returns-in-Load : goal.returns-in-Load
-returns-in-Load c = let k = c in
-    let t = k in
-    let e = t in
-    rw t.enum_told-1.given.1 (load_all e.args.lead _ _ _ _ _ _ _ e.least-n.ensures e.wide.ensures.0 k.load.ensures)
+returns-in-Load c = rw c.in-Load.is (load_all c.args.lead _ _ _ _ _ _ _ c.least-n.ensures c.wide.ensures.0 c.load.ensures)
 
 pub returns-in-Call : goal.returns-in-Call
-returns-in-Call c = let k = c in
-    let t = k in
-    let e = t in
-    rw t.ask-1.given.1 (update_all t.ask-1.given.0.0 e.args.lead _ _ _ _ _ _ _ e.least-n.ensures e.wide.ensures.0 k.update.ensures)
+returns-in-Call c = rw c.in-Call.is (update_all c.in-Call.command c.args.lead _ _ _ _ _ _ _ c.least-n.ensures c.wide.ensures.0 c.update.ensures)
