@@ -1,11 +1,11 @@
 // Lines from standard input, and answers to standard output: what the programs share.
 #![tactic(auto)]
-ghost use Rattle.std.specs.Prelude.{◌≡◌, length};
+ghost use Rattle.std.specs.Prelude.{◌≡◌, ◌≤◌, length};
 ghost use Rattle.console.specs.Lines.{chunk, held_most, Within, Took, Next, is_more, has_line, is_line, first_reader, reader_behind, end_of, bytes_told, Printed};
 
 use lead::Lead;
-use libc::{STDIN_FILENO, STDOUT_FILENO};
 use question::Reply;
+use std::io::{Read, Stdin, Stdout, Write};
 use verdict::Answer;
 
 // A read brings at most so many bytes.
@@ -111,15 +111,29 @@ fn at_end(r: Reader) -> Reader
     standing(0, 0, r.len, r.left, Status::Last)
 }
 
+// How many bytes one read brings, at the start of the buffer: none where it fails.
+fn read_once(mut input: Stdin, buf: &mut [u8; CHUNK]) -> usize
+    ensures { result ≤ length buf.new }
+{
+    match input.read(buf) {
+        Ok(n) => n,
+        Err(_) => 0,
+    }
+}
+
 // The next line, read on as far as it takes. A read that fails counts as the end of the input.
-pub fn next_line(buf: &mut [u8; CHUNK], held: &mut [u8; HELD], r: Reader) -> Reader
+pub fn next_line(
+    input: Stdin,
+    buf: &mut [u8; CHUNK],
+    held: &mut [u8; HELD],
+    r: Reader,
+) -> Reader
     requires { Within r chunk × (length buf.old ≡ chunk) × (length held.old ≡ held_most) }
     ensures { Next r held.old buf.old result held.new buf.new }
 {
     let mut s = take_bytes(buf, held, r);
     while is_more(s) {
-        let got = libc::read(STDIN_FILENO, buf);
-        let end = io::count(got, buf);
+        let end = read_once(input, buf);
         if end == 0 {
             return at_end(s);
         }
@@ -128,10 +142,21 @@ pub fn next_line(buf: &mut [u8; CHUNK], held: &mut [u8; HELD], r: Reader) -> Rea
     s
 }
 
+// How many of the bytes, from their start on, one write takes: none where it fails.
+fn write_once(mut output: Stdout, bytes: &[u8]) -> usize
+    ensures { result ≤ length bytes.now }
+{
+    match output.write(bytes) {
+        Ok(n) => n,
+        Err(_) => 0,
+    }
+}
+
 // Writes the lines that answer a line, as often as it takes: false where a write takes nothing or fails. Only this function writes. Its parameters fix what it
 // writes: the line that was read, what was held before it, the marks behind it, the answer, the reply and the walk. That the plain definition prints these bytes for this line is true behind
 // some earlier lines, which only the history of the reads holds. No contract says that a write happened: only the tests see that.
 pub fn print(
+    output: Stdout,
     line: &[u8],
     lead: Lead,
     marks: &[u64; 32],
@@ -144,8 +169,7 @@ pub fn print(
 {
     let mut at: usize = 0;
     while at < bytes.len() {
-        let rest = &bytes[at..];
-        let put = io::count(libc::write(STDOUT_FILENO, rest), rest);
+        let put = write_once(output, &bytes[at..]);
         if put == 0 {
             return false;
         }

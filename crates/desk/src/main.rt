@@ -42,7 +42,9 @@ fn search(lead: Lead, marks: &[u64; 32], numbers: &[u16], walk: &mut [u16]) -> A
 }
 
 // Until `go` no line asks for an answer, and none for a reply: those held before it are never told.
-fn main() {
+fn main(rt: HostRuntime) {
+    let input = rt.stdin();
+    let output = rt.stdout();
     let mut marks: [u64; 32] = [0; 32];
     let mut numbers: [u16; table::NUMBERS] = [0; table::NUMBERS];
     let mut walk: [u16; watch::WALK] = [0; watch::WALK];
@@ -53,7 +55,7 @@ fn main() {
     let mut answer = verdict::refused(1, Position::Alone);
     let mut r = console::begin();
     loop {
-        r = console::next_line(&mut buf, &mut held, r);
+        r = console::next_line(input, &mut buf, &mut held, r);
         if !console::has_line(r) {
             return;
         }
@@ -67,6 +69,7 @@ fn main() {
         let w = watch::write(plan, &marks, answer, reply, &walk, &mut lines);
         let n = w.len;
         if !console::print(
+            output,
             &held[..len],
             lead,
             &marks,

@@ -2,7 +2,9 @@
 #![tactic(auto)]
 use lead::Task;
 
-fn main() {
+fn main(rt: HostRuntime) {
+    let input = rt.stdin();
+    let output = rt.stdout();
     let mut marks: [u64; 32] = [0; 32];
     let mut numbers: [u16; table::NUMBERS] = [0; table::NUMBERS];
     let mut walk: [u16; watch::WALK] = [0; watch::WALK];
@@ -13,7 +15,7 @@ fn main() {
     let mut c = watch::no_session();
     let mut r = console::begin();
     loop {
-        r = console::next_line(&mut buf, &mut held, r);
+        r = console::next_line(input, &mut buf, &mut held, r);
         if !console::has_line(r) {
             return;
         }
@@ -28,6 +30,7 @@ fn main() {
         let w = watch::write(plan, &marks, answer, reply, &walk, &mut lines);
         let n = w.len;
         if !console::print(
+            output,
             &held[..len],
             lead,
             &marks,

@@ -15,13 +15,16 @@
 // - behind each of these a sum of the lent list
 // - of a question, which lends no list, 4, the state, and the counts of moves that leave and enter it; 5 and the two lengths, or 6 where there is no round; or 0 and the refusal's number
 #![tactic(auto)]
-ghost use Rattle.std.specs.Prelude.{◌≤◌, ◌<◌};
+ghost use Rattle.std.specs.Prelude.{◌≤◌, ◌<◌, length};
 
 use batch::{Command, Update};
 use question::{Question, Reply, Topic};
 use session::{Outcome, Session};
+use std::io::{Read, Stdin, Stdout};
 use table::{Op, Position, Refusal};
 use verdict::Answer;
+
+const BLOCK: usize = 65536;
 
 // A batch begins with this number.
 const BATCH: u16 = 6;
@@ -147,9 +150,9 @@ fn fill(lent: &mut [u16]) {
     }
 }
 
-fn print_line(n: u64) {
-    io::print_decimal(1, n);
-    io::write_all(1, b"\n");
+// A write that fails is passed over.
+fn print_line(output: Stdout, n: u64) {
+    let _ = println!(output; "{n}");
 }
 
 // The entry at a place; 0 past the end.
@@ -163,7 +166,7 @@ fn entry(lent: &[u16], i: usize) -> u64
 }
 
 // A sum that shows whether an entry has changed: each is taken once more than the one before it.
-fn print_sum(lent: &[u16]) {
+fn print_sum(output: Stdout, lent: &[u16]) {
     let mut tail: u64 = 0;
     let mut sum: u64 = 0;
     let mut i: usize = 600;
@@ -172,41 +175,41 @@ fn print_sum(lent: &[u16]) {
         tail += entry(lent, i);
         sum = (sum + tail) % 65521;
     }
-    print_line(sum);
+    print_line(output, sum);
 }
 
-fn print_walk(lent: &[u16], count: usize) {
+fn print_walk(output: Stdout, lent: &[u16], count: usize) {
     let mut i: usize = 0;
     while i < count {
-        print_line(entry(lent, i));
+        print_line(output, entry(lent, i));
         i += 1;
     }
 }
 
-fn print_refusal(r: Refusal) {
+fn print_refusal(output: Stdout, r: Refusal) {
     let position = r.position;
     match position {
         Position::Alone => {
-            print_line(0);
-            print_line(long(r.number));
+            print_line(output, 0);
+            print_line(output, long(r.number));
         }
         Position::Line(i) => {
-            print_line(3);
-            print_line(long(r.number));
-            print_line(long(i));
+            print_line(output, 3);
+            print_line(output, long(r.number));
+            print_line(output, long(i));
         }
     }
 }
 
-fn print_answer(answer: Answer, lent: &[u16]) {
+fn print_answer(output: Stdout, answer: Answer, lent: &[u16]) {
     match answer {
         Answer::Refused(r) => {
-            print_refusal(r);
+            print_refusal(output, r);
         }
         Answer::Clear { spent, kept } => {
-            print_line(1);
-            print_line(long(spent));
-            print_line(long(kept));
+            print_line(output, 1);
+            print_line(output, long(spent));
+            print_line(output, long(kept));
         }
         Answer::Round {
             spent,
@@ -214,15 +217,15 @@ fn print_answer(answer: Answer, lent: &[u16]) {
             stem,
             cycle,
         } => {
-            print_line(2);
-            print_line(long(spent));
-            print_line(long(kept));
-            print_line(long(stem));
-            print_line(long(cycle));
-            print_walk(lent, wide(stem) + wide(cycle));
+            print_line(output, 2);
+            print_line(output, long(spent));
+            print_line(output, long(kept));
+            print_line(output, long(stem));
+            print_line(output, long(cycle));
+            print_walk(output, lent, wide(stem) + wide(cycle));
         }
     }
-    print_sum(lent);
+    print_sum(output, lent);
 }
 
 // The load at a place, with as much of the list lent as it says.
@@ -328,29 +331,29 @@ fn update_at(text: &[u8], at: usize, what: u16, s: Session, lent: &mut [u16]) ->
     session::update(s, command, &lines[..count], &mut lent[..room])
 }
 
-fn print_reply(reply: Reply) {
+fn print_reply(output: Stdout, reply: Reply) {
     match reply {
         Reply::Refused(number) => {
-            print_line(0);
-            print_line(long(number));
+            print_line(output, 0);
+            print_line(output, long(number));
         }
         Reply::Degrees {
             state,
             leaving,
             entering,
         } => {
-            print_line(4);
-            print_line(long(state));
-            print_line(long(leaving));
-            print_line(long(entering));
+            print_line(output, 4);
+            print_line(output, long(state));
+            print_line(output, long(leaving));
+            print_line(output, long(entering));
         }
         Reply::Shortest { best, least } => {
-            print_line(5);
-            print_line(long(best));
-            print_line(long(least));
+            print_line(output, 5);
+            print_line(output, long(best));
+            print_line(output, long(least));
         }
         Reply::NoRound => {
-            print_line(6);
+            print_line(output, 6);
         }
     }
 }
@@ -372,10 +375,10 @@ fn topic_of(what: u16) -> Topic {
 }
 
 // The question at a place is asked of the session, and its reply printed.
-fn ask_at(text: &[u8], at: usize, what: u16, s: Session) {
+fn ask_at(output: Stdout, text: &[u8], at: usize, what: u16, s: Session) {
     let number = number_at(text, at, 2);
     let topic = topic_of(what);
-    print_reply(session::ask(s, Question { topic, number }));
+    print_reply(output, session::ask(s, Question { topic, number }));
 }
 
 // How many bytes the call at a place has.
@@ -399,7 +402,7 @@ fn size_at(text: &[u8], at: usize, what: u16) -> usize
 }
 
 // Replays the script of one block.
-fn replay_block(text: &[u8]) {
+fn replay_block(output: Stdout, text: &[u8]) {
     let mut lent: [u16; 600] = [0; 600];
     // Past the end all is 0: this load is refused.
     let mut c = load_at(text, text.len(), &mut lent);
@@ -410,7 +413,7 @@ fn replay_block(text: &[u8]) {
             return;
         }
         if is_question(what) {
-            ask_at(text, at, what, c.session);
+            ask_at(output, text, at, what, c.session);
             at += size_at(text, at, what);
             continue;
         }
@@ -421,21 +424,46 @@ fn replay_block(text: &[u8]) {
             c = update_at(text, at, what, c.session, &mut lent);
         }
         let answer = c.answer;
-        print_answer(answer, &lent);
+        print_answer(output, answer, &lent);
         at += size_at(text, at, what);
     }
 }
 
+// How many bytes one read brings, at the start of the buffer: none where it fails.
+fn read_once(mut input: Stdin, buf: &mut [u8]) -> usize
+    ensures { result ≤ length buf.new }
+{
+    match input.read(buf) {
+        Ok(n) => n,
+        Err(_) => 0,
+    }
+}
+
+// Reads until the block is full, or the input ends or a read fails: how many bytes that brings.
+fn read_full(input: Stdin, block: &mut [u8; BLOCK]) -> usize
+    ensures { result ≤ BLOCK }
+{
+    let mut done: usize = 0;
+    while done < BLOCK {
+        let n = read_once(input, &mut block[done..]);
+        if n == 0 {
+            return done;
+        }
+        done += n;
+    }
+    done
+}
+
 // Nothing says that the input ends, and a proved loop has to: it counts down from a number that no run uses up.
-fn main() {
-    let mut text = io::large_buffer();
+fn main(rt: HostRuntime) {
+    let mut text: [u8; BLOCK] = [0; BLOCK];
     let mut left = u64::MAX;
     while 0 < left {
-        let n = io::read_full(0, &mut text);
+        let n = read_full(rt.stdin(), &mut text);
         if n == 0 {
             return;
         }
-        replay_block(&text[..n]);
+        replay_block(rt.stdout(), &text[..n]);
         left -= 1;
     }
 }

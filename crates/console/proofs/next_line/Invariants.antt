@@ -6,8 +6,8 @@ use Rattle.console.specs.declared.Reader.{Reader}
 use Rattle.console.proofs.Reading.{Reached, goes_on}
 use Rattle.console.proofs.next_line.Given as goal
 
-abbrev pub invariant-loop-buf : goal.invariant-loop-buf
-invariant-loop-buf l = (r : Reader) (h b : List ℕ) → Reached r h b l.initial.s l.initial.held l.initial.buf → Reached r h b l.s l.held l.buf
+abbrev pub invariant-loop-input : goal.invariant-loop-input
+invariant-loop-input l = (r : Reader) (h b : List ℕ) → Reached r h b l.initial.s l.initial.held l.initial.buf → Reached r h b l.s l.held l.buf
 
-abbrev pub decreases-loop-buf : goal.decreases-loop-buf
-decreases-loop-buf l = l.s.left + goes_on l.s.status
+abbrev pub decreases-loop-input : goal.decreases-loop-input
+decreases-loop-input l = l.s.left + goes_on l.s.status
