@@ -1,5 +1,6 @@
 // Output lines, put into a lent buffer: bytes, decimal numbers, whole lines.
 #![tactic(auto)]
+
 ghost use Rattle.std.specs.Prelude.{◌∷◌, [], ◌++◌, ◌+◌, ◌≤◌, ◌<◌, length};
 ghost use Rattle.plain.specs.Machine.{numbered, at_line, game_line, round_line, none_line, no_line, ways_line, short_line, no_round_line};
 ghost use Rattle.answer.specs.Bytes.{Put};

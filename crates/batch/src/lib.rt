@@ -1,5 +1,6 @@
 // The lines of a call, a change alone or a batch, tried one after the other on the game's table: all are made or none.
 #![tactic(auto)]
+
 ghost use Rattle.std.specs.Prelude.{◌≡◌, true, ◌<◌, length, drop};
 ghost use Rattle.rows.specs.Rows.{Tabled};
 ghost use Rattle.table.specs.Trials.{arrays_of, tried};

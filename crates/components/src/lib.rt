@@ -2,6 +2,7 @@
 // held in groups, of which each is strongly connected. An edge to an open state of an older group joins the groups from there on, and a group of which no state is left on the
 // path is a component. (Path-based, after Purdom, Munro and Gabow.) Every function is safe, and ends, for any contents of the arrays.
 #![tactic(auto)]
+
 ghost use Rattle.std.specs.Prelude.{◌≡◌, List, ℕ, ◌+◌, ◌-◌, ◌<◌, length, get_or, drop};
 ghost use Rattle.plain.specs.Lists.{any, elem};
 ghost use Rattle.plain.specs.Table.{accepts};

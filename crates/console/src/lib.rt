@@ -1,5 +1,6 @@
 // Lines from standard input, and answers to standard output: what the programs share.
 #![tactic(auto)]
+
 ghost use Rattle.std.specs.Prelude.{◌≡◌, ◌≤◌, length};
 ghost use Rattle.console.specs.Lines.{chunk, held_most, Within, Took, Next, is_more, has_line, is_line, first_reader, reader_behind, end_of, bytes_told, Printed};
 
@@ -122,12 +123,7 @@ fn read_once(mut input: Stdin, buf: &mut [u8; CHUNK]) -> usize
 }
 
 // The next line, read on as far as it takes. A read that fails counts as the end of the input.
-pub fn next_line(
-    input: Stdin,
-    buf: &mut [u8; CHUNK],
-    held: &mut [u8; HELD],
-    r: Reader,
-) -> Reader
+pub fn next_line(input: Stdin, buf: &mut [u8; CHUNK], held: &mut [u8; HELD], r: Reader) -> Reader
     requires { Within r chunk × (length buf.old ≡ chunk) × (length held.old ≡ held_most) }
     ensures { Next r held.old buf.old result held.new buf.new }
 {

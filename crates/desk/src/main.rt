@@ -1,5 +1,6 @@
 // The program for the examiner's desk: a game on standard input, up to `go`, is answered by the textbook search as the box answers a load. Then it ends.
 #![tactic(auto)]
+
 ghost use Rattle.std.specs.Prelude.{◌≡◌};
 ghost use Rattle.verdict.specs.Answers.{LoadAnswered};
 ghost use Rattle.watch.specs.Model.{gathered};

@@ -1,5 +1,6 @@
 // What a line asks for, and what is held from line to line.
 #![tactic(auto)]
+
 ghost use Rattle.std.specs.Prelude.{◌≡◌};
 ghost use Rattle.line.specs.Records.{record_of};
 ghost use Rattle.lead.specs.Asked.{first_lead, staged as Asked·staged, no_task, refusing as Asked·refusing, changing as Asked·changing, setting_kinds, questioning as Asked·questioning, batching as Asked·batching, holding as Asked·holding, is_full, asked_first, asked_move, asked_before, asked_opened, about as Asked·about, request_of, asked_after, asked_inside, asked, takes_pay, filed_pay, takes_move, filed_move, takes_line, line_read, filed_line, filed, is_over};

@@ -1,5 +1,6 @@
 // One line of the lead: a field as a part of the line, a number, a word, and the record that they make.
 #![tactic(auto)]
+
 ghost use Rattle.std.specs.Prelude.{◌≡◌, ◌+◌, ◌≤◌, length, drop};
 ghost use Rattle.line.specs.Fields.{up_to, field_at};
 ghost use Rattle.line.specs.Numbers.{number_of};

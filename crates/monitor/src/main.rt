@@ -1,5 +1,6 @@
 // The box program: lines from standard input, answers on standard output, each as soon as its line is read.
 #![tactic(auto)]
+
 use lead::Task;
 
 fn main(rt: HostRuntime) {

@@ -1,5 +1,6 @@
 // Questions on a session: what is asked, what is replied, and how a reply is read off the arrays of a table. A question changes nothing.
 #![tactic(auto)]
+
 ghost use Rattle.std.specs.Prelude.{◌≡◌, length};
 ghost use Rattle.rows.specs.Rows.{Tabled};
 ghost use Rattle.question.specs.Replies.{ways_in, ShortIn};

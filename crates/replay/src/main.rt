@@ -15,6 +15,7 @@
 // - behind each of these a sum of the lent list
 // - of a question, which lends no list, 4, the state, and the counts of moves that leave and enter it; 5 and the two lengths, or 6 where there is no round; or 0 and the refusal's number
 #![tactic(auto)]
+
 ghost use Rattle.std.specs.Prelude.{◌≤◌, ◌<◌, length};
 
 use batch::{Command, Update};

@@ -1,5 +1,6 @@
 // Where a search is taken up for a call: read off the records of the search before, while the rows are those that it has read.
 #![tactic(auto)]
+
 ghost use Rattle.std.specs.Prelude.{◌≡◌, ◌≤◌, length, take};
 ghost use Rattle.rows.specs.Rows.{Tabled};
 ghost use Rattle.rows.specs.Change.{rows_of};

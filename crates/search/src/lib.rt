@@ -8,6 +8,7 @@
 // walk: the open path, and behind it the path of the nested search; depth, by state: its place on the open path
 // cursor, by place of the walk: the edge that the nested search took last from the state there
 #![tactic(auto)]
+
 mod outer; // steps of the outer search
 mod nested; // steps of the nested search
 mod rewind; // the arrays as they stood when a state was discovered

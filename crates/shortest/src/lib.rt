@@ -1,5 +1,6 @@
 // The shortest round within a budget of looks: breadth-first searches for the lengths 1, 2 and so on. Every function is safe, and ends, for any contents of the arrays.
 #![tactic(auto)]
+
 ghost use Rattle.std.specs.Prelude.{◌≡◌, false, length, replicate};
 ghost use Rattle.plain.specs.Table.{Table};
 ghost use Rattle.rows.specs.Rows.{Tabled};

@@ -1,5 +1,6 @@
 // The game's table in its arrays: a load and changes are tried on it, and accepted ones are filed in its rows and its marks. No search.
 #![tactic(auto)]
+
 ghost use Rattle.std.specs.Prelude.{◌≡◌, length, ◌<◌};
 ghost use Rattle.plain.specs.Lists.{any, any_below};
 ghost use Rattle.plain.specs.Table.{by_kind};

@@ -1,6 +1,7 @@
 // Nested depth-first search as it is taught, for a table without history. One function visits a state, the other explores its edges (its moves), and each calls the other.
 // The nested (inner) search is made in the same manner. Every function is safe, and ends, for any contents of the arrays.
 #![tactic(auto)]
+
 ghost use Rattle.std.specs.Prelude.{◌≡◌, Bool, true, false, List, ◌<◌, length, get_or, set};
 ghost use Rattle.plain.specs.Table.{by_kind};
 ghost use Rattle.rows.specs.Rows.{Tabled};

@@ -2,6 +2,7 @@
 // A block of 65,536 bytes is a list of texts, parted by a byte 30; the last block may be shorter.
 // Their results are of another hand (tests/).
 #![tactic(auto)]
+
 ghost use Rattle.std.specs.Prelude.{◌≤◌, length};
 
 use std::io::{Read, Stdin, Stdout};

@@ -1,5 +1,6 @@
 // What a search has come to, as the answer to a call and as a walk in the list lent for it.
 #![tactic(auto)]
+
 ghost use Rattle.std.specs.Prelude.{◌≡◌, ◌++◌, ◌+◌, ◌≤◌, length, take, drop};
 ghost use Rattle.verdict.specs.Answers.{answer_is, refusing, is_refused, shown_walk, lowered, Tells};
 

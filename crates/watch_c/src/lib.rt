@@ -1,5 +1,6 @@
 // The watch as a C function.
 #![tactic(auto)]
+
 ghost use Rattle.watch.specs.Text.{Watched};
 
 // The whole watch on a text: its output lines as far as they fit whole into the first 65,536 bytes of out. It returns twice the bytes

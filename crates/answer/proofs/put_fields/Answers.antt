@@ -25,11 +25,11 @@ loop-i-smaller c = omega arith
 
 pub loop-i-preserved : goal.loop-i-preserved
 loop-i-preserved c = (
-      omega arith,
-      c.put_field-next.auto.out ∙ c.loop-i.invariant.1,
-      rw (fields_more c.args.numbers.now c.loop-i.i (omega arith))
-          (put_then _ _ _ _ _ _ _ _ (omega (arith, c.requires)) c.loop-i.invariant.2 c.put_field-next.ensures),
-    )
+  omega arith,
+  c.put_field-next.auto.out ∙ c.loop-i.invariant.1,
+  rw (fields_more c.args.numbers.now c.loop-i.i (omega arith))
+      (put_then _ _ _ _ _ _ _ _ (omega (arith, c.requires)) c.loop-i.invariant.2 c.put_field-next.ensures),
+)
 
 pub shape_of-out : goal.shape_of-out
 shape_of-out c = c.loop-i.invariant.1

@@ -19,21 +19,21 @@ returns-then-end-eq0 c = let x = c.loop-input.invariant _ _ _ (reached_first _ _
 
 pub take_bytes-s-requires-in-loop-input : goal.take_bytes-s-requires-in-loop-input
 take_bytes-s-requires-in-loop-input c = let x = c.loop-input.invariant _ _ _ (reached_first _ _ _ _ _ c.requires.1 c.take_bytes-s.ensures) in (
-    within_same _ (afresh c.loop-input.s c.read_once-end.result) _ c.standing.ensures
-        (record { at = omega arith; end = c.read_once-end.ensures; len = x.within.len }),
-    x.size,
-  )
+  within_same _ (afresh c.loop-input.s c.read_once-end.result) _ c.standing.ensures
+      (record { at = omega arith; end = c.read_once-end.ensures; len = x.within.len }),
+  x.size,
+)
 
 pub loop-input-smaller : goal.loop-input-smaller
 loop-input-smaller c =
     took_fewer c.loop-input.s _ _ _ _ _ (sym c.is_more.ensures ∙ c.loop-input-test.true) c.if-end-eq0.false
-        (took_afresh c.standing.result c.loop-input.s _ _ _ _ _ c.standing.ensures c.take_bytes-s-in-loop-input.ensures)
+    (took_afresh c.standing.result c.loop-input.s _ _ _ _ _ c.standing.ensures c.take_bytes-s-in-loop-input.ensures)
 
 pub loop-input-preserved : goal.loop-input-preserved
 loop-input-preserved c = λ r h b x.
     reached_again r h b _ _ _ _ _ _ _ (c.loop-input.invariant r h b x) (sym c.is_more.ensures ∙ c.loop-input-test.true)
-        c.read_once-end.array_long
-        (took_afresh c.standing.result c.loop-input.s _ _ _ _ _ c.standing.ensures c.take_bytes-s-in-loop-input.ensures)
+    c.read_once-end.array_long
+    (took_afresh c.standing.result c.loop-input.s _ _ _ _ _ c.standing.ensures c.take_bytes-s-in-loop-input.ensures)
 
 pub returns : goal.returns
 returns c = next_found c.args.r c.args.held.now c.args.buf.now c.loop-input.s c.loop-input.held c.loop-input.buf c.loop-input.buf (c.loop-input.invariant _ _ _ (reached_first _ _ _ _ _ c.requires.1 c.take_bytes-s.ensures)) (sym c.is_more.ensures ∙ c.loop-input-test.false)

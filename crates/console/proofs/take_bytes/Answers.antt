@@ -30,17 +30,17 @@ bounds-held-len c = omega (arith, c.if-len-lt-HELD.true)
 
 pub loop-at-preserved-then-len-lt-HELD : goal.loop-at-preserved-then-len-lt-HELD
 loop-at-preserved-then-len-lt-HELD c = let w = stops _ _ _ _ c.requires.0.at c.least.ensures in (
-    going_byte _ _ _ _ _ _ c.loop-at.invariant.0 _ _ (omega (arith, c.loop-at-test.true, w.0)) (omega (arith, c.loop-at-test.true, w.1)) c.if-b-eq-NEWLINE.false
-        (omega (arith, c.if-len-lt-HELD.true)) (simp length-set c.loop-at.invariant.0.size) (push_room c.loop-at.held c.loop-at.len _ (omega (arith, c.if-len-lt-HELD.true)) c.loop-at.invariant.0.size),
-    omega (arith, c.loop-at-test.true),
-  )
+  going_byte _ _ _ _ _ _ c.loop-at.invariant.0 _ _ (omega (arith, c.loop-at-test.true, w.0)) (omega (arith, c.loop-at-test.true, w.1)) c.if-b-eq-NEWLINE.false
+      (omega (arith, c.if-len-lt-HELD.true)) (simp length-set c.loop-at.invariant.0.size) (push_room c.loop-at.held c.loop-at.len _ (omega (arith, c.if-len-lt-HELD.true)) c.loop-at.invariant.0.size),
+  omega (arith, c.loop-at-test.true),
+)
 
 pub loop-at-preserved : goal.loop-at-preserved
 loop-at-preserved c = let w = stops _ _ _ _ c.requires.0.at c.least.ensures in (
-    going_byte _ _ _ _ _ _ c.loop-at.invariant.0 _ _ (omega (arith, c.loop-at-test.true, w.0)) (omega (arith, c.loop-at-test.true, w.1)) c.if-b-eq-NEWLINE.false
-        c.loop-at.invariant.0.len_most c.loop-at.invariant.0.size (push_full c.loop-at.held c.loop-at.len _ (omega (arith, c.if-len-lt-HELD.false)) c.loop-at.invariant.0.len_most c.loop-at.invariant.0.size),
-    omega (arith, c.loop-at-test.true),
-  )
+  going_byte _ _ _ _ _ _ c.loop-at.invariant.0 _ _ (omega (arith, c.loop-at-test.true, w.0)) (omega (arith, c.loop-at-test.true, w.1)) c.if-b-eq-NEWLINE.false
+      c.loop-at.invariant.0.len_most c.loop-at.invariant.0.size (push_full c.loop-at.held c.loop-at.len _ (omega (arith, c.if-len-lt-HELD.false)) c.loop-at.invariant.0.len_most c.loop-at.invariant.0.size),
+  omega (arith, c.loop-at-test.true),
+)
 
 pub overflow_sub-left : goal.overflow_sub-left
 overflow_sub-left c = omega (arith, c.loop-at.invariant.0.from)

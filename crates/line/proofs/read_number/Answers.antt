@@ -30,14 +30,14 @@ returns-then-s-eq48 c = number_zero _ _ (omega arith) (omega arith) (omega arith
 
 pub loop-i-init : goal.loop-i-init
 loop-i-init c = let s = c.args.s.now in (
-      omega arith,
-      omega arith,
-      omega arith,
-      elim c.if-s-gt1.branch [
-        | then-s-gt1+else-s-eq48 w ↦ read_more _ s w.if-s-gt1.true (omega arith) w.if-s-eq48.false
-        | else-s-gt1 w ↦ read_one _ s (omega arith) w.if-s-gt1.false
-      ],
-    )
+  omega arith,
+  omega arith,
+  omega arith,
+  elim c.if-s-gt1.branch [
+    | then-s-gt1+else-s-eq48 w ↦ read_more _ s w.if-s-gt1.true (omega arith) w.if-s-eq48.false
+    | else-s-gt1 w ↦ read_one _ s (omega arith) w.if-s-gt1.false
+  ],
+)
 
 pub bounds-s-i : goal.bounds-s-i
 bounds-s-i c = omega arith
@@ -65,11 +65,11 @@ loop-i-smaller c = omega arith
 
 pub loop-i-preserved : goal.loop-i-preserved
 loop-i-preserved c = (
-      omega arith,
-      omega arith,
-      omega (arith, one_digit_more c.loop-i.i),
-      sym (read_digit _ _ _ c.loop-i.i (omega arith) c.if-b-lt48.false c.if-b-gt57.false) ∙ c.loop-i.invariant.3,
-    )
+  omega arith,
+  omega arith,
+  omega (arith, one_digit_more c.loop-i.i),
+  sym (read_digit _ _ _ c.loop-i.i (omega arith) c.if-b-lt48.false c.if-b-gt57.false) ∙ c.loop-i.invariant.3,
+)
 
 pub overflow_cast-result : goal.overflow_cast-result
 overflow_cast-result c = omega arith

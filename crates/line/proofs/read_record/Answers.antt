@@ -96,22 +96,22 @@ pub returns-in-End-read_item : goal.returns-in-End-read_item
 returns-in-End-read_item c =
     c.filled-in-End-read_item.ensures
     ∙ one _ _ _ c.field-name.ensures c.read_row-row.ensures (omega arith) _ _ (sym c.in-Is.is ∙ c.read_item.ensures) _ c.second_limit.ensures
-      (sym c.in-End-read_item.is ∙ c.read_item-in-Is.ensures)
+    (sym c.in-End-read_item.is ∙ c.read_item-in-Is.ensures)
 
 pub returns-in-Bad-read_item : goal.returns-in-Bad-read_item
 returns-in-Bad-read_item c =
     c.unreadable-in-Bad-read_item.ensures
     ∙ bad-after _ _ _ c.field-name.ensures c.read_row-row.ensures (omega arith) _ _ (sym c.in-Is.is ∙ c.read_item.ensures) _ c.second_limit.ensures
-      (sym c.in-Bad-read_item.is ∙ c.read_item-in-Is.ensures)
+    (sym c.in-Bad-read_item.is ∙ c.read_item-in-Is.ensures)
 
 pub returns-then-last-line : goal.returns-then-last-line
 returns-then-last-line c =
     c.filled-then-last-line.ensures
     ∙ two _ _ _ c.field-name.ensures c.read_row-row.ensures (omega arith) _ _ (sym c.in-Is.is ∙ c.read_item.ensures) _ c.second_limit.ensures _ _
-      (sym c.in-Is-read_item.is ∙ c.read_item-in-Is.ensures) c.if-last-line.true
+    (sym c.in-Is-read_item.is ∙ c.read_item-in-Is.ensures) c.if-last-line.true
 
 pub returns-else-last-line : goal.returns-else-last-line
 returns-else-last-line c =
     c.unreadable-in-Is-read_item.ensures
     ∙ more _ _ _ c.field-name.ensures c.read_row-row.ensures (omega arith) _ _ (sym c.in-Is.is ∙ c.read_item.ensures) _ c.second_limit.ensures _ _
-      (sym c.in-Is-read_item.is ∙ c.read_item-in-Is.ensures) c.if-last-line.false
+    (sym c.in-Is-read_item.is ∙ c.read_item-in-Is.ensures) c.if-last-line.false

@@ -129,9 +129,9 @@ slice_bounds-print-end-in-loop-marks-2 c = let w = c in
 
 pub print-requires : goal.print-requires
 print-requires c = let w = c in (
-      told_bytes (line-in w.before.before.before.before.before) _ _ _ _ _ _ _ _ _ (at-loop w.before.before.before.before.before).loop.invariant.2 (reading w.before.before.before.before.before).read.ensures.0 w.write-w.ensures,
-      printed _ _ _ _ _ _ _ _ _ (came w.before.before.before.before.before) (told w.before.before.before.before.before).laid,
-    )
+  told_bytes (line-in w.before.before.before.before.before) _ _ _ _ _ _ _ _ _ (at-loop w.before.before.before.before.before).loop.invariant.2 (reading w.before.before.before.before.before).read.ensures.0 w.write-w.ensures,
+  printed _ _ _ _ _ _ _ _ _ (came w.before.before.before.before.before) (told w.before.before.before.before.before).laid,
+)
 
 -- the line was not the last
 ended : (c : After-onward-r) → is_line (found c.before.before.before.before.before.before.before.before.before.before.before.before.before).next-line.result.status ≡ true

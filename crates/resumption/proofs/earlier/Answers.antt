@@ -31,8 +31,8 @@ loop-left-preserved c = let j = c in
     let all : copies_up a.size w.left w.copy ≡ w.copy ∷ rest = copies_next a.size w.copy w.left t.loop-left-test.true in
     ap (λ (v : ℕ). first_of (found j.if-n-least.least j.if-n-least.earliest) (copies_up a.size (w.left - 1) v) a.number.now) c.plus-copy.ensures
     ∙ (elim c.if-n-least.branch [
-      then-n-least k ↦ (λ i. first_of (found (k.least-is i) (k.earliest-is i)) rest a.number.now) ∙ turn_less a.number.now w.least w.earliest w.copy c.get-n.result rest c.get-n.ensures k.if-n-least.true
-    | else-n-least k ↦ (λ i. first_of (found (k.least-is i) (k.earliest-is i)) rest a.number.now) ∙ turn_stays a.number.now w.least w.earliest w.copy c.get-n.result rest c.get-n.ensures k.if-n-least.false
+      | then-n-least k ↦ (λ i. first_of (found (k.least-is i) (k.earliest-is i)) rest a.number.now) ∙ turn_less a.number.now w.least w.earliest w.copy c.get-n.result rest c.get-n.ensures k.if-n-least.true
+      | else-n-least k ↦ (λ i. first_of (found (k.least-is i) (k.earliest-is i)) rest a.number.now) ∙ turn_stays a.number.now w.least w.earliest w.copy c.get-n.result rest c.get-n.ensures k.if-n-least.false
     ])
     ∙ ap (λ (vs : List ℕ). first_of (found w.least w.earliest) vs a.number.now) (sym all) ∙ w.invariant
 

@@ -13,9 +13,9 @@ lay-requires c = (c.requires.0.starts_size, refl, length-replicate {A = ℕ} 512
 
 pub resume-w-requires : goal.resume-w-requires
 resume-w-requires c = let n = laid_sizes _ _ c.args.starts.now c.args.words.now _ c.requires.0.starts_size c.lay.ensures in (
-      record { targets_size = c.requires.0.targets_size; begins_size = n.0; ends_size = n.1; bases_size = n.2 },
-      c.requires.1,
-    )
+  record { targets_size = c.requires.0.targets_size; begins_size = n.0; ends_size = n.1; bases_size = n.2 },
+  c.requires.1,
+)
 
 pub verdict_of-requires : goal.verdict_of-requires
 verdict_of-requires c = tt

@@ -21,10 +21,10 @@ loop-s-smaller c = omega (arith, c.loop-s-test.true)
 
 pub loop-s-preserved : goal.loop-s-preserved
 loop-s-preserved c = (
-      filed_size _ _ _ _ c.loop-s.invariant.0 _ _ c.file_root-count.ensures,
-      omega (arith, c.loop-s-test.true),
-      filed_next _ _ _ _ _ _ _ c.search.ensures _ _ _ c.loop-s.invariant.0 c.loop-s-test.true c.loop-s.invariant.2 _ _ c.file_root-count.ensures,
-    )
+  filed_size _ _ _ _ c.loop-s.invariant.0 _ _ c.file_root-count.ensures,
+  omega (arith, c.loop-s-test.true),
+  filed_next _ _ _ _ _ _ _ c.search.ensures _ _ _ c.loop-s.invariant.0 c.loop-s-test.true c.loop-s.invariant.2 _ _ c.file_root-count.ensures,
+)
 
 pub returns : goal.returns
 returns c = filed_end _ _ _ _ _ _ _ c.search.ensures _ _ _ c.loop-s.invariant.0 c.loop-s-test.false c.loop-s.invariant.1 c.loop-s.invariant.2

@@ -37,10 +37,10 @@ loop-e-smaller c = omega (arith, c.loop-e-test.true)
 
 pub loop-e-preserved : goal.loop-e-preserved
 loop-e-preserved c = (
-      c.note-tail.ensures.sized,
-      left_goes_on _ _ _ _ _ _ _ _ _ _ _ c.loop-e.invariant.0 c.loop-e.invariant.1 c.loop-e-test.true c.if-budget-spent.false c.look-t.result c.look-t.ensures.0 c.if-t-goal.false _
-          (c.look-t.ensures.1 ∙ one_more _ _ c.if-budget-spent.false (search rules)) _ _ _ c.note-tail.ensures,
-    )
+  c.note-tail.ensures.sized,
+  left_goes_on _ _ _ _ _ _ _ _ _ _ _ c.loop-e.invariant.0 c.loop-e.invariant.1 c.loop-e-test.true c.if-budget-spent.false c.look-t.result c.look-t.ensures.0 c.if-t-goal.false _
+      (c.look-t.ensures.1 ∙ one_more _ _ c.if-budget-spent.false (search rules)) _ _ _ c.note-tail.ensures,
+)
 
 pub returns : goal.returns
 returns c = left_ends _ _ _ _ _ _ _ _ _ _ _ c.loop-e.invariant.0 c.loop-e.invariant.1 c.loop-e-test.false

@@ -24,9 +24,9 @@ loop-i-smaller c = omega (arith, c.loop-i-test.true)
 
 pub loop-i-preserved : goal.loop-i-preserved
 loop-i-preserved c = (
-      c.search-r.ensures.sized.queue_size,
-      left_goes_on _ _ _ _ _ _ _ _ _ c.loop-i.invariant.1 c.loop-i-test.true _ c.get-s.ensures _ _ c.search-r.ensures (sym c.goes_on.ensures ∙ c.if-not-goes_on.false),
-    )
+  c.search-r.ensures.sized.queue_size,
+  left_goes_on _ _ _ _ _ _ _ _ _ c.loop-i.invariant.1 c.loop-i-test.true _ c.get-s.ensures _ _ c.search-r.ensures (sym c.goes_on.ensures ∙ c.if-not-goes_on.false),
+)
 
 pub returns : goal.returns
 returns c = left_ends _ _ _ _ _ _ _ _ _ c.loop-i.invariant.1 _ c.loop-i.invariant.0 c.loop-i-test.false

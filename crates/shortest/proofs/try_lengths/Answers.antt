@@ -21,10 +21,10 @@ loop-ruled_out-smaller c = omega (arith, c.loop-ruled_out-test.true)
 
 pub loop-ruled_out-preserved : goal.loop-ruled_out-preserved
 loop-ruled_out-preserved c = (
-      c.try_length-r.ensures.queue_size,
-      omega (arith, c.loop-ruled_out-test.true),
-      lengths_go_on _ _ _ _ _ _ _ _ c.loop-ruled_out.invariant.2 c.loop-ruled_out-test.true _ _ _ c.try_length-r.ensures (sym c.goes_on.ensures ∙ c.if-not-goes_on.false),
-    )
+  c.try_length-r.ensures.queue_size,
+  omega (arith, c.loop-ruled_out-test.true),
+  lengths_go_on _ _ _ _ _ _ _ _ c.loop-ruled_out.invariant.2 c.loop-ruled_out-test.true _ _ _ c.try_length-r.ensures (sym c.goes_on.ensures ∙ c.if-not-goes_on.false),
+)
 
 pub returns : goal.returns
 returns c = lengths_end _ _ _ _ _ _ _ _ c.loop-ruled_out.invariant.2 c.loop-ruled_out-test.false c.loop-ruled_out.invariant.1 _ c.further.ensures

@@ -47,12 +47,12 @@ explore-loop-e-preserved t c =
     let target = edge_target c.args.targets.now c.stretch_of-row.ensures c.loop-e-test.true c.look.ensures.0 c.lift-t.ensures in
     let raises = c.look.ensures.1 ∙ sym (up_is c.loop-e.spent) in
     elim c.if-not-contains.branch [
-      explore-then-not-contains+else-is_round w ↦ renamed w.met-is w.marked-is w.walk-is w.spent-is
-        (went_on (λ g y. y.reads) c.loop-e.invariant there target raises (λ e. absurd (contra e refl))
-        (sym c.contains.ensures ∙ w.if-not-contains.true) w.visit-r.ensures (sym w.is_round.ensures ∙ w.if-is_round.false))
-    | explore-else-not-contains w ↦ renamed w.met-is w.marked-is w.walk-is w.spent-is
-        (passed (λ g y. y.reads) c.loop-e.invariant there target raises (λ e. absurd (contra e refl))
-        (sym c.contains.ensures ∙ w.if-not-contains.false))
+      | explore-then-not-contains+else-is_round w ↦ renamed w.met-is w.marked-is w.walk-is w.spent-is
+          (went_on (λ g y. y.reads) c.loop-e.invariant there target raises (λ e. absurd (contra e refl))
+          (sym c.contains.ensures ∙ w.if-not-contains.true) w.visit-r.ensures (sym w.is_round.ensures ∙ w.if-is_round.false))
+      | explore-else-not-contains w ↦ renamed w.met-is w.marked-is w.walk-is w.spent-is
+          (passed (λ g y. y.reads) c.loop-e.invariant there target raises (λ e. absurd (contra e refl))
+          (sym c.contains.ensures ∙ w.if-not-contains.false))
     ]
 
 pub explore-returns : goal.explore-returns

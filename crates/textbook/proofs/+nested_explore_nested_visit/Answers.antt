@@ -59,12 +59,12 @@ nested_explore-loop-e-preserved t c =
     let target = edge_target c.args.targets.now c.stretch_of-row.ensures c.loop-e-test.true c.look.ensures.0 c.lift-t.ensures in
     let raises = c.look.ensures.1 ∙ sym (up_is c.loop-e.spent) in
     λ met. elim c.if-not-contains.branch [
-      nested_explore-then-not-contains+else-is_round w ↦ renamed refl w.marked-is w.walk-is w.spent-is
-        (went_on (λ g y. y) (c.loop-e.invariant met) there target raises (λ _. off _ _ _ c.if-stem-height.false c.find-stem.ensures)
-        (sym c.contains.ensures ∙ w.if-not-contains.true) (w.nested_visit-r.ensures met) (sym w.is_round.ensures ∙ w.if-is_round.false))
-    | nested_explore-else-not-contains w ↦ renamed refl w.marked-is w.walk-is w.spent-is
-        (passed (λ g y. y) (c.loop-e.invariant met) there target raises (λ _. off _ _ _ c.if-stem-height.false c.find-stem.ensures)
-        (sym c.contains.ensures ∙ w.if-not-contains.false))
+      | nested_explore-then-not-contains+else-is_round w ↦ renamed refl w.marked-is w.walk-is w.spent-is
+          (went_on (λ g y. y) (c.loop-e.invariant met) there target raises (λ _. off _ _ _ c.if-stem-height.false c.find-stem.ensures)
+          (sym c.contains.ensures ∙ w.if-not-contains.true) (w.nested_visit-r.ensures met) (sym w.is_round.ensures ∙ w.if-is_round.false))
+      | nested_explore-else-not-contains w ↦ renamed refl w.marked-is w.walk-is w.spent-is
+          (passed (λ g y. y) (c.loop-e.invariant met) there target raises (λ _. off _ _ _ c.if-stem-height.false c.find-stem.ensures)
+          (sym c.contains.ensures ∙ w.if-not-contains.false))
     ]
 
 pub nested_explore-returns : goal.nested_explore-returns

@@ -36,14 +36,14 @@ loop-i-preserved c = let s = c in
     let less : s.loop-i.i < a.count = omega (arith, c.wide.ensures, c.loop-i-test.true) in
     let kept : length c.if-at-lt512.out ≡ length a.out.now = c.if-at-lt512.auto.out ∙ s.loop-i.invariant.1 in
     elim c.if-at-lt512.branch [
-      then-at-lt512+then-i-out w ↦ (
+      | then-at-lt512+then-i-out w ↦ (
         omega arith,
         kept,
         λ h k. w.out-is
             ∙ written_one a.walk.now a.out.now s.loop-i.out a.from s.loop-i.i at here (omega (arith, s.requires)) (omega arith) (s.loop-i.invariant.2 h k),
       )
-    | then-at-lt512+else-i-out w ↦ (omega arith, kept, λ h k. absurd (omega (arith, w.if-i-out.false, s.loop-i.invariant.1)))
-    | else-at-lt512 w ↦ (omega arith, kept, λ h k. absurd (omega (arith, w.if-at-lt512.false)))
+      | then-at-lt512+else-i-out w ↦ (omega arith, kept, λ h k. absurd (omega (arith, w.if-i-out.false, s.loop-i.invariant.1)))
+      | else-at-lt512 w ↦ (omega arith, kept, λ h k. absurd (omega (arith, w.if-at-lt512.false)))
     ]
 
 pub shape_of-out : goal.shape_of-out

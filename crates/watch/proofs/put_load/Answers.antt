@@ -27,14 +27,22 @@ game-short : (size count paying : ℕ) → size < 65536 → count < 65536 → pa
 game-short size count paying p q r = length_game size (count / 2) paying p (omega arith) r
 
 pub put_game-n-requires : goal.put_game-n-requires
-put_game-n-requires c = omega (arith, c.requires, game-short c.args.lead.size c.args.lead.count c.count-paying.result (search rules) (search rules)
-    (omega (arith, c.count-paying.ensures, few_paying (by_kind c.args.marks.now))))
+put_game-n-requires c = omega (
+  arith,
+  c.requires,
+  game-short c.args.lead.size c.args.lead.count c.count-paying.result (search rules) (search rules)
+      (omega (arith, c.count-paying.ensures, few_paying (by_kind c.args.marks.now))),
+)
 
 pub put_answer-m-requires : goal.put_answer-m-requires
 put_answer-m-requires c = (
   c.requires.0,
-  omega (arith, c.put_game-n.ensures.next, game-short c.args.lead.size c.args.lead.count c.count-paying.result (search rules) (search rules)
-      (omega (arith, c.count-paying.ensures, few_paying (by_kind c.args.marks.now)))),
+  omega (
+    arith,
+    c.put_game-n.ensures.next,
+    game-short c.args.lead.size c.args.lead.count c.count-paying.result (search rules) (search rules)
+        (omega (arith, c.count-paying.ensures, few_paying (by_kind c.args.marks.now))),
+  ),
   omega (arith, c.requires),
 )
 

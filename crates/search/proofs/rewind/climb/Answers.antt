@@ -13,10 +13,10 @@ returns-then-x-start c = let a = c.args in
 
 pub loop-n-preserved : goal.loop-n-preserved
 loop-n-preserved c = let a = c.args in (
-      omega arith,
-      climb_goes_on a.parent.now a.start c.loop-n.x c.loop-n.n _ c.loop-n.invariant.1 _ c.loop-n-test.true
-          c.if-x-start.false c.get-x.ensures,
-    )
+  omega arith,
+  climb_goes_on a.parent.now a.start c.loop-n.x c.loop-n.n _ c.loop-n.invariant.1 _ c.loop-n-test.true
+      c.if-x-start.false c.get-x.ensures,
+)
 
 pub returns : goal.returns
 returns c = let a = c.args in

@@ -22,8 +22,8 @@ returns c =
     let end = c.if-end-gt-STATES.end in
     let whole : forget_above a.limit end a.a.now ≡ forget_above a.limit a.size a.a.now =
     elim c.if-end-gt-STATES.branch [
-      then-end-gt-STATES w ↦ forget_past a.limit a.a.now end a.size (omega arith) (omega arith)
-    | else-end-gt-STATES w ↦ let same : end ≡ a.size = omega arith in ap (λ (n : ℕ). forget_above a.limit n a.a.now) same
+      | then-end-gt-STATES w ↦ forget_past a.limit a.a.now end a.size (omega arith) (omega arith)
+      | else-end-gt-STATES w ↦ let same : end ≡ a.size = omega arith in ap (λ (n : ℕ). forget_above a.limit n a.a.now) same
     ]
     in
     let done : c.loop-i.i ≡ end = omega arith in
