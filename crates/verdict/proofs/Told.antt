@@ -18,7 +18,6 @@ use Rattle.plain.proofs.Tables.{Valid}
 use Rattle.plain.proofs.Demands.{verdict_right}
 use Rattle.table.specs.declared.Refusal.{Refusal}
 use Rattle.table.specs.declared.Position.{Position}
-use Rattle.table.specs.declared.Position.TheVariants as Position
 use Rattle.verdict.specs.declared.Answer.{Answer}
 use Rattle.verdict.specs.declared.Answer.TheVariants.{Refused, Clear, Round}
 use Rattle.verdict.specs.Answers.{answer_is, refusing, shown_walk, position_of, refusal_of, shown, NoRefusal, lowered, WalkOf, Tells, Answered}

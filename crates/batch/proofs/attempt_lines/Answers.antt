@@ -1,5 +1,4 @@
 -- `attempt_lines` meets its contract: what is left of the lines comes to what all of them come to. Assumes nothing.
-use Prim.Native.Nat.{◌-◌}
 use mathlib.Core.Path.{sym, ap, ◌∙◌}
 use mathlib.Core.Bool.{Bool}
 use native.Mathlib.Omega.{arith}

@@ -1,6 +1,5 @@
 -- `any_outside` meets its contract: the moves from place i on tell what the whole list tells. Assumes nothing.
 use mathlib.Core.Path.{refl, sym, ◌∙◌}
-use Prim.Native.Nat.{◌-◌}
 use native.Mathlib.Omega.{arith}
 use Rattle.plain.specs.Refusals.{outside}
 use Rattle.table.proofs.Pairs.{any_here, any_on, any_end, outside_from, outside_to, inside}

@@ -8,7 +8,7 @@ use lib.ListN.{length}
 use borrow.Author.Tests.{le-leb, lt-leb}
 use Rattle.plain.specs.Lists.{any}
 use Rattle.plain.specs.Table.{by_kind}
-use Rattle.plain.specs.Refusals.{first_held, bad_size, bad_start, bad_marks, bad_count, bad_kinds, outside, pairs}
+use Rattle.plain.specs.Refusals.{first_held, bad_start, bad_marks, bad_count, bad_kinds, outside, pairs}
 use Rattle.plain.proofs.Tables.{count_fine}
 use Rattle.table.specs.declared.Trial.{Trial}
 use Rattle.table.specs.declared.Trial.TheVariants.{Accepted, Refused}

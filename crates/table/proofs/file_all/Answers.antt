@@ -1,5 +1,4 @@
 -- `file_all` meets its contract: the moves before place i are filed, none of them twice. Assumes nothing.
-use Prim.Native.Nat.{◌-◌}
 use native.Mathlib.Omega.{arith}
 use Rattle.table.proofs.Filing.{filed_none, ended, refused, went_on}
 use Rattle.table.proofs.file_all.Goals as goal

@@ -1,6 +1,6 @@
 -- `kind_outside` meets its contract: the states below s tell what all of them tell. Assumes nothing.
 use mathlib.Core.Path.{◌≡◌}
-use Prim.Native.Nat.{◌-◌, ◌≤◌}
+use Prim.Native.Nat.{◌≤◌}
 use Rattle.plain.specs.Lists.{any_below}
 use Rattle.plain.specs.Table.{by_kind}
 use Rattle.table.specs.Trials.{bad_mark}
