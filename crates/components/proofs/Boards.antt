@@ -1,17 +1,16 @@
 -- The arrays of the component search stand for its groups: stacks, places and numbers. Assumes nothing.
-use mathlib.Core.Path.{◌≡◌, refl, sym, ap, subst, ◌∙◌}
-use mathlib.Core.Logic.{◌≢◌, ◌⊎◌, inl, inr, ⊎_elim}
-use mathlib.Core.Bool.{Bool, true, false, cond}
+use mathlib.Core.Path.{◌≡◌, refl, ap, subst, ◌∙◌}
+use mathlib.Core.Logic.{◌≢◌, ⊎_elim}
+use mathlib.Core.Bool.{false, cond}
 use mathlib.Core.List.{List, [], ◌∷◌, ◌++◌}
-use Prim.Native.Nat.{ℕ, zero, suc, ◌+◌, ◌≤◌, ◌<◌}
+use Prim.Native.Nat.{ℕ, suc, ◌+◌, ◌≤◌, ◌<◌}
 use native.Mathlib.Omega.{arith}
 use lib.Dec.{eqb}
-use lib.ListN.{length, get_or, set, drop, length-append, length-set}
+use lib.ListN.{length, get_or, set, length-append, length-set}
 use lib.Seq.{get_or-set_same, get_or-set_other}
 use borrow.Author.Tests.{eqb-false, ne_eqb}
-use Rattle.plain.specs.Lists.{elem, In, Once}
-use Rattle.plain.specs.Search.{Frame, frame}
-use Rattle.plain.proofs.Tests.{contra, either, not-true, self, same, in_nil, in_head, in_tail, in_cases, in_one, in_append, in_left, in_right, not_in}
+use Rattle.plain.specs.Lists.{elem, In}
+use Rattle.plain.proofs.Tests.{contra, either, not-true, self, same, in_nil, in_head, in_tail, in_cases, in_one, in_append, in_left, in_right}
 use Rattle.rows.specs.Rows.{entries}
 use Rattle.rows.proofs.Entries.{entries_add}
 use Rattle.look.specs.Numbers.{no_number, blanks}

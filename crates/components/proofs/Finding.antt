@@ -1,29 +1,29 @@
 -- The component search from its first turn to its last: it finds every state on a round. Assumes nothing.
 use mathlib.Core.Path.{◌≡◌, refl, sym, ap, subst, ◌∙◌}
-use mathlib.Core.Logic.{◌⊎◌, inl, inr, ⊎_elim}
-use mathlib.Core.Bool.{Bool, true, false, cond}
+use mathlib.Core.Logic.{⊎_elim}
+use mathlib.Core.Bool.{Bool, true, false}
 use mathlib.Core.List.{List, [], ◌∷◌, ◌++◌}
-use Prim.Native.Nat.{ℕ, zero, suc, ◌+◌, ◌-◌, ◌≤◌, ◌<◌}
+use Prim.Native.Nat.{ℕ, zero, suc, ◌-◌, ◌≤◌, ◌<◌}
 use native.Mathlib.Omega.{arith}
 use lib.Dec.{eqb}
 use lib.ListN.{length, get_or, set, drop, replicate}
-use borrow.Author.Tests.{eq-eqb, ne_eqb}
+use borrow.Author.Tests.{eq-eqb}
 use Rattle.plain.specs.Lists.{filter, below, elem, In}
 use Rattle.plain.specs.Search.{Frame, frame}
 use Rattle.plain.specs.Cycles.{Kinded}
 use Rattle.plain.specs.Rounds.{on_rounds}
-use Rattle.plain.proofs.Tests.{contra, either, not-true, same, out_nil, in_filter, filter_in}
+use Rattle.plain.proofs.Tests.{either, same, out_nil, in_filter, filter_in}
 use Rattle.plain.proofs.Upto.{in_below, below_in, rising_below, rising_filter, rising_same}
 use Rattle.plain.proofs.Rounds.{listed_by, rounds_rising, rounds_below}
 use Rattle.look.specs.Numbers.{no_number, up}
 use Rattle.components.specs.declared.Cursor.{Cursor}
 use Rattle.components.specs.declared.Scanned.{Scanned}
-use Rattle.components.specs.Model.{within, row_of, closed, on_round, Board, board_of, Sized, Stand, stand_of, grouped, scanned, discovered, departed, onwards, advanced, states_found}
+use Rattle.components.specs.Model.{within, row_of, on_round, Board, board_of, Stand, stand_of, grouped, scanned, discovered, departed, onwards, advanced, states_found}
 use Rattle.components.proofs.Groups.{Group, group, members_of, path_of}
 use Rattle.components.proofs.Invariant.{Inv, inv_begins, all_found}
 use Rattle.components.proofs.Boards.{number_of, number_found, number_closed, number_open, placed_none}
 use Rattle.components.proofs.Scanning.{firsts_of, firsts_length, Walked, game, start_inside, moves_inside, Gone, scan_right}
-use Rattle.components.proofs.Turns.{members_few, Laid, laid_discovered, laid_grouped, At, weight, Turn, turn_new}
+use Rattle.components.proofs.Turns.{members_few, Laid, laid_discovered, laid_grouped, At, Turn, turn_new}
 use Rattle.components.proofs.Leaving.{turn_done}
 
 module _ (targets starts words : List ℕ) (size kinds start : ℕ) where

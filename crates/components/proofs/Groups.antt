@@ -6,7 +6,6 @@ use mathlib.Core.List.{List, [], ◌∷◌, ◌++◌, append_assoc}
 use Prim.Native.Nat.{ℕ}
 use Rattle.plain.specs.Lists.{elem, In}
 use Rattle.plain.specs.Search.{Graph, Frame, frame}
-use Rattle.plain.specs.Cycles.{Run}
 use Rattle.plain.proofs.Tests.{contra, either, not-true, in_nil, out_nil, in_head, in_tail, in_cases, in_one, in_append, in_left, in_right}
 use Rattle.plain.proofs.Paths.{Pending, pending_nil, pending_here, pending_below, pending_cases, pending_more}
 use Rattle.plain.proofs.Runs.{Reach, run_snoc, reach_join}

@@ -1,21 +1,21 @@
 -- What holds at every turn of the component search: the groups are right, the closed states are left by no edge, and those of them are found that lie on a round. Assumes nothing.
-use mathlib.Core.Path.{◌≡◌, refl, sym, ap, subst⁻¹}
+use mathlib.Core.Path.{◌≡◌, refl, sym, subst⁻¹}
 use mathlib.Core.Logic.{◌≢◌, ◌⊎◌, inl, inr, ⊎_elim}
 use mathlib.Core.Bool.{Bool, true, false, ◌||◌}
 use mathlib.Core.List.{List, [], ◌∷◌, ◌++◌}
-use Prim.Native.Nat.{ℕ, suc, ◌≤◌, ◌<◌}
+use Prim.Native.Nat.{ℕ, ◌≤◌, ◌<◌}
 use native.Mathlib.Omega.{arith}
 use lib.Dec.{eqb, ltb}
 use lib.ListN.{length}
-use borrow.Author.Tests.{eqb-false, ltb-true, ltb-false, lt-ltb}
+use borrow.Author.Tests.{eqb-false, ltb-true, ltb-false}
 use Rattle.plain.specs.Lists.{elem, In, Once}
 use Rattle.plain.specs.Search.{Graph, Frame, frame, on_path}
 use Rattle.plain.specs.Cycles.{Run, Kinded}
-use Rattle.plain.proofs.Tests.{contra, either, not-true, or_true, or_first, or_second, same, in_nil, out_nil, in_head, in_tail, in_cases, in_one, in_append, in_left, in_right}
-use Rattle.plain.proofs.Paths.{On, Off, Distinct, on_head, on_tail, on_cases, off_nil, pending_nil}
+use Rattle.plain.proofs.Tests.{contra, either, not-true, or_true, or_first, or_second, same, in_nil, out_nil, in_head, in_tail, in_one, in_append, in_left, in_right}
+use Rattle.plain.proofs.Paths.{On, Distinct, on_head, on_tail, on_cases, off_nil, pending_nil}
 use Rattle.plain.proofs.Runs.{Reach, run_inside, reach_join}
 use Rattle.plain.proofs.Rounds.{Lies, Returning}
-use Rattle.components.proofs.Groups.{Group, group, members_of, path_of, joining, Inside, Ahead, Level, Stack, level_taken, level_done, stack_begins, stack_new, stack_joined, joining_members, joining_path}
+use Rattle.components.proofs.Groups.{Group, group, members_of, path_of, joining, Inside, Level, Stack, level_taken, level_done, stack_begins, stack_new, stack_joined, joining_members, joining_path}
 
 -- ---- lists
 

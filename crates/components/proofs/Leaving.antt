@@ -1,29 +1,29 @@
 -- The path leaves its last state; where no state of the newest group is left on it, that group is a component, and is closed. Assumes nothing.
 use mathlib.Core.Path.{◌≡◌, refl, sym, ap, subst, ◌∙◌}
-use mathlib.Core.Logic.{◌≢◌, ◌⊎◌, inl, inr, ⊎_elim}
+use mathlib.Core.Logic.{◌≢◌, ⊎_elim}
 use mathlib.Core.Bool.{Bool, true, false, ◌&&◌, ◌||◌, cond}
 use mathlib.Core.List.{List, [], ◌∷◌, ◌++◌}
-use Prim.Native.Nat.{ℕ, zero, suc, ◌+◌, ◌*◌, ◌-◌, ◌≤◌, ◌<◌}
+use Prim.Native.Nat.{ℕ, zero, suc, ◌+◌, ◌*◌, ◌-◌, ◌<◌}
 use native.Mathlib.Decide.{dec_lt}
 use native.Mathlib.Omega.{arith}
 use lib.Dec.{ltb, leb}
 use lib.ListN.{length, get_or, length-append}
 use borrow.Author.Tests.{lt-ltb, le-leb, lt-leb}
-use Rattle.plain.specs.Lists.{any, elem, In, Once}
+use Rattle.plain.specs.Lists.{any, elem, In}
 use Rattle.plain.specs.Search.{Frame, frame}
 use Rattle.plain.specs.Cycles.{Kinded}
 use Rattle.plain.specs.Table.{accepts}
-use Rattle.plain.proofs.Tests.{contra, either, not-true, and-true, and_both, in_nil, in_head, in_tail, in_cases, in_append, in_left, in_right, any_in, any_some}
+use Rattle.plain.proofs.Tests.{contra, either, not-true, and-true, and_both, in_nil, in_append, in_left, in_right, any_in, any_some}
 use Rattle.plain.proofs.Rounds.{Lies}
 use Rattle.rows.specs.Rows.{entries}
-use Rattle.look.specs.Numbers.{no_number, blanks}
+use Rattle.look.specs.Numbers.{no_number}
 use Rattle.components.specs.declared.Cursor.{Cursor}
-use Rattle.components.specs.Model.{row_of, closed, on_round, Board, board_of, Sized, Stand, stand_of, carries_all, is_cyclic, is_round, renumbered, first_in, is_left, departed}
+use Rattle.components.specs.Model.{row_of, closed, on_round, Board, board_of, stand_of, carries_all, is_cyclic, is_round, renumbered, first_in, is_left, departed}
 use Rattle.components.proofs.Groups.{Group, group, members_of, path_of, Stack}
 use Rattle.components.proofs.Invariant.{Inv, inv_done, inv_closed, found, cyclic_back, back_cyclic, carried_passes, passes_carried}
-use Rattle.components.proofs.Boards.{Piled, piled_below, pile_entry, entry_pile, first_entry, placed, placed_low, placed_newer, placed_older, number_of, number_found, number_closed, number_open, same_number, renumbered_in, renumbered_out, renumbered_length, renumbered_blanks}
+use Rattle.components.proofs.Boards.{piled_below, pile_entry, entry_pile, first_entry, placed, placed_low, placed_newer, placed_older, number_of, number_found, number_closed, number_open, same_number, renumbered_in, renumbered_out, renumbered_length, renumbered_blanks}
 use Rattle.components.proofs.Scanning.{firsts_of, firsts_length, first_at, Walked, game}
-use Rattle.components.proofs.Turns.{member_low, Laid, At, weight, Turn}
+use Rattle.components.proofs.Turns.{member_low, Laid, Turn}
 
 -- ---- kinds that states carry
 

@@ -3,22 +3,22 @@ use mathlib.Core.Path.{◌≡◌, refl, sym, ap, subst, ◌∙◌}
 use mathlib.Core.Logic.{◌≢◌, ◌⊎◌, inl, inr, ⊎_elim}
 use mathlib.Core.Bool.{Bool, true, false, ◌&&◌, cond}
 use mathlib.Core.List.{List, [], ◌∷◌, ◌++◌, map, append_assoc, append-nil}
-use Prim.Native.Nat.{ℕ, zero, suc, ◌+◌, ◌%◌, ◌≤◌, ◌<◌}
+use Prim.Native.Nat.{ℕ, suc, ◌≤◌, ◌<◌}
 use native.Mathlib.Omega.{arith}
 use lib.Dec.{eqb, ltb}
 use lib.ListN.{length, get_or, drop, length-append}
-use borrow.Author.Tests.{eqb-true, eqb-false, eq-eqb, ne_eqb, lt-ltb, le-ltb}
+use borrow.Author.Tests.{eqb-true, eqb-false, lt-ltb, le-ltb}
 use Rattle.plain.specs.Lists.{elem, In}
-use Rattle.plain.specs.Search.{Graph, Frame, frame}
+use Rattle.plain.specs.Search.{Frame, frame}
 use Rattle.plain.specs.Cycles.{Kinded}
-use Rattle.plain.proofs.Tests.{contra, either, not-true, in_nil, in_head, in_tail, in_cases, in_append, in_left, in_right}
+use Rattle.plain.proofs.Tests.{contra, either, not-true, in_nil, in_head, in_cases, in_append}
 use Rattle.plain.proofs.Paths.{pending_here}
 use Rattle.plain.proofs.Rounds.{StartInside, MovesInside}
 use Rattle.look.specs.Numbers.{no_number}
 use Rattle.look.specs.Scan.{row_in}
-use Rattle.look.proofs.Counting.{EdgeLeft, edge_left}
+use Rattle.look.proofs.Counting.{edge_left}
 use Rattle.components.specs.declared.Scanned.{Scanned}
-use Rattle.components.specs.Model.{within, row_of, game_in, closed, on_round, joined, scanned}
+use Rattle.components.specs.Model.{within, row_of, game_in, joined, scanned}
 use Rattle.components.proofs.Groups.{Group, group, members_of, path_of, joining, joining_here, joining_below, joining_members, joining_path}
 use Rattle.components.proofs.Invariant.{Inv, inv_taken, inv_joined}
 use Rattle.components.proofs.Boards.{Piled, placed, placed_low, placed_none, placed_newer, placed_older, number_of, number_found, number_closed, number_open}

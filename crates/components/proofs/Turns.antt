@@ -1,18 +1,18 @@
 -- A turn of the component search: what the arrays stand for before it and behind it. Assumes nothing.
 use mathlib.Core.Path.{◌≡◌, refl, sym, ap, subst, ◌∙◌}
-use mathlib.Core.Logic.{◌≢◌, ◌⊎◌, inl, inr, ⊎_elim}
-use mathlib.Core.Bool.{Bool, true, false, ◌&&◌, cond}
+use mathlib.Core.Logic.{⊎_elim}
+use mathlib.Core.Bool.{Bool, true, false, cond}
 use mathlib.Core.List.{List, [], ◌∷◌, ◌++◌}
-use Prim.Native.Nat.{ℕ, zero, suc, ◌+◌, ◌*◌, ◌-◌, ◌≤◌, ◌<◌}
+use Prim.Native.Nat.{ℕ, suc, ◌+◌, ◌*◌, ◌-◌, ◌≤◌, ◌<◌}
 use native.Mathlib.Omega.{arith}
 use lib.Dec.{eqb, ltb, leb}
 use lib.ListN.{length, get_or, set, drop, length-append, length-set, length-map}
 use lib.Seq.{get_or-set_same, get_or-set_other}
-use borrow.Author.Tests.{eqb-false, lt-ltb, le-ltb, le-leb, lt-leb, leb-true}
-use Rattle.plain.specs.Lists.{elem, In, Once}
+use borrow.Author.Tests.{eqb-false, leb-true}
+use Rattle.plain.specs.Lists.{elem, In}
 use Rattle.plain.specs.Search.{Frame, frame, states_of}
 use Rattle.plain.specs.Cycles.{Kinded}
-use Rattle.plain.proofs.Tests.{contra, either, not-true, and-true, same, in_nil, in_head, in_tail, in_cases, in_append, in_left, in_right}
+use Rattle.plain.proofs.Tests.{either, and-true, same, in_nil, in_head, in_append}
 use Rattle.plain.proofs.Paths.{pending_here}
 use Rattle.plain.proofs.Runs.{Reach}
 use Rattle.plain.proofs.Lassos.{states_on, once_states}
@@ -26,11 +26,11 @@ use Rattle.look.specs.Scan.{fits, row_in}
 use Rattle.look.proofs.Counting.{up_more, blank_filled, edge_left}
 use Rattle.components.specs.declared.Cursor.{Cursor}
 use Rattle.components.specs.declared.Scanned.{Scanned}
-use Rattle.components.specs.Model.{within, row_of, Board, board_of, Sized, Stand, stand_of, grouped, discovered}
+use Rattle.components.specs.Model.{within, row_of, Board, board_of, Sized, Stand, grouped, discovered}
 use Rattle.components.proofs.Groups.{Group, group, members_of, path_of, Stack}
-use Rattle.components.proofs.Invariant.{Inv, inv_begins, inv_new, on_member}
-use Rattle.components.proofs.Boards.{Piled, piled_push, placed, placed_here, placed_other, number_of, number_found, number_closed, number_open, number_none, same_number}
-use Rattle.components.proofs.Scanning.{firsts_of, firsts_length, Walked, game, start_inside, target_low, moves_inside, Numbered, Going, Gone}
+use Rattle.components.proofs.Invariant.{Inv, inv_new, on_member}
+use Rattle.components.proofs.Boards.{Piled, piled_push, placed_here, placed_other, number_of, number_open, number_none, same_number}
+use Rattle.components.proofs.Scanning.{firsts_of, firsts_length, Walked, game, start_inside, target_low, moves_inside, Numbered}
 
 module _ (targets starts words : List ℕ) (size kinds start : ℕ) where
   abbrev a : Kinded

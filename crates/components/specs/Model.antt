@@ -1,7 +1,6 @@
 -- What the functions of the component search do, in terms of their arrays; and the game that the arrays of a table stand for, whatever they hold. Cited by contracts. Assumes nothing.
 use Rattle.std.specs.Prelude.{ℕ, zero, suc, ◌+◌, ◌*◌, ◌-◌, ◌%◌, ◌≡◌, Bool, true, false, ◌&&◌, ◌||◌, cond, List, [], ◌∷◌, map, eqb, ltb, leb, length, get_or, set, drop}
 use Rattle.plain.specs.Lists.{any, filter, below, elem}
-use Rattle.plain.specs.Search.{Graph}
 use Rattle.plain.specs.Cycles.{Kinded}
 use Rattle.plain.specs.Table.{accepts, marking}
 use Rattle.rows.specs.Rows.{entries}

@@ -14,8 +14,7 @@ pub get-requires-2 : goal.get-requires-2
 get-requires-2 c = c.requires.1.next_size
 
 pub scan-r-requires : goal.scan-r-requires
-scan-r-requires c = let a = c in
-    (a.requires.0, a.requires.1.number_size, a.requires.1.firsts_size)
+scan-r-requires c = (c.requires.0, c.requires.1.number_size, c.requires.1.firsts_size)
 
 pub up-requires : goal.up-requires
 up-requires c = tt
@@ -24,37 +23,23 @@ pub put-requires : goal.put-requires
 put-requires c = c.requires.1.next_size
 
 pub discover-requires : goal.discover-requires
-discover-requires c = let p = c in
-    let sized = p.requires.1 in
+discover-requires c = let sized = c.requires.1 in
     record {
       number_size = sized.number_size;
       stack_size = sized.stack_size;
       firsts_size = sized.firsts_size;
       path_size = sized.path_size;
-      next_size = ap length p.put.ensures ∙ simp length-set sized.next_size;
+      next_size = ap length c.put.ensures ∙ simp length-set sized.next_size;
     }
 
 pub returns-then-r : goal.returns-then-r
-returns-then-r c = let p = c in
-    let u = p in
-    let i = u in
-    let r = i in
-    let k = r in
-    let v = k in
-    let d = v in
-    c.discover.ensures
-    ∙ advances _ _ _ _ _ _ _ _ d.down-at.ensures _ v.get.ensures _ k.get-2.ensures _ r.scan-r.ensures i.if-r.true _ u.up.ensures _ p.put.ensures
+returns-then-r c = c.discover.ensures
+    ∙ advances _ _ _ _ _ _ _ _ c.down-at.ensures _ c.get.ensures _ c.get-2.ensures _ c.scan-r.ensures c.if-r.true _ c.up.ensures _ c.put.ensures
 
 pub leave-requires : goal.leave-requires
-leave-requires c = let a = c in
-    let sized = a.requires.1 in
-    (a.requires.0, sized.number_size, sized.stack_size, sized.firsts_size, sized.path_size)
+leave-requires c = let sized = c.requires.1 in
+    (c.requires.0, sized.number_size, sized.stack_size, sized.firsts_size, sized.path_size)
 
 pub returns : goal.returns
-returns c = let e = c in
-    let r = e in
-    let k = r in
-    let v = k in
-    let d = v in
-    c.leave.ensures _
-    ∙ retreats _ _ _ _ _ _ _ _ d.down-at.ensures _ v.get.ensures _ k.get-2.ensures _ r.scan-r.ensures e.if-r.false
+returns c = c.leave.ensures _
+    ∙ retreats _ _ _ _ _ _ _ _ c.down-at.ensures _ c.get.ensures _ c.get-2.ensures _ c.scan-r.ensures c.if-r.false

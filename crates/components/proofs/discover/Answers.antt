@@ -27,11 +27,5 @@ pub up-requires-3 : goal.up-requires-3
 up-requires-3 c = tt
 
 pub returns : goal.returns
-returns c = let g = c in
-    let next = g in
-    let path = next in
-    let firsts = path in
-    let stack = firsts in
-    let number = stack in
-    discovers _ _ _ _ _ _ _ _ _ _ _ number.put.ensures stack.put-2.ensures firsts.put-3.ensures path.put-4.ensures next.put-5.ensures
-    g.up.ensures c.up-2.ensures c.up-3.ensures
+returns c = discovers _ _ _ _ _ _ _ _ _ _ _ c.put.ensures c.put-2.ensures c.put-3.ensures c.put-4.ensures c.put-5.ensures
+    c.up.ensures c.up-2.ensures c.up-3.ensures

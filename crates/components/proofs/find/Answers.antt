@@ -11,23 +11,16 @@ pub loop-c-init : goal.loop-c-init
 loop-c-init c = at_first_lem _ _ _ _ _ _ _ _ c.discover-c.ensures
 
 pub advance-c-requires : goal.advance-c-requires
-advance-c-requires c = let h = c in
-    (h.requires, h.loop-c.invariant.laid.sized)
+advance-c-requires c = (c.requires, c.loop-c.invariant.laid.sized)
 
 pub loop-c-smaller : goal.loop-c-smaller
-loop-c-smaller c = let i = c in
-    let h = i in
-    (turned _ _ _ _ _ _ _ _ _ _ h.loop-c.invariant i.loop-c-test.true c.advance-c.ensures).lighter
+loop-c-smaller c = (turned _ _ _ _ _ _ _ _ _ _ c.loop-c.invariant c.loop-c-test.true c.advance-c.ensures).lighter
 
 pub loop-c-preserved : goal.loop-c-preserved
-loop-c-preserved c = let i = c in
-    let h = i in
-    (turned _ _ _ _ _ _ _ _ _ _ h.loop-c.invariant i.loop-c-test.true c.advance-c.ensures).at
+loop-c-preserved c = (turned _ _ _ _ _ _ _ _ _ _ c.loop-c.invariant c.loop-c-test.true c.advance-c.ensures).at
 
 pub list-requires : goal.list-requires
 list-requires c = c.loop-c.invariant.laid.sized.number_size
 
 pub returns : goal.returns
-returns c = let i = c in
-    let h = i in
-    c.list.ensures ∙ ap found_of (ends _ _ _ _ _ _ _ _ h.loop-c.invariant i.loop-c-test.false)
+returns c = c.list.ensures ∙ ap found_of (ends _ _ _ _ _ _ _ _ c.loop-c.invariant c.loop-c-test.false)

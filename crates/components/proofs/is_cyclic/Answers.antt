@@ -15,6 +15,4 @@ pub has_loop-requires : goal.has_loop-requires
 has_loop-requires c = c.requires.0
 
 pub returns : goal.returns
-returns c = let g = c in
-    let e = g in
-    cyclic_one _ _ _ _ e.minus.ensures e.if-minus-gt1.false _ g.get.ensures _ c.has_loop.ensures
+returns c = cyclic_one _ _ _ _ c.minus.ensures c.if-minus-gt1.false _ c.get.ensures _ c.has_loop.ensures

@@ -11,8 +11,7 @@ pub carries_all-requires : goal.carries_all-requires
 carries_all-requires c = c.requires.1
 
 pub returns-then-is_cyclic : goal.returns-then-is_cyclic
-returns-then-is_cyclic c = let i = c in
-    c.carries_all.ensures ∙ round_is _ _ _ _ _ _ _ _ true (sym i.is_cyclic.ensures ∙ i.if-is_cyclic.true)
+returns-then-is_cyclic c = c.carries_all.ensures ∙ round_is _ _ _ _ _ _ _ _ true (sym c.is_cyclic.ensures ∙ c.if-is_cyclic.true)
 
 pub returns : goal.returns
 returns c = round_is _ _ _ _ _ _ _ _ false (sym c.is_cyclic.ensures ∙ c.if-is_cyclic.false)

@@ -16,9 +16,7 @@ pub get-requires : goal.get-requires
 get-requires c = c.requires
 
 pub returns-then-get-x : goal.returns-then-get-x
-returns-then-get-x c = let g = c in
-    let i = g in
-    join_next _ _ _ _ i.loop-n-test.true g.get.ensures false (le-ltb _ _ c.if-get-x.true) ∙ i.loop-n.invariant
+returns-then-get-x c = join_next _ _ _ _ c.loop-n-test.true c.get.ensures false (le-ltb _ _ c.if-get-x.true) ∙ c.loop-n.invariant
 
 pub overflow_sub-n-in-loop-n : goal.overflow_sub-n-in-loop-n
 overflow_sub-n-in-loop-n c = omega arith
@@ -27,9 +25,7 @@ pub loop-n-smaller : goal.loop-n-smaller
 loop-n-smaller c = omega arith
 
 pub loop-n-preserved : goal.loop-n-preserved
-loop-n-preserved c = let g = c in
-    let i = g in
-    join_next _ _ _ _ i.loop-n-test.true g.get.ensures true (lt-ltb _ _ c.if-get-x.false) ∙ i.loop-n.invariant
+loop-n-preserved c = join_next _ _ _ _ c.loop-n-test.true c.get.ensures true (lt-ltb _ _ c.if-get-x.false) ∙ c.loop-n.invariant
 
 pub returns : goal.returns
 returns c = join_last _ _ _ c.loop-n-test.false ∙ c.loop-n.invariant

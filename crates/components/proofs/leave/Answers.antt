@@ -26,20 +26,15 @@ pub get-requires-then-height-gt0 : goal.get-requires-then-height-gt0
 get-requires-then-height-gt0 c = c.requires.1
 
 pub returns-then-first-get : goal.returns-then-first-get
-returns-then-first-get c = let x = c in
-    let s = x in
-    let i = s in
-    let f = i in
-    let g = f in
-    let h = g.down-height.ensures in
-    λ next. departs _ _ _ h _ g.down-groups.ensures _ f.get-first.ensures _ _ _ _ _
-    (left_newest _ _ _ h _ g.down-groups.ensures _ f.get-first.ensures i.if-height-gt0.true _ s.get.ensures _ x.get-then-height-gt0.ensures c.if-first-get.true)
+returns-then-first-get c = let h = c.down-height.ensures in
+    λ next. departs _ _ _ h _ c.down-groups.ensures _ c.get-first.ensures _ _ _ _ _
+    (left_newest _ _ _ h _ c.down-groups.ensures _ c.get-first.ensures c.if-height-gt0.true _ c.get.ensures _ c.get-then-height-gt0.ensures c.if-first-get.true)
 
 pub is_round-round-requires : goal.is_round-round-requires
-is_round-round-requires c = let a = c in (a.requires.0, a.requires.2)
+is_round-round-requires c = (c.requires.0, c.requires.2)
 
 pub renumber-requires : goal.renumber-requires
-renumber-requires c = let a = c in (a.requires.1, a.requires.2)
+renumber-requires c = (c.requires.1, c.requires.2)
 
 pub returns : goal.returns
 returns c =

@@ -1,6 +1,5 @@
 -- `list` meets its contract: of the states passed, those on a round are marked and counted. Assumes nothing.
 use mathlib.Core.Path.{sym, ◌∙◌}
-use Prim.Native.Nat.{◌-◌}
 use native.Mathlib.Omega.{arith}
 use Rattle.components.proofs.Laws.{listed_none, listed_few, listed_one, listed_other, listed_end}
 use Rattle.components.proofs.list.Goals as goal
@@ -22,8 +21,7 @@ pub set_mark-requires : goal.set_mark-requires
 set_mark-requires c = tt
 
 pub overflow_add-count : goal.overflow_add-count
-overflow_add-count c = let i = c in
-    omega (arith, i.loop-s-test.true, listed_few _ _ _ _ i.loop-s.invariant.1)
+overflow_add-count c = omega (arith, c.loop-s-test.true, listed_few _ _ _ _ c.loop-s.invariant.1)
 
 pub overflow_add-s : goal.overflow_add-s
 overflow_add-s c = omega (arith, c.loop-s-test.true)
@@ -42,4 +40,4 @@ loop-s-preserved c =
     )
 
 pub returns : goal.returns
-returns c = let h = c in listed_end _ _ _ _ h.loop-s.invariant.1 h.loop-s.invariant.0 c.loop-s-test.false
+returns c = listed_end _ _ _ _ c.loop-s.invariant.1 c.loop-s.invariant.0 c.loop-s-test.false

@@ -1,6 +1,5 @@
 -- `renumber` meets its contract: the states that are left, renumbered from here on, come to all of them. Assumes nothing.
 use mathlib.Core.Path.{refl, ap, ◌∙◌}
-use Prim.Native.Nat.{◌-◌}
 use native.Mathlib.Omega.{arith}
 use lib.ListN.{length, length-set}
 use Rattle.components.proofs.Laws.{renumber_ends, renumber_next}
@@ -16,19 +15,16 @@ pub put-requires : goal.put-requires
 put-requires c = c.loop-i.invariant.0
 
 pub overflow_add-i : goal.overflow_add-i
-overflow_add-i c = let i = c in
-    omega (arith, i.loop-i-test.true, i.ranges.stop)
+overflow_add-i c = omega (arith, c.loop-i-test.true, c.ranges.stop)
 
 pub loop-i-smaller : goal.loop-i-smaller
-loop-i-smaller c = let i = c in omega (arith, i.loop-i-test.true)
+loop-i-smaller c = omega (arith, c.loop-i-test.true)
 
 pub loop-i-preserved : goal.loop-i-preserved
-loop-i-preserved c = let g = c in
-    let i = g in
-    let h = i in (
-      ap length c.put.ensures ∙ simp length-set h.loop-i.invariant.0,
-      renumber_next _ _ _ _ _ i.loop-i-test.true _ g.get.ensures _ c.put.ensures ∙ h.loop-i.invariant.1,
-    )
+loop-i-preserved c = (
+  ap length c.put.ensures ∙ simp length-set c.loop-i.invariant.0,
+  renumber_next _ _ _ _ _ c.loop-i-test.true _ c.get.ensures _ c.put.ensures ∙ c.loop-i.invariant.1,
+)
 
 pub returns : goal.returns
 returns c = renumber_ends _ _ _ _ _ c.loop-i-test.false ∙ c.loop-i.invariant.1

@@ -1,6 +1,6 @@
 -- `scan` meets its contract: what is left of the row, with the groups that are left, comes to what the whole does. Assumes nothing.
 use mathlib.Core.Path.{◌≡◌, sym, ◌∙◌}
-use Prim.Native.Nat.{◌+◌, ◌-◌, ◌<◌}
+use Prim.Native.Nat.{◌+◌, ◌<◌}
 use native.Mathlib.Omega.{arith}
 use Rattle.components.proofs.Laws.{scan_ends, scan_finds, scan_goes_on, scan_begins}
 use Rattle.components.proofs.scan.Goals as goal
@@ -33,8 +33,7 @@ pub overflow_add-from-in-loop-unused : goal.overflow_add-from-in-loop-unused
 overflow_add-from-in-loop-unused c = omega (arith, place c, short c.before.before)
 
 pub look-t-requires : goal.look-t-requires
-look-t-requires c = let i = c in
-    (i.requires.0.targets_size, omega (arith, place c, short i.before.before))
+look-t-requires c = (c.requires.0.targets_size, omega (arith, place c, short c.before.before))
 
 pub wide-requires-in-loop-unused-2 : goal.wide-requires-in-loop-unused-2
 wide-requires-in-loop-unused-2 c = tt
@@ -43,13 +42,8 @@ pub offset_bounds-number-wide : goal.offset_bounds-number-wide
 offset_bounds-number-wide c = omega (arith, c.wide-in-loop-unused-2.ensures.1)
 
 pub returns-then-x : goal.returns-then-x
-returns-then-x c = let u = c in
-    let k = u in
-    let w = k in
-    let i = w in
-    let h = i in
-    scan_finds _ _ _ _ _ _ _ _ i.wide.ensures.0 i.loop-unused-test.true _ w.wide-in-loop-unused.ensures.0 _ k.look-t.ensures.0 _ u.wide-in-loop-unused-2.ensures.0 c.if-x.true
-    ∙ h.loop-unused.invariant
+returns-then-x c = scan_finds _ _ _ _ _ _ _ _ c.wide.ensures.0 c.loop-unused-test.true _ c.wide-in-loop-unused.ensures.0 _ c.look-t.ensures.0 _ c.wide-in-loop-unused-2.ensures.0 c.if-x.true
+    ∙ c.loop-unused.invariant
 
 pub join-n-requires : goal.join-n-requires
 join-n-requires c = c.requires.2
@@ -58,19 +52,11 @@ pub overflow_add-e : goal.overflow_add-e
 overflow_add-e c = omega (arith, c.loop-unused-test.true, c.wide.ensures.0, c.row_of-row.ensures.stop_small)
 
 pub loop-unused-smaller : goal.loop-unused-smaller
-loop-unused-smaller c = let i = c in
-    omega (arith, i.loop-unused-test.true, i.wide.ensures.0)
+loop-unused-smaller c = omega (arith, c.loop-unused-test.true, c.wide.ensures.0)
 
 pub loop-unused-preserved : goal.loop-unused-preserved
-loop-unused-preserved c = let e = c in
-    let u = e in
-    let k = u in
-    let w = k in
-    let i = w in
-    let h = i in
-    scan_goes_on _ _ _ _ _ _ _ _ i.wide.ensures.0 i.loop-unused-test.true _ w.wide-in-loop-unused.ensures.0 _ k.look-t.ensures.0 _ u.wide-in-loop-unused-2.ensures.0 e.if-x.false _ c.join-n.ensures
-    ∙ h.loop-unused.invariant
+loop-unused-preserved c = scan_goes_on _ _ _ _ _ _ _ _ c.wide.ensures.0 c.loop-unused-test.true _ c.wide-in-loop-unused.ensures.0 _ c.look-t.ensures.0 _ c.wide-in-loop-unused-2.ensures.0 c.if-x.false _ c.join-n.ensures
+    ∙ c.loop-unused.invariant
 
 pub returns : goal.returns
-returns c = let w = c in
-    scan_ends _ _ _ _ _ _ _ _ w.wide.ensures.0 c.loop-unused-test.false ∙ w.loop-unused.invariant
+returns c = scan_ends _ _ _ _ _ _ _ _ c.wide.ensures.0 c.loop-unused-test.false ∙ c.loop-unused.invariant

@@ -9,9 +9,7 @@ pub clear_mark-requires : goal.clear_mark-requires
 clear_mark-requires c = tt
 
 pub loop-v-preserved : goal.loop-v-preserved
-loop-v-preserved c = let h = c in
-    rw c.clear_mark.ensures (cleared_one h.args.first h.loop-v.v h.args.words.now h.loop-v.words h.loop-v.invariant)
+loop-v-preserved c = rw c.clear_mark.ensures (cleared_one c.args.first c.loop-v.v c.args.words.now c.loop-v.words c.loop-v.invariant)
 
 pub returns : goal.returns
-returns c = let h = c in
-    cleared_all h.args.first h.loop-v.v h.args.words.now h.loop-v.words h.loop-v.invariant c.loop-v-test.false
+returns c = cleared_all c.args.first c.loop-v.v c.args.words.now c.loop-v.words c.loop-v.invariant c.loop-v-test.false

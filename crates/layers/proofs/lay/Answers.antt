@@ -9,15 +9,12 @@ use Rattle.layers.proofs.Laying.{laid_one}
 use Rattle.layers.proofs.lay.Goals as goal
 
 pub returns-then-above-eq0 : goal.returns-then-above-eq0
-returns-then-above-eq0 c = let e = c in
-    let s = e in
-    let a = s.args in
-    (λ i. layout_of (s.requires.1 i) (e.lay_ends.ensures i) (s.requires.3 i))
-    ∙ laid_one a.size a.starts.now a.words.now s.requires.0
+returns-then-above-eq0 c = let a = c.args in
+    (λ i. layout_of (c.requires.1 i) (c.lay_ends.ensures i) (c.requires.3 i))
+    ∙ laid_one a.size a.starts.now a.words.now c.requires.0
     ∙ ap (λ (m : ℕ). layered a.size m a.starts.now a.words.now) (sym c.if-above-eq0.true)
 
 pub lay_copies-requires : goal.lay_copies-requires
 unfolding ends_of
-lay_copies-requires c = let e = c in
-    let p = e.requires in
-    (p.0, p.1, ap length e.lay_ends.ensures ∙ entries_length 512 1 _, ap length p.3 ∙ length-replicate {A = ℕ} 512 0)
+lay_copies-requires c = let p = c.requires in
+    (p.0, p.1, ap length c.lay_ends.ensures ∙ entries_length 512 1 _, ap length p.3 ∙ length-replicate {A = ℕ} 512 0)

@@ -5,10 +5,10 @@ use Rattle.layers.proofs.Standing.{state_here, state_down, state_ends}
 use Rattle.layers.proofs.state_of.Goals as goal
 
 pub returns-then-state-size : goal.returns-then-state-size
-returns-then-state-size c = let h = c in sym (state_here h.args.size h.loop-left.left h.loop-left.state (omega arith) (omega arith)) ∙ h.loop-left.invariant
+returns-then-state-size c = sym (state_here c.args.size c.loop-left.left c.loop-left.state (omega arith) (omega arith)) ∙ c.loop-left.invariant
 
 pub loop-left-preserved : goal.loop-left-preserved
-loop-left-preserved c = let h = c in sym (state_down h.args.size h.loop-left.left h.loop-left.state (omega arith) (omega arith)) ∙ h.loop-left.invariant
+loop-left-preserved c = sym (state_down c.args.size c.loop-left.left c.loop-left.state (omega arith) (omega arith)) ∙ c.loop-left.invariant
 
 pub returns : goal.returns
-returns c = let h = c in sym (state_ends h.args.size h.loop-left.left h.loop-left.state (omega arith)) ∙ h.loop-left.invariant
+returns c = sym (state_ends c.args.size c.loop-left.left c.loop-left.state (omega arith)) ∙ c.loop-left.invariant

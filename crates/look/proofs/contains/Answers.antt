@@ -5,9 +5,8 @@ use Rattle.look.proofs.Sets.{get_or_within}
 use Rattle.look.proofs.contains.Goals as goal
 
 pub returns-then-i-lt-STATES : goal.returns-then-i-lt-STATES
-returns-then-i-lt-STATES c = let w = c in
-    let states = w.args.states.now in
-    get_or_within states w.wide-i.result (omega arith) ∙ ap (λ (i : ℕ). get_or states i true) w.wide-i.ensures.0
+returns-then-i-lt-STATES c = let states = c.args.states.now in
+    get_or_within states c.wide-i.result (omega arith) ∙ ap (λ (i : ℕ). get_or states i true) c.wide-i.ensures.0
 
 pub returns-else-i-lt-STATES : goal.returns-else-i-lt-STATES
-returns-else-i-lt-STATES c = let w = c in sym (get_or-eq_default w.args.states.now true {n = w.args.v} (omega arith))
+returns-else-i-lt-STATES c = sym (get_or-eq_default c.args.states.now true {n = c.args.v} (omega arith))

@@ -16,14 +16,12 @@ module _ (x : ℕ) where
   filled-all (y ∷ xs) (suc i) h = ap (λ (r : List ℕ). x ∷ r) (filled-all xs i (omega arith))
 
 pub loop-i-preserved : goal.loop-i-preserved
-loop-i-preserved c = let h = c in
-    let a = h.args in (
-      omega arith,
-      rw add-one (ap (λ (l : List ℕ). set l h.loop-i.i a.x) h.loop-i.invariant.1 ∙ filled-write a.x a.a.now h.loop-i.i (omega (arith, h.requires))),
-    )
+loop-i-preserved c = let a = c.args in (
+  omega arith,
+  rw add-one (ap (λ (l : List ℕ). set l c.loop-i.i a.x) c.loop-i.invariant.1 ∙ filled-write a.x a.a.now c.loop-i.i (omega (arith, c.requires))),
+)
 
 pub returns : goal.returns
-returns c = let h = c in
-    let a = h.args in
-    let all : h.loop-i.i ≡ 512 = omega (arith, h.loop-i.invariant.0) in
-    h.loop-i.invariant.1 ∙ ap (λ (i : ℕ). filled a.x i a.a.now) all ∙ filled-all a.x a.a.now 512 h.requires
+returns c = let a = c.args in
+    let all : c.loop-i.i ≡ 512 = omega (arith, c.loop-i.invariant.0) in
+    c.loop-i.invariant.1 ∙ ap (λ (i : ℕ). filled a.x i a.a.now) all ∙ filled-all a.x a.a.now 512 c.requires

@@ -5,22 +5,19 @@ use Rattle.rows.proofs.Entries.{entries_length, entries_first, place_found, plac
 use Rattle.look.proofs.find.Goals as goal
 
 pub returns-then-get-x : goal.returns-then-get-x
-returns-then-get-x c = let s = c in
-    let a = s.args in
+returns-then-get-x c = let a = c.args in
     let len = entries_length a.n 0 a.a.now in
-    let at = entries_first a.n a.a.now s.loop-i.i (omega arith) in
-    omega (arith, place_found a.x (entries a.n 0 a.a.now) s.loop-i.i c.get.result (omega arith) (c.get.ensures ∙ at) c.if-get-x.true)
+    let at = entries_first a.n a.a.now c.loop-i.i (omega arith) in
+    omega (arith, place_found a.x (entries a.n 0 a.a.now) c.loop-i.i c.get.result (omega arith) (c.get.ensures ∙ at) c.if-get-x.true)
 
 pub loop-i-preserved : goal.loop-i-preserved
-loop-i-preserved c = let s = c in
-    let a = s.args in
+loop-i-preserved c = let a = c.args in
     let len = entries_length a.n 0 a.a.now in
-    let at = entries_first a.n a.a.now s.loop-i.i (omega arith) in
-    let passed = place_passed a.x (entries a.n 0 a.a.now) s.loop-i.i c.get.result (omega arith) (c.get.ensures ∙ at) c.if-get-x.false in
+    let at = entries_first a.n a.a.now c.loop-i.i (omega arith) in
+    let passed = place_passed a.x (entries a.n 0 a.a.now) c.loop-i.i c.get.result (omega arith) (c.get.ensures ∙ at) c.if-get-x.false in
     (omega arith, rw add-one (omega arith))
 
 pub returns : goal.returns
-returns c = let s = c in
-    let a = s.args in
+returns c = let a = c.args in
     let len = entries_length a.n 0 a.a.now in
-    omega (arith, place_end a.x (entries a.n 0 a.a.now) s.loop-i.i (omega arith))
+    omega (arith, place_end a.x (entries a.n 0 a.a.now) c.loop-i.i (omega arith))

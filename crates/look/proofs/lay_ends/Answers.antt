@@ -28,7 +28,7 @@ pub loop-v-init : goal.loop-v-init
 loop-v-init c = record { within = omega arith; size = c.requires.1; laid = λ j l. absurd (omega arith) }
 
 pub loop-v-preserved : goal.loop-v-preserved
-loop-v-preserved c = let h = c in laid_more h.args.starts.now h.loop-v.ends h.loop-v.v c.loop-v-test.true h.loop-v.invariant
+loop-v-preserved c = laid_more c.args.starts.now c.loop-v.ends c.loop-v.v c.loop-v-test.true c.loop-v.invariant
 
 pub returns : goal.returns
-returns c = let h = c in laid_all h.args.starts.now h.loop-v.ends h.loop-v.v c.loop-v-test.false h.loop-v.invariant
+returns c = laid_all c.args.starts.now c.loop-v.ends c.loop-v.v c.loop-v-test.false c.loop-v.invariant

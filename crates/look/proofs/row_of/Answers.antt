@@ -14,23 +14,16 @@ pub wide-stop-requires : goal.wide-stop-requires
 wide-stop-requires c = tt
 
 pub returns-then-stop-le-TARGETS : goal.returns-then-stop-le-TARGETS
-returns-then-stop-le-TARGETS c = let w3 = c in
-    let w2 = w3 in
-    let i = w2 in
-    let w = i in
-    let a = w.args in
-    let on : w.wide-i.result + 1 ≡ suc a.v = omega (arith, w.wide-i.ensures.0) in
-    spans_whole a.starts.now a.v w.wide-i.result w.wide-i.ensures.0 _ _ i.if-i-lt-STATES.true c.if-stop-le-TARGETS.true
-    (w2.wide-from.ensures.0 ∙ same_place a.starts.now w.wide-i.ensures.0) (w3.wide-stop.ensures.0 ∙ same_place a.starts.now on) w2.wide-from.ensures.1
+returns-then-stop-le-TARGETS c = let a = c.args in
+    let on : c.wide-i.result + 1 ≡ suc a.v = omega (arith, c.wide-i.ensures.0) in
+    spans_whole a.starts.now a.v c.wide-i.result c.wide-i.ensures.0 _ _ c.if-i-lt-STATES.true c.if-stop-le-TARGETS.true
+    (c.wide-from.ensures.0 ∙ same_place a.starts.now c.wide-i.ensures.0) (c.wide-stop.ensures.0 ∙ same_place a.starts.now on) c.wide-from.ensures.1
 
 pub returns-else-stop-le-TARGETS : goal.returns-else-stop-le-TARGETS
-returns-else-stop-le-TARGETS c = let w3 = c in
-    let w = w3 in
-    let a = w.args in
-    let on : w.wide-i.result + 1 ≡ suc a.v = omega (arith, w.wide-i.ensures.0) in
-    spans_long a.starts.now a.v w.wide-i.result w.wide-i.ensures.0 _ c.if-stop-le-TARGETS.false (w3.wide-stop.ensures.0 ∙ same_place a.starts.now on)
+returns-else-stop-le-TARGETS c = let a = c.args in
+    let on : c.wide-i.result + 1 ≡ suc a.v = omega (arith, c.wide-i.ensures.0) in
+    spans_long a.starts.now a.v c.wide-i.result c.wide-i.ensures.0 _ c.if-stop-le-TARGETS.false (c.wide-stop.ensures.0 ∙ same_place a.starts.now on)
 
 pub returns-else-i-lt-STATES : goal.returns-else-i-lt-STATES
-returns-else-i-lt-STATES c = let w = c in
-    let a = w.args in
-    spans_past a.starts.now a.v w.wide-i.result w.wide-i.ensures.0 c.if-i-lt-STATES.false
+returns-else-i-lt-STATES c = let a = c.args in
+    spans_past a.starts.now a.v c.wide-i.result c.wide-i.ensures.0 c.if-i-lt-STATES.false

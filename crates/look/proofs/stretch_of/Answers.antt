@@ -5,18 +5,14 @@ use Rattle.look.specs.Scan.{spanned}
 use Rattle.look.proofs.stretch_of.Goals as goal
 
 pub returns : goal.returns
-returns c = let s = c in
-    let w3 = s in
-    let w2 = w3 in
-    let w = w2 in
-    let a = w.args in
-    let i : w.wide-i.result % 512 ≡ a.v % 512 = ap (λ (n : ℕ). n % 512) w.wide-i.ensures.0 in
-    let from : w2.wide-from.result ≡ _ = w2.wide-from.ensures.0 ∙ same_place a.begins.now i in
-    let stop : w3.wide-stop.result ≡ _ = w3.wide-stop.ensures.0 ∙ same_place a.ends.now i in
+returns c = let a = c.args in
+    let i : c.wide-i.result % 512 ≡ a.v % 512 = ap (λ (n : ℕ). n % 512) c.wide-i.ensures.0 in
+    let from : c.wide-from.result ≡ _ = c.wide-from.ensures.0 ∙ same_place a.begins.now i in
+    let stop : c.wide-stop.result ≡ _ = c.wide-stop.ensures.0 ∙ same_place a.ends.now i in
     record {
       from_is = from;
-      count_is = s.span.ensures ∙ (λ j. spanned (from j) (stop j));
+      count_is = c.span.ensures ∙ (λ j. spanned (from j) (stop j));
       base_is = c.wide.ensures.0 ∙ same_place a.bases.now i;
-      from_small = w2.wide-from.ensures.1;
+      from_small = c.wide-from.ensures.1;
       base_small = c.wide.ensures.1;
     }

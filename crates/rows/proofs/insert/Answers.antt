@@ -15,15 +15,13 @@ use Rattle.rows.proofs.insert.Goals.{else-size-le-STATES-via-then-size-le-STATES
 -- the place and the count that were read
 found : (c : After-wide-count) → (c.wide-at.result ≡ get_or c.args.starts.now (suc c.args.v) 0)
     × (c.wide-count.result ≡ edge_count c.args.starts.now c.args.size)
-found c =
-    let s = c in (
-      c.wide-at.ensures.0 ∙ s.start_of.ensures ∙ same_place c.args.starts.now (omega arith),
-      c.wide-count.ensures.0 ∙ c.edge_count.ensures,
-    )
+found c = (
+  c.wide-at.ensures.0 ∙ c.start_of.ensures ∙ same_place c.args.starts.now (omega arith),
+  c.wide-count.ensures.0 ∙ c.edge_count.ensures,
+)
 
 -- the tests that were passed
-passed : (c : Then-count-lt-EDGES) → let w = c in
-    (w.args.size ≤ 512) × (w.args.v < w.args.size) × (w.wide-at.result ≤ w.wide-count.result) × (w.wide-count.result < 2048)
+passed : (c : Then-count-lt-EDGES) → (c.args.size ≤ 512) × (c.args.v < c.args.size) × (c.wide-at.result ≤ c.wide-count.result) × (c.wide-count.result < 2048)
 passed c = (omega (arith, c.if-size-le-STATES.true), omega (arith, ltb-true), omega (arith, leb-true), omega (arith, ltb-true))
 
 pub move_starts-requires : goal.move_starts-requires
@@ -31,11 +29,9 @@ move_starts-requires c = let p = passed c.before.before.before.before in
     (omega arith, omega arith, search rules)
 
 pub returns-then-count-lt-EDGES : goal.returns-then-count-lt-EDGES
-returns-then-count-lt-EDGES c = let f = c in
-    let p = passed f.before.before.before.before.before in
-    let w = f in
-    let a = w.args in
-    insert_done a.size a.v a.t a.targets.now a.starts.now _ _ (found w.before.before.before.before.before.before.before.before.before).0 (found w.before.before.before.before.before.before.before.before.before).1 p.0 p.1 p.2 p.3 _ _
+returns-then-count-lt-EDGES c = let p = passed c.before.before.before.before.before in
+    let a = c.args in
+    insert_done a.size a.v a.t a.targets.now a.starts.now _ _ (found c.before.before.before.before.before.before.before.before.before).0 (found c.before.before.before.before.before.before.before.before.before).1 p.0 p.1 p.2 p.3 _ _
     (omega arith) c.wide.ensures.0 _ _ c.shift_up.ensures c.move_starts.ensures
 
 pub returns-else-size-le-STATES : goal.returns-else-size-le-STATES

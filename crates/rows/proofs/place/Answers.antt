@@ -6,23 +6,20 @@ use Rattle.rows.proofs.Entries.{row_length, place_found, place_passed, place_end
 use Rattle.rows.proofs.place.Goals as goal
 
 pub returns-then-target-t : goal.returns-then-target-t
-returns-then-target-t c = let s = c in
-    let a = s.args in
+returns-then-target-t c = let a = c.args in
     let row = row_at a.targets.now a.starts.now a.v in
     let len = row_length a.targets.now a.starts.now a.v in
-    omega (arith, place_found a.t row s.loop-k.k c.target.result (omega arith) c.target.ensures c.if-target-t.true)
+    omega (arith, place_found a.t row c.loop-k.k c.target.result (omega arith) c.target.ensures c.if-target-t.true)
 
 pub loop-k-preserved : goal.loop-k-preserved
-loop-k-preserved c = let s = c in
-    let a = s.args in
+loop-k-preserved c = let a = c.args in
     let row = row_at a.targets.now a.starts.now a.v in
     let len = row_length a.targets.now a.starts.now a.v in
-    let passed = place_passed a.t row s.loop-k.k c.target.result (omega arith) c.target.ensures c.if-target-t.false in
+    let passed = place_passed a.t row c.loop-k.k c.target.result (omega arith) c.target.ensures c.if-target-t.false in
     (omega arith, rw add-one (omega arith))
 
 pub returns : goal.returns
-returns c = let s = c in
-    let a = s.args in
+returns c = let a = c.args in
     let row = row_at a.targets.now a.starts.now a.v in
     let len = row_length a.targets.now a.starts.now a.v in
-    omega (arith, place_end a.t row s.loop-k.k (omega arith))
+    omega (arith, place_end a.t row c.loop-k.k (omega arith))

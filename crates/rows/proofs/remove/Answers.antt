@@ -20,13 +20,11 @@ at c = c.wide.result + c.wide-2.result
 found : (c : After-wide-count) → (at c ≡ get_or c.args.starts.now c.args.v 0 + c.args.k)
     × (c.wide-count.result ≡ edge_count c.args.starts.now c.args.size)
 found c =
-    let s = c in
-    let from = s.start_of.ensures ∙ same_place c.args.starts.now s.wide-i.ensures.0 in
+    let from = c.start_of.ensures ∙ same_place c.args.starts.now c.wide-i.ensures.0 in
     (omega arith, c.wide-count.ensures.0 ∙ c.edge_count.ensures)
 
 -- the tests that were passed
-passed : (c : Then-count-le-EDGES) → let w = c in
-    (w.args.size ≤ 512) × (w.args.v < w.args.size) × (at w.before.before.before.before < w.wide-count.result) × (w.wide-count.result ≤ 2048)
+passed : (c : Then-count-le-EDGES) → (c.args.size ≤ 512) × (c.args.v < c.args.size) × (at c.before.before.before.before < c.wide-count.result) × (c.wide-count.result ≤ 2048)
 passed c = (omega (arith, c.if-size-le-STATES.true), omega (arith, ltb-true), omega (arith, ltb-true), omega (arith, leb-true))
 
 pub move_starts-requires : goal.move_starts-requires
@@ -34,11 +32,9 @@ move_starts-requires c = let p = passed c.before.before.before.before in
     (omega arith, omega arith, search rules)
 
 pub returns-then-count-le-EDGES : goal.returns-then-count-le-EDGES
-returns-then-count-le-EDGES c = let f = c in
-    let p = passed f.before.before.before.before.before in
-    let w = f in
-    let a = w.args in
-    remove_done a.size a.v a.k a.targets.now a.starts.now _ _ (found w.before.before.before.before.before.before.before.before.before).0 (found w.before.before.before.before.before.before.before.before.before).1 p.0 p.1 p.2 p.3 _ _
+returns-then-count-le-EDGES c = let p = passed c.before.before.before.before.before in
+    let a = c.args in
+    remove_done a.size a.v a.k a.targets.now a.starts.now _ _ (found c.before.before.before.before.before.before.before.before.before).0 (found c.before.before.before.before.before.before.before.before.before).1 p.0 p.1 p.2 p.3 _ _
     (omega arith) c.wide-then-count-le-EDGES.ensures.0 _ _ c.shift_down.ensures c.move_starts.ensures
 
 pub returns-else-size-le-STATES : goal.returns-else-size-le-STATES

@@ -13,19 +13,18 @@ pub loop-j-init : goal.loop-j-init
 loop-j-init c = (search rules, omega arith, copy_begins c.args.targets.now c.args.at (drop (suc c.args.at) c.args.targets.now))
 
 pub loop-j-preserved : goal.loop-j-preserved
-loop-j-preserved c = let s = c in
-    let a = s.args in
+loop-j-preserved c = let a = c.args in
     let xs = a.targets.now in
-    let j = s.loop-j.j in
+    let j = c.loop-j.j in
     let src = drop (suc a.at) xs in
     let lens : length src ≡ length xs - suc a.at = length-drop (suc a.at) xs in
     let more : j - a.at < length src = omega arith in
     let place : suc a.at + (j - a.at) ≡ j + 1 = omega arith in
-    let read : get_or s.loop-j.targets (j + 1) 0 ≡ get_or src (j - a.at) 0 =
-    copy_reads xs a.at src j (omega arith) (omega arith) more s.loop-j.targets s.loop-j.invariant.2 (j + 1) (omega arith)
+    let read : get_or c.loop-j.targets (j + 1) 0 ≡ get_or src (j - a.at) 0 =
+    copy_reads xs a.at src j (omega arith) (omega arith) more c.loop-j.targets c.loop-j.invariant.2 (j + 1) (omega arith)
     ∙ sym (get_or-drop (suc a.at) xs (j - a.at) 0 ∙ same_place xs place)
     in
-    (omega arith, omega arith, copy_stores xs a.at src j (omega arith) (omega arith) more s.loop-j.targets s.loop-j.invariant.2 _ read)
+    (omega arith, omega arith, copy_stores xs a.at src j (omega arith) (omega arith) more c.loop-j.targets c.loop-j.invariant.2 _ read)
 
 pub returns : goal.returns
 unfolding shut

@@ -15,22 +15,21 @@ pub loop-j-init : goal.loop-j-init
 loop-j-init c = (search rules, omega arith, copy_begins c.args.targets.now c.args.at (c.args.t ∷ drop c.args.at c.args.targets.now), rw sub_self refl)
 
 pub loop-j-preserved : goal.loop-j-preserved
-loop-j-preserved c = let s = c in
-    let a = s.args in
+loop-j-preserved c = let a = c.args in
     let xs = a.targets.now in
-    let j = s.loop-j.j in
+    let j = c.loop-j.j in
     let src = a.t ∷ drop a.at xs in
     let lens : length (drop a.at xs) ≡ length xs - a.at = length-drop a.at xs in
     let more : j - a.at < length src = omega arith in
     let next : j + 1 - a.at ≡ suc (j - a.at) = omega arith in
     let place : a.at + (j - a.at) ≡ j = omega arith in
-    let read : get_or s.loop-j.targets j 0 ≡ get_or src (suc (j - a.at)) 0 =
-    copy_reads xs a.at src j (omega arith) (omega arith) more s.loop-j.targets s.loop-j.invariant.2 j (omega arith)
+    let read : get_or c.loop-j.targets j 0 ≡ get_or src (suc (j - a.at)) 0 =
+    copy_reads xs a.at src j (omega arith) (omega arith) more c.loop-j.targets c.loop-j.invariant.2 j (omega arith)
     ∙ sym (get_or-drop a.at xs (j - a.at) 0 ∙ same_place xs place)
     in (
       omega arith,
       omega arith,
-      copy_stores xs a.at src j (omega arith) (omega arith) more s.loop-j.targets s.loop-j.invariant.2 s.loop-j.carry s.loop-j.invariant.3,
+      copy_stores xs a.at src j (omega arith) (omega arith) more c.loop-j.targets c.loop-j.invariant.2 c.loop-j.carry c.loop-j.invariant.3,
       rw next read,
     )
 

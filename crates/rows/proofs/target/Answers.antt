@@ -13,8 +13,7 @@ use Rattle.rows.proofs.target.Goals.{After-wide-then-k-degree-2}
 found : (c : After-wide-then-k-degree-2) → (c.args.k < degree_at c.args.starts.now c.args.v)
     × (c.wide-then-k-degree.result + c.wide-then-k-degree-2.result ≡ get_or c.args.starts.now c.args.v 0 + c.args.k)
 found c =
-    let s = c in
-    let from = s.start_of.ensures ∙ same_place c.args.starts.now s.wide.ensures.0 in
+    let from = c.start_of.ensures ∙ same_place c.args.starts.now c.wide.ensures.0 in
     (omega arith, omega arith)
 
 pub returns-then-at-lt-EDGES : goal.returns-then-at-lt-EDGES
