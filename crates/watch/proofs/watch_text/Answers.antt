@@ -4,10 +4,9 @@ use mathlib.Core.Path.{◌≡◌, refl, sym, ap, subst, ◌∙◌}
 use mathlib.Core.List.{List}
 use native.Mathlib.Omega.{arith}
 use borrow.Author.Rules.{rules}
-use lib.ListN.{length, take, drop}
+use lib.ListN.{length, take}
 use lib.Seq.{length-take-le}
 use Rattle.line.specs.Records.{record_of}
-use Rattle.line.specs.declared.Record.{Record}
 use Rattle.line.proofs.Fields.{end_within}
 use Rattle.line.proofs.Paying.{record_pay}
 use Rattle.question.specs.declared.Reply.{Reply}
@@ -19,7 +18,7 @@ use Rattle.lead.specs.declared.Task.TheVariants.{Ask as Asks}
 use Rattle.lead.specs.declared.Ask.{Ask}
 use Rattle.lead.specs.declared.Plan.{Plan}
 use Rattle.lead.specs.Asked.{numbers_most, asked}
-use Rattle.watch.specs.Text.{Held, waiting, room, step, output_of}
+use Rattle.watch.specs.Text.{Held, waiting, room, output_of}
 use Rattle.watch.specs.declared.Written.{Written}
 use Rattle.watch.specs.Model.{Serves, Replied, Writes, lines_most}
 use Rattle.watch.proofs.Steps.{Lent, lent_to, filed_in, Tracks}
@@ -51,6 +50,10 @@ told : (l : Lead) (y y' : Lent) (s : Session) (p : Held) (walk bytes : List ℕ)
     → Served plan.task l y' s walk c walk' task → Replied task c.session reply → Writes plan y'.marks c.answer reply walk' d d' w → Behind p (record_of bytes) y' c.session d d' w
 told l y y' s p walk bytes plan task c reply walk' d d' w n k b h f e v u t =
     behind l y s p walk (record_of bytes) y' c reply walk' d d' w n k b h (record_pay bytes) f plan e v.done (subst (λ (x : Task). Replied x c.session reply) v.same u) t
+
+-- a line ends within the text
+pub slice_bounds-read-end-in-loop-from : goal.slice_bounds-read-end-in-loop-from
+slice_bounds-read-end-in-loop-from c = end_within 10 _ c.loop-from.from _ (omega arith) c.end_of-end.ensures
 
 pub slice_bounds-write-end : goal.slice_bounds-write-end
 slice_bounds-write-end c = elim c.match-task.branch [
