@@ -1,5 +1,5 @@
 -- `watch::watch_text`: what is left to be written behind `at` is what the lines from `from` on are answered with, by what is held.
-use Prim.Native.Nat.{ℕ, ◌-◌}
+use Prim.Native.Nat.{ℕ}
 use mathlib.Core.Path.{◌≡◌, refl, sym, ap, subst, ◌∙◌}
 use mathlib.Core.List.{List}
 use native.Mathlib.Omega.{arith}
