@@ -16,9 +16,9 @@ use Rattle.console.proofs.Printing.{Read}
 use Rattle.desk.specs.Desk.{is_read}
 use Rattle.desk.proofs.main.Given as goal
 
-abbrev pub invariant-loop-marks : goal.invariant-loop-marks
-invariant-loop-marks l = (length l.numbers ≡ numbers_most) × (length l.walk ≡ room) × (length l.lines ≡ lines_most) × (length l.buf ≡ chunk) × (length l.held ≡ held_most) × Within l.r chunk
+abbrev pub invariant-loop-input : goal.invariant-loop-input
+invariant-loop-input l = (length l.numbers ≡ numbers_most) × (length l.walk ≡ room) × (length l.lines ≡ lines_most) × (length l.buf ≡ chunk) × (length l.held ≡ held_most) × Within l.r chunk
     × ((ls : List (List ℕ)) × ((seen : List ℕ) × (Read l.r l.held l.buf seen ls × ((is_read l.lead.stage ≡ false) × Tracks l.lead (lent_to l.marks l.numbers) no_game (held_behind waiting (map record_of ls))))))
 
-abbrev pub decreases-loop-marks : goal.decreases-loop-marks
-decreases-loop-marks l = l.r.left
+abbrev pub decreases-loop-input : goal.decreases-loop-input
+decreases-loop-input l = l.r.left

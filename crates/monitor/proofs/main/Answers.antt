@@ -1,33 +1,36 @@
 -- `main` is safe and ends, and writes what the plain definition prints: behind the lines of what was read so far, the lead, what is lent beside it and the session
 -- stand for what is held behind their records. The arrays keep their lengths, and each line takes off what may still come. Assumes nothing.
+use Prim.Native.Nat.{ℕ}
 use mathlib.Core.Path.{◌≡◌, refl, sym, ap, subst, ◌∙◌}
-use mathlib.Core.List.{List, [], ◌∷◌, ◌++◌, map}
-use mathlib.Core.Bool.{true}
-use mathlib.Core.Logic.{⊎_elim}
-use native.Mathlib.Omega.{arith}
+use mathlib.Core.List.{List, [], ◌∷◌, ◌++◌}
 use borrow.Author.Rules.{rules}
-use borrow.Author.Tests.{not-false}
-use Prim.Native.Nat.{ℕ, ◌≤◌}
-use lib.ListN.{length}
+use lib.ListN.{length, take}
 use lib.Seq.{length-take-le}
 use Rattle.line.specs.Records.{record_of}
 use Rattle.line.proofs.Paying.{record_pay}
+use Rattle.question.specs.declared.Reply.{Reply}
+use Rattle.session.specs.declared.Session.{Session}
+use Rattle.session.specs.declared.Outcome.{Outcome}
 use Rattle.lead.specs.declared.Lead.{Lead}
 use Rattle.lead.specs.declared.Task.{Task}
-use Rattle.watch.specs.Text.{waiting, held_behind}
-use Rattle.watch.specs.Model.{Replied}
-use Rattle.watch.proofs.Steps.{Lent, lent_to, Tracks}
-use Rattle.watch.proofs.Output.{laid_within, laid_first}
-use Rattle.watch.proofs.Turns.{Done, done_asked, done_not, Behind, behind}
-use Rattle.console.specs.Lines.{held_in, is_line, has_line}
+use Rattle.lead.specs.declared.Task.TheVariants.{Ask as Asks}
+use Rattle.lead.specs.declared.Ask.{Ask}
+use Rattle.lead.specs.declared.Plan.{Plan}
+use Rattle.lead.specs.Asked.{numbers_most, asked}
+use Rattle.watch.specs.Text.{Held, room, held_behind}
+use Rattle.watch.specs.declared.Written.{Written}
+use Rattle.watch.specs.Model.{Serves, Replied, Writes, lines_most}
+use Rattle.watch.proofs.Steps.{Lent, lent_to, filed_in, Tracks}
+use Rattle.watch.proofs.Output.{laid_within}
+use Rattle.watch.proofs.Turns.{Done, done_asked, done_else, Behind, behind}
 use Rattle.console.proofs.Reading.{within_first}
-use Rattle.console.proofs.Printing.{read_first, Come, come, Onward, goes_onward, printed, told_bytes, one_behind}
+use Rattle.console.proofs.Printing.{read_first, come, goes_onward, printed, told_bytes, one_behind}
 use Rattle.monitor.proofs.main.Goals as goal
-use Rattle.monitor.proofs.main.Goals.{After-next_line-r, After-onward-r, After-read-plan, After-write-w, At-loop-marks, Joined-task}
+use Rattle.monitor.proofs.main.Goals.{in-Ask, in_default}
 
-pub loop-marks-init : goal.loop-marks-init
+pub loop-input-init : goal.loop-input-init
 unfolding held_behind
-loop-marks-init c = (
+loop-input-init c = (
   search rules,
   search rules,
   search rules,
@@ -37,126 +40,68 @@ loop-marks-init c = (
   ([], ([], (read_first c.begin-r.result _ _ c.begin-r.ensures, (ap (λ (l : Lead). l.stage) c.first_lead-lead.ensures, refl)))),
 )
 
-pub slice_bounds-read-end-in-loop-marks : goal.slice_bounds-read-end-in-loop-marks
-slice_bounds-read-end-in-loop-marks c = let n = c.next_line-r in
-    sym (length-take-le n.result.len n.new.1.0 (omega (arith, n.ensures.within.len, n.ensures.size)))
+-- what the task asks of the session is done, and it is the task still
+record Served (task : Task) (l : Lead) (y : Lent) (s : Session) (walk : List ℕ) (c : Outcome) (walk' : List ℕ) (task' : Task) : Type 0 where
+  done : Done task l y s walk c walk'
+  same : task' ≡ task
 
--- what is lent behind a line that was read
-abbrev lent-behind : After-read-plan → Lent
-lent-behind r = lent_to r.read-plan.new.1.0 r.read-plan.new.1.1.0
+module _ (l : Lead) (y : Lent) (walk : List ℕ) (k : length walk ≡ room) (c : Outcome) (walk' : List ℕ) (task task' : Task) where
+  served_asked : (ask : Ask) (s : Session) (r : Outcome) (w : List ℕ) → task ≡ Asks ask → walk' ≡ w → c ≡ r → length w ≡ length walk
+      → Serves ask l y.marks y.numbers s walk r w → task' ≡ Asks ask → Served task l y s walk c walk' task'
+  served_asked ask s r w e f g h v t = record { done = done_asked l y walk k c walk' task ask s r w e f g h v; same = t ∙ sym e }
 
--- what the line asks of the session is done
-served-by : (c : Joined-task)
-    → let r = c in
-    let l = c in
-    Done r.read-plan.result.task l.loop-marks.lead (lent-behind r.before.before) l.loop-marks.c.session l.loop-marks.walk c.match-task.c c.match-task.walk
-served-by c =
-    let r = c in
-    let l = c in
-    ⊎_elim
-    (λ w. done_asked l.loop-marks.lead _ _ l.loop-marks.inv.1 _ _ r.read-plan.result.task _ _ _ _ w.1.given.1 w.8 w.9 w.6.kept.1.1.1.1.1.0 w.6.ensures)
-    (λ w. done_not l.loop-marks.lead _ _ l.loop-marks.inv.1 _ _ r.read-plan.result.task l.loop-marks.c w.0.keys2 w.1 w.2)
-    c.match-task.branch
+  served_else : (c₀ : Outcome) → ((ask : Ask) → task ≡ Asks ask → ⊥) → walk' ≡ walk → c ≡ c₀ → task' ≡ task → Served task l y c₀.session walk c walk' task'
+  served_else c₀ o f g t = record { done = done_else l y walk k c walk' task c₀ o f g; same = t }
 
--- and the task is what it was
-same-task : (c : Joined-task) → c.match-task.task ≡ c.read-plan.result.task
-same-task c = ⊎_elim {C = c.match-task.task ≡ c.read-plan.result.task} (λ w. w.10 ∙ sym w.1.given.1) (λ w. w.3) c.match-task.branch
+-- what is held behind the line, and the lines in the buffer
+told : (l : Lead) (y y' : Lent) (s : Session) (p : Held) (walk bytes : List ℕ) (plan : Plan) (task : Task) (c : Outcome) (reply : Reply) (walk' d d' : List ℕ) (w : Written)
+    → length y.numbers ≡ numbers_most → length walk ≡ room → length d ≡ lines_most → Tracks l y s p → y' ≡ filed_in l (record_of bytes) y → plan ≡ asked l (record_of bytes)
+    → Served plan.task l y' s walk c walk' task → Replied task c.session reply → Writes plan y'.marks c.answer reply walk' d d' w → Behind p (record_of bytes) y' c.session d d' w
+told l y y' s p walk bytes plan task c reply walk' d d' w n k b h f e v u t =
+    behind l y s p walk (record_of bytes) y' c reply walk' d d' w n k b h (record_pay bytes) f plan e v.done (subst (λ (x : Task). Replied x c.session reply) v.same u) t
 
-pub slice_bounds-write-end : goal.slice_bounds-write-end
-slice_bounds-write-end c = sym (served-by c.before.before.before.before).size
-
-pub slice_bounds-write-end-in-loop-marks : goal.slice_bounds-write-end-in-loop-marks
-slice_bounds-write-end-in-loop-marks c = sym c.loop-marks.inv.2
-
-abbrev reading : After-write-w → After-read-plan
-reading w = w
-
-abbrev found : After-write-w → After-next_line-r
-found w = (reading w).before.before.before.before.before.before
-
-abbrev at-loop : After-write-w → At-loop-marks
-at-loop w = w
-
--- the lines before it, and its own
-abbrev before-it : After-write-w → List (List ℕ)
-before-it w = (at-loop w).loop.invariant.6.0
-
-abbrev line-in : After-write-w → List ℕ
-line-in w = held_in (found w).next-line.result (found w).next-line.new.1.0
-
-told : (w : After-write-w)
-    → Behind (held_behind waiting (map record_of (before-it w))) (record_of (line-in w)) (lent-behind (reading w)) w.match-task.c.session (at-loop w).loop.lines w.write-w.new.1.1.1.1.1.0 w.write-w.result
-told w =
-    let i = (at-loop w).loop.invariant in
-    behind (at-loop w).loop.lead _ _ (held_behind waiting (map record_of (before-it w))) _ (record_of (line-in w)) _ _ _ _ _ _ _ i.0 i.1 i.2 i.6.1.1.1 (record_pay (line-in w)) (λ j. lent_to ((reading w).read.ensures.1.0 j) ((reading w).read.ensures.1.1 j)) _ (reading w).read.ensures.0
-    (served-by w.before.before.before.before.before.before) (subst (λ (x : Task). Replied x w.match-task.c.session w.reply_to-reply.result) (same-task w.before.before.before.before.before.before) w.reply_to-reply.ensures) w.write-w.ensures
-
--- what was read, the bytes that this line took included
-abbrev seen_by : After-write-w → List ℕ
-seen_by w = (at-loop w).loop.invariant.6.1.0 ++ (found w).next-line.ensures.brought
-
--- there is a line
-there : (w : After-write-w) → has_line (found w).next-line.result.status ≡ true
-there w =
-    let e = (reading w).before.before.before.before in
-    sym e.before.has-line.ensures ∙ not-false e.before.has-line.result e.if1.left
-
-came : (w : After-write-w)
-    → Come (found w).next-line.result (found w).next-line.new.1.0 (found w).next-line.new.0 (seen_by w) (before-it w)
-came w = come (at-loop w).loop.r (at-loop w).loop.held (at-loop w).loop.buf _ _ _ _ _ (found w).next-line.ensures (there w) (at-loop w).loop.invariant.6.1.1.0
-
--- the lines end within the buffer, and the first within both
-within : (w : After-write-w) → (w.write-w.result.len ≤ length w.write-w.new.1.1.1.1.1.0) × (w.write-w.result.first ≤ w.write-w.result.len)
-within w = (laid_within _ _ _ _ _ (told w).laid, laid_first _ _ _ _ _ (told w).laid)
-
-pub slice_bounds-held-end-in-loop-marks : goal.slice_bounds-held-end-in-loop-marks
-slice_bounds-held-end-in-loop-marks c = omega (arith, (found c.before).next-line.ensures.within.len)
-
-pub slice_bounds-print-end : goal.slice_bounds-print-end
-slice_bounds-print-end c = let n = (found c.before.before).next-line in
-    sym (length-take-le n.result.len n.last.1.0 (omega (arith, n.ensures.within.len, n.ensures.size)))
-
-pub slice_bounds-print-end-in-loop-marks : goal.slice_bounds-print-end-in-loop-marks
-slice_bounds-print-end-in-loop-marks c = sym (served-by c.before.before.before.before.before.before.before.before.before.before).size
-
+-- the lines end within the buffer
 pub slice_bounds-lines-end : goal.slice_bounds-lines-end
-slice_bounds-lines-end c = let w = c in
-    omega (arith, within w.before.before.before.before, w.write-w.auto.1.1.1.1.1.0, (at-loop w.before.before.before.before).loop.invariant.2)
+slice_bounds-lines-end c = laid_within _ _ _ _ _ c.write-w.ensures.laid
 
-pub slice_bounds-print-end-in-loop-marks-2 : goal.slice_bounds-print-end-in-loop-marks-2
-slice_bounds-print-end-in-loop-marks-2 c = let w = c in
-    sym (length-take-le _ w.write-w.new.1.1.1.1.1.0 (omega (arith, within w.before.before.before.before.before)))
+pub slice_bounds-print-end-in-loop-input-2 : goal.slice_bounds-print-end-in-loop-input-2
+slice_bounds-print-end-in-loop-input-2 c = sym (length-take-le _ _ (laid_within _ _ _ _ _ c.write-w.ensures.laid))
 
 pub print-requires : goal.print-requires
-print-requires c = let w = c in (
-  told_bytes (line-in w.before.before.before.before.before) _ _ _ _ _ _ _ _ _ (at-loop w.before.before.before.before.before).loop.invariant.2 (reading w.before.before.before.before.before).read.ensures.0 w.write-w.ensures,
-  printed _ _ _ _ _ _ _ _ _ (came w.before.before.before.before.before) (told w.before.before.before.before.before).laid,
-)
+print-requires c =
+    let i = c.loop-input.invariant in
+    let n = c.next_line-r in
+    let d : Served c.read-plan.result.task c.loop-input.lead (lent_to c.read-plan.new.marks c.read-plan.new.numbers) c.loop-input.c.session c.loop-input.walk c.match-task.c c.match-task.walk c.match-task.task =
+    elim c.match-task.branch [
+      | in-Ask w ↦ served_asked c.loop-input.lead _ _ i.1 _ _ c.read-plan.result.task _ _ _ _ _ w.in-Ask.is w.walk-is w.c-is w.serve-c.auto.walk w.serve-c.ensures w.task-is
+      | in_default w ↦ served_else c.loop-input.lead _ _ i.1 _ _ c.read-plan.result.task _ c.loop-input.c w.in_default.not-Ask w.walk-is w.c-is w.task-is
+    ]
+    in
+    let b = told c.loop-input.lead _ _ _ _ _ _ _ _ _ _ _ _ _ _ i.0 i.1 i.2 i.6.1.1.1 (λ k. lent_to (c.read-plan.ensures.marks_after k) (c.read-plan.ensures.numbers_after k)) c.read-plan.ensures.value d
+    c.reply_to-reply.ensures c.write-w.ensures in
+    let e = come c.loop-input.r c.loop-input.held c.loop-input.buf n.result n.new.held n.new.buf i.6.1.0 i.6.0 n.ensures (sym c.has_line.ensures ∙ c.if-not-has_line.false) i.6.1.1.0 in (
+      told_bytes (take n.result.len n.new.held) _ _ _ _ _ _ _ _ _ i.2 c.read-plan.ensures.value c.write-w.ensures,
+      printed _ _ _ _ _ _ _ _ _ e b.laid,
+    )
 
--- the line was not the last
-ended : (c : After-onward-r) → is_line (found c.before.before.before.before.before.before.before.before.before.before.before.before.before).next-line.result.status ≡ true
-ended c = sym c.is_line.ensures ∙ not-false c.is_line.result c.if-not-is_line.false-raw
-
-goes_on_lem : (c : After-onward-r)
-    → let w = c in
-    let n = (found w.before.before.before.before.before.before.before.before.before.before.before.before.before).next-line in
-    Onward (at-loop w.before.before.before.before.before.before.before.before.before.before.before.before.before).loop.r (at-loop w.before.before.before.before.before.before.before.before.before.before.before.before.before).loop.held (at-loop w.before.before.before.before.before.before.before.before.before.before.before.before.before).loop.buf n.result n.last.1.0 n.last.0 (at-loop w.before.before.before.before.before.before.before.before.before.before.before.before.before).loop.inv.6.1.0 (before-it w.before.before.before.before.before.before.before.before.before.before.before.before.before) c.onward-r.result n.ensures.brought
-goes_on_lem c =
-    let w = c in
-    goes_onward (at-loop w.before.before.before.before.before.before.before.before.before.before.before.before.before).loop.r (at-loop w.before.before.before.before.before.before.before.before.before.before.before.before.before).loop.held (at-loop w.before.before.before.before.before.before.before.before.before.before.before.before.before).loop.buf _ _ _ _ _ (found w.before.before.before.before.before.before.before.before.before.before.before.before.before).next-line.ensures c.onward-r.result c.onward-r.ensures (ended c) (at-loop w.before.before.before.before.before.before.before.before.before.before.before.before.before).loop.inv.6.1.1.0
-
-pub loop-marks-smaller : goal.loop-marks-smaller
-loop-marks-smaller c = (goes_on_lem c).fewer
-
-pub loop-marks-preserved : goal.loop-marks-preserved
-loop-marks-preserved c = let w = c in
-    let i = (at-loop w.before.before.before.before.before.before.before.before.before.before.before.before.before).loop.inv in
-    let e = (found w.before.before.before.before.before.before.before.before.before.before.before.before.before).next-line.ensures in (
-      (reading w.before.before.before.before.before.before.before.before.before.before.before.before.before).read.kept.1.1.0 ∙ i.0,
-      (served-by w.before.before.before.before.before.before.before.before.before.before.before.before.before.before.before.before.before.before.before).size,
-      w.write-w.kept.1.1.1.1.1.0 ∙ i.2,
-      e.space,
-      e.size,
-      (goes_on_lem c).within,
-      (before-it w.before.before.before.before.before.before.before.before.before.before.before.before.before ++ (line-in w.before.before.before.before.before.before.before.before.before.before.before.before.before ∷ []), (seen_by w.before.before.before.before.before.before.before.before.before.before.before.before.before, ((goes_on_lem c).read, subst (Tracks w.write-w.result.lead (lent-behind (reading w.before.before.before.before.before.before.before.before.before.before.before.before.before)) w.match-task.c.session) (one_behind (before-it w.before.before.before.before.before.before.before.before.before.before.before.before.before) (line-in w.before.before.before.before.before.before.before.before.before.before.before.before.before)) (told w.before.before.before.before.before.before.before.before.before.before.before.before.before).tracks))),
+pub loop-input-preserved : goal.loop-input-preserved
+loop-input-preserved c =
+    let i = c.loop-input.invariant in
+    let n = c.next_line-r in
+    let d : Served c.read-plan.result.task c.loop-input.lead (lent_to c.read-plan.new.marks c.read-plan.new.numbers) c.loop-input.c.session c.loop-input.walk c.match-task.c c.match-task.walk c.match-task.task =
+    elim c.match-task.branch [
+      | in-Ask w ↦ served_asked c.loop-input.lead _ _ i.1 _ _ c.read-plan.result.task _ _ _ _ _ w.in-Ask.is w.walk-is w.c-is w.serve-c.auto.walk w.serve-c.ensures w.task-is
+      | in_default w ↦ served_else c.loop-input.lead _ _ i.1 _ _ c.read-plan.result.task _ c.loop-input.c w.in_default.not-Ask w.walk-is w.c-is w.task-is
+    ]
+    in
+    let b = told c.loop-input.lead _ _ _ _ _ _ _ _ _ _ _ _ _ _ i.0 i.1 i.2 i.6.1.1.1 (λ k. lent_to (c.read-plan.ensures.marks_after k) (c.read-plan.ensures.numbers_after k)) c.read-plan.ensures.value d
+    c.reply_to-reply.ensures c.write-w.ensures in
+    let g = goes_onward c.loop-input.r c.loop-input.held c.loop-input.buf n.result n.new.held n.new.buf i.6.1.0 i.6.0 n.ensures c.onward-r.result c.onward-r.ensures (sym c.is_line.ensures ∙ c.if-not-is_line.false) i.6.1.1.0 in (
+      c.read-plan.auto.numbers ∙ i.0,
+      d.done.size,
+      c.write-w.auto.out ∙ i.2,
+      n.ensures.space,
+      n.ensures.size,
+      g.within,
+      (i.6.0 ++ (take n.result.len n.new.held ∷ []), (i.6.1.0 ++ n.ensures.brought, (g.read, subst (Tracks c.write-w.result.lead (lent_to c.read-plan.new.marks c.read-plan.new.numbers) c.match-task.c.session) (one_behind i.6.0 (take n.result.len n.new.held)) b.tracks))),
     )

@@ -13,9 +13,9 @@ use Rattle.console.specs.Lines.{chunk, held_most, Within}
 use Rattle.console.proofs.Printing.{Read}
 use Rattle.monitor.proofs.main.Given as goal
 
-abbrev pub invariant-loop-marks : goal.invariant-loop-marks
-invariant-loop-marks l = (length l.numbers ≡ numbers_most) × (length l.walk ≡ room) × (length l.lines ≡ lines_most) × (length l.buf ≡ chunk) × (length l.held ≡ held_most) × Within l.r chunk
+abbrev pub invariant-loop-input : goal.invariant-loop-input
+invariant-loop-input l = (length l.numbers ≡ numbers_most) × (length l.walk ≡ room) × (length l.lines ≡ lines_most) × (length l.buf ≡ chunk) × (length l.held ≡ held_most) × Within l.r chunk
     × ((ls : List (List ℕ)) × ((seen : List ℕ) × (Read l.r l.held l.buf seen ls × Tracks l.lead (lent_to l.marks l.numbers) l.c.session (held_behind waiting (map record_of ls)))))
 
-abbrev pub decreases-loop-marks : goal.decreases-loop-marks
-decreases-loop-marks l = l.r.left
+abbrev pub decreases-loop-input : goal.decreases-loop-input
+decreases-loop-input l = l.r.left
