@@ -1,13 +1,9 @@
 -- One line of a game, up to `go`: what is held behind it, and the lines that tell it. Assumes nothing.
 use mathlib.Core.Path.{◌≡◌, refl, sym, ap, subst, subst⁻¹, ◌∙◌}
 use mathlib.Core.Bool.{Bool, true, false, ◌&&◌, cond}
-use mathlib.Core.Logic.{⊎_elim}
 use mathlib.Core.List.{List, [], ◌∷◌}
 use Prim.Native.Nat.{ℕ, min}
 use native.Mathlib.Omega.{arith}
-use denote.Enum.Declared.{tag_of}
-use types.Run.{OneOf}
-use Rattle.lead.specs.contracts.Task.{the_type}
 use lib.Dec.{eqb}
 use lib.ListN.{length, take}
 use Rattle.plain.specs.Table.{by_kind}
@@ -185,9 +181,9 @@ module _ (l : Lead) (y : Lent) (walk : List ℕ) (k : length walk ≡ room) (a :
   pub done_asked : (task : Task) (ask : Ask) (b : Answer) (w : List ℕ) → task ≡ Asks ask → walk' ≡ w → a ≡ b → length w ≡ length walk → LoadAnswered (gathered l y.marks y.numbers) walk b w → Done task
   done_asked task ask b w e f g h v = rw (e, f, g) (record { searched = v; size = h ∙ k })
 
-  -- the tags of the tasks that ask for no load and no call
-  pub done_not : (task : Task) → OneOf (0 ∷ 1 ∷ 3 ∷ []) (tag_of the_type task) → walk' ≡ walk → Done task
-  done_not Nothing o f = record { searched = tt; size = ap length f ∙ k }
-  done_not (Refuse refusal) o f = record { searched = tt; size = ap length f ∙ k }
-  done_not (Asks ask) o f = absurd (⊎_elim (λ z. omega arith) (⊎_elim (λ z. omega arith) (λ z. omega arith)) o)
-  done_not (Questions question) o f = record { searched = tt; size = ap length f ∙ k }
+  -- a task that asks for no load and no call
+  pub done_else : (task : Task) → ((ask : Ask) → task ≡ Asks ask → ⊥) → walk' ≡ walk → Done task
+  done_else Nothing o f = record { searched = tt; size = ap length f ∙ k }
+  done_else (Refuse refusal) o f = record { searched = tt; size = ap length f ∙ k }
+  done_else (Asks ask) o f = absurd (o ask refl)
+  done_else (Questions question) o f = record { searched = tt; size = ap length f ∙ k }
