@@ -1,4 +1,4 @@
--- The layers of a game of N states have K-as-N states and K times the moves. Assumes nothing.
+-- The layers of a game of N states have K·N states and K times the moves. Assumes nothing.
 use mathlib.Core.Path.{◌≡◌, refl, sym, ap, ◌∙◌}
 use mathlib.Core.Logic.{⊎_elim}
 use mathlib.Core.List.{List, [], ◌∷◌, ◌++◌, map}
