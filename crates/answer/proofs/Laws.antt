@@ -9,8 +9,9 @@ use native.Mathlib.Numerals.{add-one}
 use native.Mathlib.Omega.{arith}
 use borrow.Author.Tests.{lt-ltb, le-ltb, le-leb, ne_eqb}
 use lib.Dec.{ltb}
+use borrow.Rule.Slice.PartMut.{put_mid}
 use lib.ListN.{length, get_or, take, drop, set, length-append, length-drop, take-append-drop}
-use lib.Seq.{length-take-le, take-append_seam, drop-append-add, drop-drop, take-length, set_split, paste}
+use lib.Seq.{length-take-le, take-append_seam, drop-append-add, drop-drop, set_split}
 use Rattle.plain.proofs.Tests.{and-true}
 use Rattle.plain.specs.Machine.{numbered, at_line, game_line, round_line, none_line, no_line, ways_line, short_line, no_round_line}
 use Rattle.line.specs.Fields.{bytes, newline}
@@ -53,9 +54,10 @@ pub put_set : (d : List ℕ) (at b : ℕ) → at < length d → Put d at (b ∷ 
 unfolding overwritten
 put_set d at b h = record { next = refl; made = set_split d at b h ∙ rw (← add-one at) }
 
-pub put_paste : (d : List ℕ) (at : ℕ) (s : List ℕ) → paste d at s (length s) ≡ overwritten d at s
+-- a copy over the part from `at` on that is as long as s
+pub put_copied : (d : List ℕ) (at k : ℕ) (s t : List ℕ) → t ≡ s → k ≡ length s → Put d at s (put_mid at k d t) (at + length s)
 unfolding overwritten
-put_paste d at s = rw (take-length s) (append_assoc (take at d) s (drop (at + length s) d))
+put_copied d at k s t e h = record { next = refl; made = rw (e, h, drop-drop (length s) at d) }
 
 -- the first r bytes of a list into whose front bs were put
 pub take_put : (d bs d' : List ℕ) (r : ℕ) → Put d 0 bs d' r → take r d' ≡ bs
@@ -87,6 +89,8 @@ length_small n h = rw (decimal_small n h)
 
 pub length_more : (n : ℕ) → 10 ≤ n → length (decimal n) ≡ length (decimal (n / 10)) + 1
 length_more n h = rw (decimal_more n h, length-append (decimal (n / 10)) _)
+
+pub ruleset decimals = (decimal_small, length_small, length_more)
 
 -- what holds of one digit, and of digits with one more behind them, holds of every decimal number
 module _ (P : ℕ → List ℕ → Type 0) (one : (n : ℕ) → n < 10 → P n ((48 + n % 10) ∷ []))
@@ -202,9 +206,6 @@ fields_more ns i h = rw (add-one i) (fields_suc ns i h)
 pub fields_none : (d : List ℕ) (at : ℕ) (ns : List ℕ) → Put d at (fields_of (take 0 ns)) d at
 unfolding fields_of
 fields_none d at ns = put_none d at
-
-pub fields_all : (ns : List ℕ) (i : ℕ) → i ≡ length ns → fields_of (take i ns) ≡ fields_of ns
-fields_all ns i e = rw (e, take-length ns)
 
 -- where all the fields fit, the next one does
 pub fields_room : (ns : List ℕ) (i : ℕ) → i < length ns → length (fields_of (take i ns)) + length (field_of (get_or ns i 0)) ≤ length (fields_of ns)

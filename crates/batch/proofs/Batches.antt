@@ -1,15 +1,16 @@
 -- The lines of a call: each as three numbers, tried one after the other on the arrays; of arrays that hold a table the trial is the plain table's. Assumes nothing.
 use mathlib.Core.Path.{◌≡◌, refl, sym, ap, subst, subst⁻¹, ◌∙◌}
 use mathlib.Core.Logic.{⊎_elim}
-use mathlib.Core.Bool.{Bool, true, false, ◌&&◌, ◌||◌, not, true≢false}
+use mathlib.Core.Bool.{Bool, true, false, ◌&&◌, not, true≢false}
 use mathlib.Core.List.{List, [], ◌∷◌, ◌++◌, map}
 use Prim.Native.Nat.{ℕ, suc, ◌+◌, ◌-◌, ◌*◌, ◌≤◌, ◌<◌}
 use native.Mathlib.Numerals.{add-one}
 use native.Mathlib.Omega.{arith}
 use lib.Dec.{eqb, ltb, leb}
-use lib.ListN.{length, get_or, drop, length-drop, drop_of_length-le}
-use lib.Seq.{drop-cons, drop-drop}
-use borrow.Author.Tests.{eqb-true, eqb-false, ne_eqb, eq-eqb, leb-true, le-leb, lt-leb, lt-ltb, le-ltb, ltb-true, ltb-false, not-true, not-false}
+use lib.ListN.{length, drop, length-drop, drop_of_length-le}
+use lib.Seq.{drop-drop}
+use borrow.Author.Tests.{eqb-true, eqb-false, ne_eqb, leb-true, lt-ltb, le-ltb, ltb-false, not-true, not-false}
+use Rattle.std.specs.Prelude.{Option, None, Some, is_some}
 use Rattle.plain.specs.Table.{Table}
 use Rattle.plain.specs.Refusals.{Trial as PlainTrial, accepted, refused, first_held, bad_size, room_condition}
 use Rattle.plain.specs.Machine.{Change, add, cut, mark, unmark, named, named_all, apply, apply_all, changes_in, conditions, misnamed, change_trial, line_conditions, lines_trial, batch_trial, BatchTrial, BatchLine as PlainLine, makes, other}
@@ -19,13 +20,13 @@ use Rattle.plain.proofs.Tables.{Valid, valid_change, changed_size, changed_kinds
 use Rattle.plain.proofs.Batches.{batch_tried, batch_short, line_accepted, line_refused}
 use Rattle.table.specs.declared.Op.{Op}
 use Rattle.table.specs.declared.Op.TheVariants.{Add, Cut, Mark, Unmark}
-use Rattle.table.specs.declared.Subject.TheVariants as Subject
 use Rattle.table.specs.declared.Switch.{Switch}
 use Rattle.table.specs.declared.Trial.{Trial}
 use Rattle.table.specs.declared.Trial.TheVariants.{Accepted, Refused}
 use Rattle.batch.specs.declared.Attempt.{Attempt}
 use Rattle.batch.specs.declared.BatchLine.{BatchLine}
-use Rattle.table.specs.Trials.{Arrays, Sized, op_of, tried, change_of, conditions_in, trial_in}
+use Rattle.table.specs.Trials.{Sized, op_of, tried, change_of, conditions_in, trial_in}
+use Rattle.table.specs.declared.Arrays.{Arrays}
 use Rattle.table.specs.Filing.{filed_in, Attempted, Stored}
 use Rattle.batch.specs.Batches.{line_for, line_to, line_in, is_change, misnamed_in, is_valid, subject_in, switch_in, lines_in, states_in, head_line, numbers_in, end_in, op_for, line_trial_in, filed_line, TriedIn, tried_in, ahead_trial, call_tried_in, is_refused, position_at, AttemptedLine, AttemptedLines, AttemptedCall}
 use Rattle.table.proofs.Trying.{tried_accepted, tried_refused, stop, skip}
@@ -33,50 +34,6 @@ use Rattle.table.proofs.Filing.{not_accepted}
 use Rattle.table.proofs.Changing.{filed_sized, conditions_same, restored}
 
 -- ---- one line
-
-pub is_none : (l : BatchLine) → l.what ≡ 0 → is_change l ≡ false
-unfolding is_change
-is_none l e = ap (λ (b : Bool). not b && leb l.what 4) (eq-eqb l.what 0 e)
-
-pub is_small : (l : BatchLine) → (l.what ≡ 0 → ⊥) → is_change l ≡ leb l.what 4
-unfolding is_change
-is_small l n = ap (λ (b : Bool). not b && leb l.what 4) (ne_eqb l.what 0 n)
-
-pub subject_edge : (l : BatchLine) → l.what ≤ 2 → subject_in l ≡ Subject.Edge l.first l.second
-unfolding subject_in
-subject_edge l h = rw (le-leb l.what 2 h)
-
-pub subject_mark : (l : BatchLine) → 2 < l.what → subject_in l ≡ Subject.Mark l.first l.second
-unfolding subject_in
-subject_mark l h = rw (lt-leb l.what 2 h)
-
--- a line that makes a change is valid by its kind, if it names one
-module _ (l : BatchLine) (made : is_change l ≡ true) where
-  by_kind : is_valid l ≡ not (misnamed_in l)
-  unfolding is_valid
-  by_kind = ap (λ (b : Bool). b && not (misnamed_in l)) made
-
-  pub valid_move : l.what ≤ 2 → is_valid l ≡ true
-  unfolding misnamed_in
-  valid_move h = by_kind ∙ ap (λ (b : Bool). not (not b && (eqb l.second 0 || ltb 4 l.second))) (le-leb l.what 2 h)
-
-  module _ (h : 2 < l.what) where
-    of_mark : is_valid l ≡ not (eqb l.second 0 || ltb 4 l.second)
-    unfolding misnamed_in
-    of_mark = by_kind ∙ ap (λ (b : Bool). not (not b && (eqb l.second 0 || ltb 4 l.second))) (lt-leb l.what 2 h)
-
-    pub valid_0 : l.second ≡ 0 → is_valid l ≡ false
-    valid_0 e = of_mark ∙ ap (λ (b : Bool). not (b || ltb 4 l.second)) (eq-eqb l.second 0 e)
-
-    pub valid_kind : (l.second ≡ 0 → ⊥) → is_valid l ≡ leb l.second 4
-    valid_kind n = of_mark ∙ ap (λ (b : Bool). not (b || ltb 4 l.second)) (ne_eqb l.second 0 n) ∙ not_less l.second
-      where
-        not_less : (k : ℕ) → not (ltb 4 k) ≡ leb k 4
-        not_less k = ⊎_elim (λ e. ap not e ∙ sym (lt-leb k 4 (ltb-true 4 k e))) (λ e. ap not e ∙ sym (le-leb k 4 (ltb-false 4 k e))) (either (ltb 4 k))
-
-pub valid_none : (l : BatchLine) → is_change l ≡ false → is_valid l ≡ false
-unfolding is_valid
-valid_none l e = ap (λ (b : Bool). b && not (misnamed_in l)) e
 
 -- one that makes a change: the change, that it is the one switched, the state that it names, and whether its kind is none
 pub record Making (l : BatchLine) : Type 0 where
@@ -164,15 +121,7 @@ pub lines_end : (ns : List ℕ) (at : ℕ) → length ns ≤ at → lines_in (dr
 unfolding lines_in
 lines_end ns at h = ap lines_in (drop_of_length-le ns h)
 
--- the line at a place: three numbers, or too few
-pub head_three : (ns : List ℕ) (at : ℕ) → at + 2 < length ns → head_line (drop at ns) ≡ line_for (get_or ns at 0) (get_or ns (at + 1) 0) (get_or ns (at + 2) 0)
-head_three ns at h =
-    let one : at + 1 ≡ suc at = omega arith in
-    let two : at + 2 ≡ suc (at + 1) = omega arith in
-    ap head_line (drop-cons ns at 0 (omega arith)
-    ∙ ap (λ (l : List ℕ). get_or ns at 0 ∷ l) (ap (λ (k : ℕ). drop k ns) (sym one) ∙ drop-cons ns (at + 1) 0 (omega arith)
-    ∙ ap (λ (l : List ℕ). get_or ns (at + 1) 0 ∷ l) (ap (λ (k : ℕ). drop k ns) (sym two) ∙ drop-cons ns (at + 2) 0 h)))
-
+-- the line at a place, where too few numbers are left
 few_none : (ns : List ℕ) → length ns < 3 → head_line ns ≡ line_for 0 0 0
 few_none [] h = refl
 few_none (a ∷ []) h = refl
@@ -182,20 +131,18 @@ few_none (a ∷ b ∷ c ∷ ns) h = absurd (omega arith)
 pub head_few : (ns : List ℕ) (at : ℕ) → length ns - at < 3 → head_line (drop at ns) ≡ line_for 0 0 0
 head_few ns at h = few_none (drop at ns) (omega (arith, length-drop at ns))
 
-pub numbers_length : (alone : Bool) (only : BatchLine) (ns : List ℕ) → length (numbers_in alone only ns) ≡ end_in alone ns
-numbers_length true only ns = refl
-numbers_length false only ns = refl
+pub numbers_length : (alone : Option BatchLine) (ns : List ℕ) → length (numbers_in alone ns) ≡ end_in alone ns
+numbers_length (Some only) ns = refl
+numbers_length None ns = refl
 
--- a change alone is the line at their head
-pub only_first : (alone : Bool) (only : BatchLine) (ns : List ℕ) (at : ℕ) → alone ≡ true → at ≡ 0 → only ≡ head_line (drop at (numbers_in alone only ns))
-only_first alone only ns at e z = λ i. head_line (drop (sym z i) (numbers_in (sym e i) only ns))
+-- a change alone is one line
+pub end_alone : (alone : Option BatchLine) (ns : List ℕ) → is_some alone ≡ true → end_in alone ns ≡ 3
+end_alone (Some only) ns e = refl
+end_alone None ns e = absurd (true≢false (sym e))
 
 -- a batch's are those of the lent list
-pub numbers_lent : (alone : Bool) (only : BatchLine) (ns : List ℕ) → alone ≡ false → numbers_in alone only ns ≡ ns
-numbers_lent alone only ns e = ap (λ (b : Bool). numbers_in b only ns) e
-
-pub head_lent : (alone : Bool) (only : BatchLine) (ns : List ℕ) (at : ℕ) → alone ≡ false → head_line (drop at (numbers_in alone only ns)) ≡ head_line (drop at ns)
-head_lent alone only ns at e = ap (λ (l : List ℕ). head_line (drop at l)) (numbers_lent alone only ns e)
+pub head_lent : (alone : Option BatchLine) (ns : List ℕ) (at : ℕ) → alone ≡ None → head_line (drop at (numbers_in alone ns)) ≡ head_line (drop at ns)
+head_lent alone ns at e = ap (λ (x : Option BatchLine). head_line (drop at (numbers_in x ns))) e
 
 -- where all lines make changes, the states that they name
 line_names : (l : BatchLine) (c : Change) → line_in l ≡ makes c → named c ≡ l.first ∷ []
@@ -317,12 +264,8 @@ early i other size kinds a room e = absurd (refused_not 1 e)
 -- what is left of the lines, tried on the arrays as they are, comes to what all of them come to
 pub record Walked (ns : List ℕ) (size kinds room : ℕ) (a₀ : Arrays) (at position : ℕ) (a : Arrays) : Type 0 where
   pub rest : tried_in position (lines_in (drop at ns)) size kinds a room ≡ tried_in 1 (lines_in ns) size kinds a₀ room
-  pub sized : Sized a
   pub place : at + 3 ≡ 3 * position
   pub few : position ≤ 65
-
-pub walk_begun : (ns : List ℕ) (size kinds room : ℕ) (a : Arrays) → Sized a → Walked ns size kinds room a 0 1 a
-walk_begun ns size kinds room a l = record { rest = refl; sized = l; place = omega arith; few = omega arith }
 
 -- an attempt that ended so
 ended_so : (alone : Bool) (x : Attempt) (k : Trial) (i : ℕ) → x ≡ record { trial = k; position = position_at alone i } → (n : PlainTrial) → k ≡ tried n → (a a' : Arrays) → a' ≡ a
@@ -365,7 +308,6 @@ module _ (ns : List ℕ) (size kinds room : ℕ) (a₀ : Arrays) (at position : 
           rest =
               (λ j. tried_in (add-one position j) (lines_in (drop (at + 3) ns)) size kinds (e.filed fine j) room)
               ∙ sym (tried_on position (line_in l) (lines_in (drop (at + 3) ns)) size kinds a room trial) ∙ next;
-          sized = line_sized (line_in l) size a a' (e.filed fine) w.sized;
           place = omega (arith, w.place);
           few = omega arith;
         }
@@ -409,13 +351,11 @@ alone_unfiled x size kinds a room e = by_trial (line_trial_in 1 x size kinds a r
     by_trial accepted k = absurd (contra (ap (λ (t : TriedIn). is_refused (tried t.trial)) (sym (tried_on 1 x [] size kinds a room k)) ∙ e) refl)
     by_trial (refused n) k = ap (λ (t : TriedIn). t.arrays) (tried_stop 1 x [] size kinds a room n k)
 
-pub call_alone : (alone : Bool) (only : BatchLine) (ns : List ℕ) (size kinds : ℕ) (a : Arrays) (room : ℕ) (x : Attempt) (a' : Arrays) → alone ≡ true
-    → AttemptedLines alone (tried_in 1 (lines_in (numbers_in alone only ns)) size kinds a room) x a' → is_refused x.trial ≡ true → a' ≡ a
+pub call_alone : (alone : Option BatchLine) (ns : List ℕ) (size kinds : ℕ) (a : Arrays) (room : ℕ) (x : Attempt) (a' : Arrays) → is_some alone ≡ true
+    → AttemptedLines (is_some alone) (tried_in 1 (lines_in (numbers_in alone ns)) size kinds a room) x a' → is_refused x.trial ≡ true → a' ≡ a
 unfolding lines_in
-call_alone alone only ns size kinds a room x a' z w e = by_alone (subst (λ (b : Bool). AttemptedLines b (tried_in 1 (lines_in (numbers_in b only ns)) size kinds a room) x a') z w)
-  where
-    by_alone : AttemptedLines true (tried_in 1 (line_in only ∷ []) size kinds a room) x a' → a' ≡ a
-    by_alone w = w.arrays_are ∙ alone_unfiled (line_in only) size kinds a room (ap is_refused (sym w.trial_is) ∙ e)
+call_alone (Some only) ns size kinds a room x a' z w e = w.arrays_are ∙ alone_unfiled (line_in only) size kinds a room (ap is_refused (sym w.trial_is) ∙ e)
+call_alone None ns size kinds a room x a' z w e = absurd (true≢false (sym z))
 
 -- the arrays of the rows keep their lengths
 lines_sized : (i : ℕ) (xs : List PlainLine) (size kinds : ℕ) (a : Arrays) (room : ℕ) → Sized a → Sized (tried_in i xs size kinds a room).arrays

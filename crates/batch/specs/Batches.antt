@@ -1,19 +1,18 @@
 -- Document 02, ticket 5: the lines of a batch as numbers, and trying them on the arrays of a table. A change alone is a list of one line. Assumes nothing.
-use Rattle.std.specs.Prelude.{ℕ, suc, ◌%◌, ◌≡◌, Bool, true, false, ◌&&◌, ◌||◌, not, cond, List, [], ◌∷◌, ◌++◌, eqb, ltb, leb, length}
+use Rattle.std.specs.Prelude.{ℕ, suc, ◌%◌, ◌≡◌, Bool, true, false, ◌&&◌, ◌||◌, not, cond, Option, None, Some, List, [], ◌∷◌, ◌++◌, eqb, ltb, leb, length}
 use Rattle.plain.specs.Refusals.{Trial as PlainTrial, accepted, refused, first_held, room_condition}
 use Rattle.plain.specs.Machine.{Change, add, cut, mark, unmark, misnamed, BatchLine as PlainLine, makes, other}
 use Rattle.table.specs.declared.Op.{Op}
 use Rattle.table.specs.declared.Op.TheVariants.{Add, Cut, Mark, Unmark}
 use Rattle.table.specs.declared.Subject.{Subject}
-use Rattle.table.specs.declared.Subject.TheVariants as Subject
 use Rattle.table.specs.declared.Switch.{Switch}
 use Rattle.table.specs.declared.Trial.{Trial}
 use Rattle.table.specs.declared.Trial.TheVariants.{Accepted, Refused}
 use Rattle.table.specs.declared.Position.{Position}
-use Rattle.table.specs.declared.Position.TheVariants as Position
 use Rattle.batch.specs.declared.Attempt.{Attempt}
 use Rattle.batch.specs.declared.BatchLine.{BatchLine}
-use Rattle.table.specs.Trials.{Arrays, tried, conditions_in}
+use Rattle.table.specs.Trials.{tried, conditions_in}
+use Rattle.table.specs.declared.Arrays.{Arrays}
 use Rattle.table.specs.Filing.{filed_in}
 
 -- ---- a line as three numbers
@@ -78,14 +77,14 @@ head_line (a ∷ b ∷ []) = line_for 0 0 0
 head_line (a ∷ b ∷ c ∷ ns) = line_for a b c
 
 -- the numbers of a call: those of its only line, or those of the lent list
-abbrev pub numbers_in : Bool → BatchLine → List ℕ → List ℕ
-numbers_in true only ns = only.what ∷ only.first ∷ only.second ∷ []
-numbers_in false only ns = ns
+abbrev pub numbers_in : Option BatchLine → List ℕ → List ℕ
+numbers_in (Some only) ns = only.what ∷ only.first ∷ only.second ∷ []
+numbers_in None ns = ns
 
 -- how many they are
-abbrev pub end_in : Bool → List ℕ → ℕ
-end_in true ns = 3
-end_in false ns = length ns
+abbrev pub end_in : Option BatchLine → List ℕ → ℕ
+end_in (Some only) ns = 3
+end_in None ns = length ns
 
 -- ---- trying them
 

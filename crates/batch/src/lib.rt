@@ -1,14 +1,14 @@
 // The lines of a call, a change alone or a batch, tried one after the other on the game's table: all are made or none.
 #![tactic(auto)]
 
-ghost use Rattle.std.specs.Prelude.{◌≡◌, true, ◌<◌, length, drop};
-ghost use Rattle.rows.specs.Rows.{Tabled};
-ghost use Rattle.table.specs.Trials.{arrays_of, tried};
+ghost use Rattle.std.specs.Prelude.{◌≡◌, true, ◌<◌, is_some, length, drop};
+ghost use Rattle.table.specs.Trials.{tried};
 ghost use Rattle.batch.specs.Batches.{line_for, line_to, is_change, is_valid, subject_in, switch_in, line_in, numbers_in, end_in, head_line, lines_in, is_refused, position_at, tried_in, ahead_trial, call_tried_in, AttemptedLine, AttemptedLines, AttemptedCall};
 
-use table::{Op, Position, Subject, Switch, Trial};
+use table::{Arrays, Op, Position, Subject, Switch, Trial};
 
 // Changes of the game: one change, or a batch, whose lines a lent list holds.
+// Kept: no `Option<Op>`, which would be no plainer: a batch is no absence of a change.
 #[derive(Clone, Copy)]
 pub enum Update {
     Change(Op),
@@ -24,6 +24,7 @@ pub enum Command {
 
 // A line of a batch: what it does, and two numbers. 1 adds a move, 2 cuts one, 3 marks a state, 4 unmarks one; of a move the numbers are its states, of a mark the state and the kind.
 // With any other number it makes no change.
+// Kept: what it does is a number, and not an enum: a lent list holds a line as three numbers, and any of them may stand there.
 #[derive(Clone, Copy)]
 pub struct BatchLine {
     pub what: u16,
@@ -46,13 +47,6 @@ const CHANGES: u16 = 64;
 
 // The most kinds of pay.
 const KINDS: u16 = 4;
-
-// It comes, or it goes.
-fn switched(on: bool, subject: Subject) -> Switch
-    ensures { result ≡ record { on = on; subject = subject } }
-{
-    Switch { on, subject }
-}
 
 fn line(what: u16, first: u16, second: u16) -> BatchLine
     ensures { result ≡ line_for what first second }
@@ -80,10 +74,7 @@ pub fn line_of(op: Op) -> BatchLine
 pub fn is_change(line: BatchLine) -> bool
     ensures { result ≡ is_change line }
 {
-    if line.what == 0 {
-        return false;
-    }
-    line.what <= 4
+    matches!(line.what, 1..=4)
 }
 
 // What a line switches that makes a change.
@@ -91,14 +82,15 @@ fn subject_in(line: BatchLine) -> Subject
     ensures { result ≡ subject_in line }
 {
     if line.what <= 2 {
-        return Subject::Edge {
+        Subject::Edge {
             from: line.first,
             to: line.second,
-        };
-    }
-    Subject::Mark {
-        state: line.first,
-        kind: line.second,
+        }
+    } else {
+        Subject::Mark {
+            state: line.first,
+            kind: line.second,
+        }
     }
 }
 
@@ -106,23 +98,17 @@ fn subject_in(line: BatchLine) -> Subject
 fn is_valid(line: BatchLine) -> bool
     ensures { result ≡ is_valid line }
 {
-    if !is_change(line) {
-        return false;
-    }
-    if line.what <= 2 {
-        return true;
-    }
-    if line.second == 0 {
-        return false;
-    }
-    line.second <= KINDS
+    is_change(line) && (line.what <= 2 || matches!(line.second, 1..=KINDS))
 }
 
 // The change that a line makes, as what it switches and which way.
 pub fn switch_in(line: BatchLine) -> Switch
     ensures { result ≡ switch_in line }
 {
-    switched(line.what % 2 == 1, subject_in(line))
+    Switch {
+        on: line.what % 2 == 1,
+        subject: subject_in(line),
+    }
 }
 
 // The state that a line's change names: the one that its move leaves, or the one marked or unmarked.
@@ -132,12 +118,12 @@ pub fn named_by(line: BatchLine) -> u16
     line.first
 }
 
-// The line at a place in the list of a call: a change alone is the only one.
-pub fn line_at(alone: bool, only: BatchLine, lines: &[u16], at: usize) -> BatchLine
-    requires { (at < length (numbers_in alone only lines.now)) × (alone ≡ true → at ≡ 0) }
-    ensures { result ≡ head_line (drop at (numbers_in alone only lines.now)) }
+// The line at a place in the list of a call. Of a change alone its only line is given; where none is given, the lines are those of a batch, in the lent list.
+pub fn line_at(alone: Option<BatchLine>, lines: &[u16], at: usize) -> BatchLine
+    requires { (at < length (numbers_in alone lines.now)) × (is_some alone ≡ true → at ≡ 0) }
+    ensures { result ≡ head_line (drop at (numbers_in alone lines.now)) }
 {
-    if alone {
+    if let Some(only) = alone {
         return only;
     }
     if lines.len() - at < LINE {
@@ -147,13 +133,10 @@ pub fn line_at(alone: bool, only: BatchLine, lines: &[u16], at: usize) -> BatchL
 }
 
 // Where the list of a call ends.
-pub fn lines_end(alone: bool, lines: &[u16]) -> usize
+pub fn lines_end(alone: Option<BatchLine>, lines: &[u16]) -> usize
     ensures { result ≡ end_in alone lines.now }
 {
-    if alone {
-        return LINE;
-    }
-    lines.len()
+    if alone.is_some() { LINE } else { lines.len() }
 }
 
 // Tries the line at a position, and makes its change in the arrays where it is accepted.
@@ -162,14 +145,10 @@ fn attempt_line(
     position: u16,
     size: u16,
     kinds: u16,
-    targets: &mut [u16; 2048],
-    starts: &mut [u16; 513],
-    words: &mut [u64; 8],
-    indegree: &mut [u16; 512],
+    arrays: &mut Arrays,
     room: usize,
 ) -> Trial
-    requires { Tabled targets.old starts.old × (length indegree.old ≡ 512) }
-    ensures { AttemptedLine (line_in line) position size kinds room (arrays_of targets.old starts.old words.old indegree.old) result (arrays_of targets.new starts.new words.new indegree.new) }
+    ensures { AttemptedLine (line_in line) position size kinds room arrays.old result arrays.new }
 {
     if !is_valid(line) {
         return Trial::Refused(1);
@@ -177,67 +156,47 @@ fn attempt_line(
     if CHANGES < position {
         return Trial::Refused(15);
     }
-    table::attempt_change(
-        switch_in(line),
-        size,
-        kinds,
-        targets,
-        starts,
-        words,
-        indegree,
-        room,
-    )
+    table::attempt_change(switch_in(line), size, kinds, arrays, room)
 }
 
 fn is_refused(trial: Trial) -> bool
     ensures { result ≡ is_refused trial }
 {
-    match trial {
-        Trial::Accepted => false,
-        Trial::Refused(n) => true,
-    }
+    matches!(trial, Trial::Refused(_))
 }
 
 // An attempt that ends with the line at a position, where it is one of a batch.
-fn ended(alone: bool, trial: Trial, position: u16) -> Attempt
-    ensures { result ≡ record { trial = trial; position = position_at alone position } }
+fn ended(alone: Option<BatchLine>, trial: Trial, position: u16) -> Attempt
+    ensures { result ≡ record { trial = trial; position = position_at (is_some alone) position } }
 {
-    if alone {
-        return Attempt {
-            trial,
-            position: Position::Alone,
-        };
-    }
     Attempt {
         trial,
-        position: Position::Line(position),
+        position: if alone.is_some() {
+            Position::Alone
+        } else {
+            Position::Line(position)
+        },
     }
 }
 
 // Tries the lines of a call one after the other, each on the table as those before it leave it, up to the first that is refused.
 fn attempt_lines(
-    alone: bool,
-    only: BatchLine,
+    alone: Option<BatchLine>,
     lines: &[u16],
     size: u16,
     kinds: u16,
-    targets: &mut [u16; 2048],
-    starts: &mut [u16; 513],
-    words: &mut [u64; 8],
-    indegree: &mut [u16; 512],
+    arrays: &mut Arrays,
     room: usize,
 ) -> Attempt
-    requires { Tabled targets.old starts.old × (length indegree.old ≡ 512) }
-    ensures { AttemptedLines alone (tried_in 1 (lines_in (numbers_in alone only lines.now)) size kinds (arrays_of targets.old starts.old words.old indegree.old) room) result (arrays_of targets.new starts.new words.new indegree.new) }
+    ensures { AttemptedLines (is_some alone) (tried_in 1 (lines_in (numbers_in alone lines.now)) size kinds arrays.old room) result arrays.new }
 {
     let end = lines_end(alone, lines);
     let mut at: usize = 0;
     let mut position: u16 = 1;
+    // Kept: the place goes by three and the position by one, and `step_by` zipped with a count is no plainer.
     while at < end {
-        let line = line_at(alone, only, lines, at);
-        let trial = attempt_line(
-            line, position, size, kinds, targets, starts, words, indegree, room,
-        );
+        let line = line_at(alone, lines, at);
+        let trial = attempt_line(line, position, size, kinds, arrays, room);
         if is_refused(trial) {
             return ended(alone, trial, position);
         }
@@ -248,10 +207,10 @@ fn attempt_lines(
 }
 
 // What is tried ahead of a batch: that there is a game, and 11.
-fn ahead_trial(alone: bool, size: u16, kinds: u16, room: usize) -> Trial
-    ensures { result ≡ tried (ahead_trial alone size kinds room) }
+fn ahead_trial(alone: Option<BatchLine>, size: u16, kinds: u16, room: usize) -> Trial
+    ensures { result ≡ tried (ahead_trial (is_some alone) size kinds room) }
 {
-    if alone {
+    if alone.is_some() {
         return Trial::Accepted;
     }
     if size == 0 {
@@ -263,42 +222,26 @@ fn ahead_trial(alone: bool, size: u16, kinds: u16, room: usize) -> Trial
 // Tries a call, and makes its changes in the arrays where all are accepted. Where a line of a batch is refused, the arrays are put back as they were. The old ones
 // are held here, and by a batch alone: so the compiler has no copy of them to make for a change (docs/DECISIONS.md, 83).
 pub fn attempt_call(
-    alone: bool,
-    only: BatchLine,
+    alone: Option<BatchLine>,
     lines: &[u16],
     size: u16,
     kinds: u16,
-    targets: &mut [u16; 2048],
-    starts: &mut [u16; 513],
-    words: &mut [u64; 8],
-    indegree: &mut [u16; 512],
+    arrays: &mut Arrays,
     room: usize,
 ) -> Attempt
-    requires { Tabled targets.old starts.old × (length indegree.old ≡ 512) }
-    ensures { AttemptedCall alone (call_tried_in alone (lines_in (numbers_in alone only lines.now)) size kinds (arrays_of targets.old starts.old words.old indegree.old) room) (arrays_of targets.old starts.old words.old indegree.old) result (arrays_of targets.new starts.new words.new indegree.new) }
+    ensures { AttemptedCall (is_some alone) (call_tried_in (is_some alone) (lines_in (numbers_in alone lines.now)) size kinds arrays.old room) arrays.old result arrays.new }
 {
     let ahead = ahead_trial(alone, size, kinds, room);
     if is_refused(ahead) {
         return ended(alone, ahead, 0);
     }
-    if alone {
-        return attempt_lines(
-            alone, only, lines, size, kinds, targets, starts, words, indegree, room,
-        );
+    if alone.is_some() {
+        return attempt_lines(alone, lines, size, kinds, arrays, room);
     }
-    let old_targets = *targets;
-    let old_starts = *starts;
-    let old_words = *words;
-    let old_indegree = *indegree;
-    let r = attempt_lines(
-        alone, only, lines, size, kinds, targets, starts, words, indegree, room,
-    );
-    let trial = r.trial;
-    if is_refused(trial) {
-        *targets = old_targets;
-        *starts = old_starts;
-        *words = old_words;
-        *indegree = old_indegree;
+    let old = *arrays;
+    let r = attempt_lines(alone, lines, size, kinds, arrays, room);
+    if is_refused(r.trial) {
+        *arrays = old;
     }
     r
 }

@@ -1,13 +1,14 @@
 -- The component search from its first turn to its last: it finds every state on a round. Assumes nothing.
 use mathlib.Core.Path.{◌≡◌, refl, sym, ap, subst, ◌∙◌}
 use mathlib.Core.Logic.{⊎_elim}
-use mathlib.Core.Bool.{Bool, true, false}
+use mathlib.Core.Bool.{Bool}
 use mathlib.Core.List.{List, [], ◌∷◌, ◌++◌}
 use Prim.Native.Nat.{ℕ, zero, suc, ◌-◌, ◌≤◌, ◌<◌}
 use native.Mathlib.Omega.{arith}
 use lib.Dec.{eqb}
 use lib.ListN.{length, get_or, set, drop, replicate}
 use borrow.Author.Tests.{eq-eqb}
+use Rattle.std.specs.Prelude.{None, Some}
 use Rattle.plain.specs.Lists.{filter, below, elem, In}
 use Rattle.plain.specs.Search.{Frame, frame}
 use Rattle.plain.specs.Cycles.{Kinded}
@@ -16,9 +17,12 @@ use Rattle.plain.proofs.Tests.{either, same, out_nil, in_filter, filter_in}
 use Rattle.plain.proofs.Upto.{in_below, below_in, rising_below, rising_filter, rising_same}
 use Rattle.plain.proofs.Rounds.{listed_by, rounds_rising, rounds_below}
 use Rattle.look.specs.Numbers.{no_number, up}
+use Rattle.components.specs.declared.Board.{Board}
 use Rattle.components.specs.declared.Cursor.{Cursor}
+use Rattle.look.specs.declared.Edge.{Edge}
 use Rattle.components.specs.declared.Scanned.{Scanned}
-use Rattle.components.specs.Model.{within, row_of, on_round, Board, board_of, Stand, stand_of, grouped, scanned, discovered, departed, onwards, advanced, states_found}
+use Rattle.components.specs.declared.Stand.{Stand}
+use Rattle.components.specs.Model.{within, row_of, on_round, board_of, grouped, scanned, discovered, departed, onwards, advanced, states_found}
 use Rattle.components.proofs.Groups.{Group, group, members_of, path_of}
 use Rattle.components.proofs.Invariant.{Inv, inv_begins, all_found}
 use Rattle.components.proofs.Boards.{number_of, number_found, number_closed, number_open, placed_none}
@@ -67,8 +71,8 @@ module _ (targets starts words : List ℕ) (size kinds start : ℕ) where
         (out_nil (within start), out_nil (within start));
   }
 
-  pub at_first_lem : (b : Board) (c : Cursor) → stand_of b c ≡ discovered blank first (within start) → At targets starts words size kinds start b c
-  at_first_lem b c e = subst (λ (s : Stand). At targets starts words size kinds start s.board s.cursor) (sym e) begins
+  pub at_first_lem : (s : Stand) → s ≡ discovered blank first (within start) → At targets starts words size kinds start s.board s.cursor
+  at_first_lem s e = subst (λ (s : Stand). At targets starts words size kinds start s.board s.cursor) (sym e) begins
 
   -- ---- the turns between
 
@@ -94,14 +98,14 @@ module _ (targets starts words : List ℕ) (size kinds start : ℕ) where
         ∙ (λ i. onwards targets starts words size kinds b c (scanned b.number b.firsts (drop e (row_of targets starts (w.framed.0 i))) e c.groups))
         ∙ (λ i. onwards targets starts words size kinds b c (scanned b.number b.firsts (sym w.framed.1 i) e c.groups))
 
-    onwards_done : (r : Scanned) → r.found ≡ false → onwards targets starts words size kinds b c r ≡ departed targets starts words size kinds b (grouped c r.groups)
+    onwards_done : (r : Scanned) → r.found ≡ None → onwards targets starts words size kinds b c r ≡ departed targets starts words size kinds b (grouped c r.groups)
     unfolding onwards
     onwards_done r z = rw z
 
-    onwards_new : (r : Scanned) → r.found ≡ true
-        → onwards targets starts words size kinds b c r ≡ discovered (board_of b.number b.stack b.firsts b.path (set b.next (c.height - 1) (up r.edge))) (grouped c r.groups) r.target
+    onwards_new : (r : Scanned) (edge : Edge) → r.found ≡ Some edge
+        → onwards targets starts words size kinds b c r ≡ discovered (board_of b.number b.stack b.firsts b.path (set b.next (c.height - 1) (up edge.index))) (grouped c r.groups) edge.target
     unfolding onwards
-    onwards_new r z = rw z
+    onwards_new r edge z = rw z
 
     -- the same arrays, by the groups that are left
     abbrev ms' : List ℕ
@@ -120,23 +124,23 @@ module _ (targets starts words : List ℕ) (size kinds start : ℕ) where
     inv_then : (us : List ℕ) → gone.ts ≡ us → Inv a (group ms' (frame s us ∷ p') ∷ gs') f k
     inv_then us z = subst (λ (xs : List ℕ). Inv a (group ms' (frame s xs ∷ p') ∷ gs') f k) z gone.going.inv
 
-    done : gone_to.found ≡ false → gone.ts ≡ [] → Turn targets starts words size kinds start b c (onwards targets starts words size kinds b c gone_to)
+    done : gone_to.found ≡ None → gone.ts ≡ [] → Turn targets starts words size kinds start b c (onwards targets starts words size kinds b c gone_to)
     done z none =
         let grouped-then = laid_grouped targets starts words size kinds start b c (ms' ++ members_of gs') (firsts_of (group ms (frame s ts ∷ q) ∷ gs)) (firsts_of (group ms' p' ∷ gs'))
         (frame s ts ∷ p' ++ path_of gs') f k gone_to.groups laid_then gone.going.firsts_are (gone.groups_is ∙ ap suc (sym (firsts_length gs'))) in
         let t = turn_done targets starts words size kinds start b (grouped c gone_to.groups) f k s ts ms' p' gs' grouped-then (inv_then [] none) gone.going.walked in
         subst (Turn targets starts words size kinds start b c) (sym (onwards_done gone_to z)) (record { at = t.at; lighter = t.lighter })
 
-    new : gone_to.found ≡ true → gone_to.edge ≡ gone.e → get_or b.number gone_to.target 0 ≡ no_number → (rest : List ℕ) → gone.ts ≡ gone_to.target ∷ rest
+    new : (edge : Edge) → gone_to.found ≡ Some edge → edge.index ≡ gone.e → get_or b.number edge.target 0 ≡ no_number → (rest : List ℕ) → gone.ts ≡ edge.target ∷ rest
         → Turn targets starts words size kinds start b c (onwards targets starts words size kinds b c gone_to)
-    new z edge unknown rest next =
-        subst (Turn targets starts words size kinds start b c) (sym (onwards_new gone_to z))
-        (turn_new targets starts words size kinds start b c (firsts_of (group ms (frame s ts ∷ q) ∷ gs)) f k s ts gone_to ms' rest p' gs' laid_then (inv_then (gone_to.target ∷ rest) next) gone.going.walked
-        gone.going.firsts_are gone.groups_is (sym next ∙ gone.going.left ∙ ap (λ (n : ℕ). drop n (a.graph.successors s)) (sym edge)) unknown)
+    new edge z index unknown rest next =
+        subst (Turn targets starts words size kinds start b c) (sym (onwards_new gone_to edge z))
+        (turn_new targets starts words size kinds start b c (firsts_of (group ms (frame s ts ∷ q) ∷ gs)) f k s ts gone_to.groups edge ms' rest p' gs' laid_then (inv_then (edge.target ∷ rest) next) gone.going.walked
+        gone.going.firsts_are gone.groups_is (sym next ∙ gone.going.left ∙ ap (λ (n : ℕ). drop n (a.graph.successors s)) (sym index)) unknown)
 
     turn_at : Turn targets starts words size kinds start b c (advanced targets starts words size kinds b c)
     turn_at = subst (Turn targets starts words size kinds start b c) (sym advanced_is)
-        (⊎_elim (λ (z, none). done z none) (λ (z, edge, unknown, rest, next). new z edge unknown rest next) gone.ending)
+        (⊎_elim (λ (z, none). done z none) (λ (edge, z, index, unknown, rest, next). new edge z index unknown rest next) gone.ending)
 
   -- A TURN: the arrays stand for groups again, and less is left to do.
   turn : (b : Board) (c : Cursor) → At targets starts words size kinds start b c → 0 < c.height → Turn targets starts words size kinds start b c (advanced targets starts words size kinds b c)
@@ -149,9 +153,9 @@ module _ (targets starts words : List ℕ) (size kinds start : ℕ) where
           turn_at b c w.f w.k ms s ts q gs (subst (λ (z : List Frame). Inv a (group ms z ∷ gs) w.f w.k) e v) walked
           (subst (λ (z : List Frame). Laid targets starts words size kinds start b c (ms ++ members_of gs) (firsts_of (group ms z ∷ gs)) (z ++ path_of gs) w.f w.k) e l)
 
-  pub turned : (b : Board) (c : Cursor) (b' : Board) (c' : Cursor) → At targets starts words size kinds start b c → 0 < c.height → stand_of b' c' ≡ advanced targets starts words size kinds b c
-      → Turn targets starts words size kinds start b c (stand_of b' c')
-  turned b c b' c' w h e = subst (Turn targets starts words size kinds start b c) (sym e) (turn b c w h)
+  pub turned : (b : Board) (c : Cursor) (s : Stand) → At targets starts words size kinds start b c → 0 < c.height → s ≡ advanced targets starts words size kinds b c
+      → Turn targets starts words size kinds start b c s
+  turned b c s w h e = subst (Turn targets starts words size kinds start b c) (sym e) (turn b c w h)
 
   -- ---- the last
 

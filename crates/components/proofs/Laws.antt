@@ -6,23 +6,22 @@ use mathlib.Core.List.{List, [], ◌∷◌, ◌++◌, append-nil, map}
 use Prim.Native.Nat.{ℕ, zero, suc, ◌+◌, ◌*◌, ◌-◌, ◌/◌, ◌%◌, ◌≤◌, ◌<◌}
 use native.Mathlib.Numerals.{add-one}
 use native.Mathlib.Omega.{arith}
-use lib.Dec.{eqb, ltb, leb}
+use lib.Dec.{eqb, ltb}
 use lib.ListN.{length, get_or, set, drop, replicate, length-append, length-set}
-use borrow.Author.Tests.{lt-ltb, le-ltb, le-leb, lt-leb, eq-eqb, ne_eqb}
+use borrow.Author.Tests.{lt-ltb, le-ltb, eq-eqb, ne_eqb}
+use Rattle.std.specs.Prelude.{None, Some}
+use Rattle.std.specs.List.{list_any, list_all, range_with_len}
 use Rattle.plain.specs.Lists.{any, filter, below, elem}
 use Rattle.plain.specs.Table.{accepts, with_bit, with_mark, with_marks, marking}
-use Rattle.plain.proofs.Tests.{either, or_first, filter_yes, filter_no, filter_short}
+use Rattle.plain.proofs.Tests.{either, filter_yes, filter_no, filter_short}
 use Rattle.rows.specs.Rows.{entries}
 use Rattle.rows.proofs.Paste.{same_place}
 use Rattle.rows.proofs.Entries.{entries_none, entries_next}
 use Rattle.look.specs.declared.Row.{Row}
-use Rattle.look.specs.Numbers.{no_number, up}
+use Rattle.look.specs.Numbers.{no_number}
 use Rattle.look.specs.Scan.{Spans}
 use Rattle.look.proofs.Scans.{row_places}
-use Rattle.components.specs.declared.Cursor.{Cursor}
-use Rattle.components.specs.declared.Scanned.{Scanned}
-use Rattle.components.specs.Model.{within, row_of, found_of, closed, on_round, Board, board_of, stand_of, joined, scanned, carries_all, is_cyclic, is_round, renumbered}
-use Rattle.components.specs.Model.{discovered, first_in, is_left, departed, grouped, onwards, advanced, states_found}
+use Rattle.components.specs.Model.{within, row_of, found_of, on_round, joined, scanned, carries_all, renumbered, states_found}
 
 -- ---- groups that become one
 
@@ -66,40 +65,36 @@ pub row_test : (targets starts : List ℕ) (v : ℕ) (r : Row) → Spans starts 
 unfolding row_of
 row_test targets starts v r z = elem_any v (entries (r.stop - r.from) r.from targets) ∙ ap (λ (xs : List ℕ). elem v (map within xs)) (sym (row_places targets starts v r z))
 
--- ---- kinds, from the last down
+-- a test at each of some places is one of the entries there
+pub any_places : (p : ℕ → Bool) (xs : List ℕ) (n at : ℕ) → list_any (λ i. p (get_or xs i 0)) (range_with_len at n) ≡ any p (entries n at xs)
+unfolding any entries
+any_places p xs zero at = refl
+any_places p xs (suc n) at =
+    ap (λ (b : Bool). p (get_or xs at 0) || b) (ap (λ (m : ℕ). list_any (λ i. p (get_or xs i 0)) (range_with_len m n)) (add-one at) ∙ any_places p xs n (suc at))
+
+-- ---- kinds, each of them
+
+and_swap : (a b c : Bool) → a && (b && c) ≡ b && (a && c)
+and_swap true b c = refl
+and_swap false true c = refl
+and_swap false false c = refl
+
+-- the last number of a range may be asked first
+all_last : (test : ℕ → Bool) (n at : ℕ) → list_all test (range_with_len at (suc n)) ≡ test (at + n) && list_all test (range_with_len at n)
+all_last test zero at = let e : at ≡ at + 0 = omega arith in ap (λ (m : ℕ). test m && true) e
+all_last test (suc n) at =
+    let e : at + 1 + n ≡ at + suc n = omega arith in
+    ap (λ (b : Bool). test at && b) (all_last test n (at + 1) ∙ ap (λ (m : ℕ). test m && list_all test (range_with_len (at + 1) n)) e)
+    ∙ and_swap (test at) (test (at + suc n)) (list_all test (range_with_len (at + 1) n))
 
 module _ (words : List ℕ) (size : ℕ) (states : List ℕ) where
-  pub kinds_end : (n : ℕ) → n ≤ 0 → true ≡ carries_all words size states n
+  abbrev pub kind_carried : ℕ → Bool
+  kind_carried kind = any (λ s. accepts words (kind * size + s)) states
+
+  pub all_kinds : (n : ℕ) → list_all kind_carried (range_with_len 0 n) ≡ carries_all words size states n
   unfolding carries_all
-  kinds_end zero h = refl
-  kinds_end (suc n) h = absurd (omega arith)
-
-  -- the last of them is carried, or it is not
-  pub kinds_next : (n base : ℕ) → 0 < n → base ≡ (n - 1) * size → (b : Bool) → any (λ s. accepts words (base + s)) states ≡ b
-      → b && carries_all words size states (n - 1) ≡ carries_all words size states n
-  unfolding carries_all
-  kinds_next zero base more is b e = absurd (omega arith)
-  kinds_next (suc n) base more is b e =
-      let last : suc n - 1 ≡ n = omega arith in
-      let at : base ≡ n * size = is ∙ ap (λ (m : ℕ). m * size) last in
-      ap (λ (t : Bool). t && carries_all words size states (suc n - 1)) (sym e) ∙ (λ i. any (λ s. accepts words (at i + s)) states && carries_all words size states (last i))
-
--- ---- a complete group
-
-module _ (row : ℕ → List ℕ) (n v m : ℕ) (count : m ≡ n) where
-  pub cyclic_many : 1 < m → true ≡ is_cyclic row n v
-  unfolding is_cyclic
-  cyclic_many h = sym (or_first (ltb 1 n) (elem v (row v)) (lt-ltb 1 n (omega arith)))
-
-  pub cyclic_one : m ≤ 1 → (u : ℕ) → u ≡ v → (b : Bool) → b ≡ elem u (row u) → b ≡ is_cyclic row n v
-  unfolding is_cyclic
-  cyclic_one h u is b e = rw (le-ltb 1 n (omega arith)) (e ∙ (λ i. elem (is i) (row (is i))))
-
--- where no closed run passes them, none passes every kind
-pub round_is : (targets starts words : List ℕ) (size kinds : ℕ) (stack : List ℕ) (from stop : ℕ) (b : Bool) → is_cyclic (row_of targets starts) (stop - from) (get_or stack from 0) ≡ b
-    → b && carries_all words size (entries (stop - from) from stack) kinds ≡ is_round targets starts words size kinds stack from stop
-unfolding is_round
-round_is targets starts words size kinds stack from stop b e = ap (λ (t : Bool). t && carries_all words size (entries (stop - from) from stack) kinds) (sym e)
+  all_kinds zero = refl
+  all_kinds (suc n) = let e : 0 + n ≡ n = omega arith in all_last kind_carried n 0 ∙ (λ i. kind_carried (e i) && all_kinds n i)
 
 -- ---- the edges of a state
 
@@ -117,49 +112,46 @@ drop_targets (suc k) (suc n) at xs =
     (λ i. map within (entries (e i) (f i) xs)) ∙ drop_targets k n (suc at) xs
 
 module _ (targets : List ℕ) (from stop : ℕ) where
-  abbrev pub edges_from : ℕ → List ℕ
-  edges_from k = map within (entries (stop - (from + k)) (from + k) targets)
+  -- the targets from a place on
+  abbrev pub edges_at : ℕ → List ℕ
+  edges_at at = map within (entries (stop - at) at targets)
 
-  module _ (number firsts : List ℕ) (e n w : ℕ) (at : w ≡ e) where
-    pub scan_ends : stop ≤ from + w → record { groups = n; edge = 0; target = 0; found = false } ≡ scanned number firsts (edges_from e) e n
+  module _ (number firsts : List ℕ) (at n : ℕ) where
+    pub scan_ends : stop ≤ at → record { groups = n; found = None } ≡ scanned number firsts (edges_at at) (at - from) n
     unfolding scanned
-    scan_ends h = sym (ap (λ (ts : List ℕ). scanned number firsts (map within ts) e n) (entries_none (from + e) stop targets (omega arith)))
+    scan_ends h = sym (ap (λ (ts : List ℕ). scanned number firsts (map within ts) (at - from) n) (entries_none at stop targets h))
 
-    module _ (more : from + w < stop) (i : ℕ) (again : i ≡ e) (t : ℕ) (handed : t ≡ get_or targets (from + i) 0) where
-      next_edge : edges_from e ≡ within t ∷ edges_from (e + 1)
-      next_edge =
-          let place : from + i ≡ from + e = ap (λ (j : ℕ). from + j) again in
-          let behind : from + e + 1 ≡ from + (e + 1) = omega arith in
-          ap (map within) (entries_next (from + e) stop targets (omega arith))
-          ∙ (λ j. within (sym (handed ∙ same_place targets place) j) ∷ map within (entries (stop - behind j) (behind j) targets))
-
+    module _ (begun : from ≤ at) (more : at < stop) (t : ℕ) (t-is : t ≡ within (get_or targets at 0)) where
       -- what the target's number leads to
-      leads : scanned number firsts (edges_from e) e n
-          ≡ cond (eqb (get_or number (within t) 0) no_number) (record { groups = n; edge = e; target = within t; found = true })
-          (scanned number firsts (edges_from (e + 1)) (e + 1) (joined firsts (get_or number (within t) 0) n))
+      leads : scanned number firsts (edges_at at) (at - from) n
+          ≡ cond (eqb (get_or number t 0) no_number) (record { groups = n; found = Some (record { index = at - from; target = t }) })
+          (scanned number firsts (edges_at (at + 1)) (at + 1 - from) (joined firsts (get_or number t 0) n))
       unfolding scanned
-      leads = ap (λ (ts : List ℕ). scanned number firsts ts e n) next_edge
-          ∙ ap (λ (k : ℕ). cond (eqb (get_or number (within t) 0) no_number) (record { groups = n; edge = e; target = within t; found = true })
-          (scanned number firsts (edges_from (e + 1)) k (joined firsts (get_or number (within t) 0) n))) (sym (add-one e))
+      leads =
+          let behind : suc (at - from) ≡ at + 1 - from = omega arith in
+          ap (λ (ts : List ℕ). scanned number firsts (map within ts) (at - from) n) (entries_next at stop targets more)
+          ∙ (λ i. cond (eqb (get_or number (sym t-is i) 0) no_number) (record { groups = n; found = Some (record { index = at - from; target = sym t-is i }) })
+          (scanned number firsts (edges_at (at + 1)) (behind i) (joined firsts (get_or number (sym t-is i) 0) n)))
 
-      module _ (u : ℕ) (is : u ≡ within t) where
-        pub scan_finds : get_or number u 0 ≡ no_number → record { groups = n; edge = e; target = within t; found = true } ≡ scanned number firsts (edges_from e) e n
-        scan_finds new = sym (leads ∙ rw (eq-eqb (get_or number (within t) 0) no_number (sym (same_place number is) ∙ new)))
+      module _ (u : ℕ) (u-is : u ≡ t) where
+        pub scan_finds : get_or number u 0 ≡ no_number → record { groups = n; found = Some (record { index = at - from; target = t }) } ≡ scanned number firsts (edges_at at) (at - from) n
+        scan_finds new = sym (leads ∙ rw (eq-eqb (get_or number t 0) no_number (sym (same_place number u-is) ∙ new)))
 
         pub scan_goes_on : (get_or number u 0 ≡ no_number → ⊥) → (m : ℕ) → m ≡ joined firsts (get_or number u 0) n
-            → scanned number firsts (edges_from (e + 1)) (e + 1) m ≡ scanned number firsts (edges_from e) e n
+            → scanned number firsts (edges_at (at + 1)) (at + 1 - from) m ≡ scanned number firsts (edges_at at) (at - from) n
         scan_goes_on old m joins =
-            ap (scanned number firsts (edges_from (e + 1)) (e + 1)) (joins ∙ ap (λ (x : ℕ). joined firsts x n) (same_place number is))
-            ∙ sym (leads ∙ rw (ne_eqb (get_or number (within t) 0) no_number (λ z. old (same_place number is ∙ z))))
+            ap (scanned number firsts (edges_at (at + 1)) (at + 1 - from)) (joins ∙ ap (λ (x : ℕ). joined firsts x n) (same_place number u-is))
+            ∙ sym (leads ∙ rw (ne_eqb (get_or number t 0) no_number (λ z. old (same_place number u-is ∙ z))))
 
-pub scan_begins : (targets starts number firsts : List ℕ) (v n k : ℕ) (r : Row) → Spans starts v r
-    → scanned number firsts (edges_from targets r.from r.stop k) k n ≡ scanned number firsts (drop k (row_of targets starts v)) k n
+pub scan_begins : (targets starts number firsts : List ℕ) (v n k : ℕ) (r : Row) → Spans starts v r → (w : ℕ) → w ≡ k
+    → scanned number firsts (edges_at targets r.from r.stop (r.from + w)) (r.from + w - r.from) n ≡ scanned number firsts (drop k (row_of targets starts v)) k n
 unfolding row_of
-scan_begins targets starts number firsts v n k r z =
-    let e : r.stop - (r.from + k) ≡ r.stop - r.from - k = omega arith in
-    ap (λ (ts : List ℕ). scanned number firsts ts k n)
-    (ap (λ (m : ℕ). map within (entries m (r.from + k) targets)) e ∙ drop_targets k (r.stop - r.from) r.from targets
-    ∙ ap (λ (xs : List ℕ). drop k (map within xs)) (sym (row_places targets starts v r z)))
+scan_begins targets starts number firsts v n k r z w w-is =
+    let e : r.stop - (r.from + w) ≡ r.stop - r.from - k = omega arith in
+    let f : r.from + w - r.from ≡ k = omega arith in
+    let g : r.from + w ≡ r.from + k = omega arith in
+    (λ i. scanned number firsts (map within (entries (e i) (g i) targets)) (f i) n)
+    ∙ ap (λ (ts : List ℕ). scanned number firsts ts k n) (drop_targets k (r.stop - r.from) r.from targets ∙ ap (λ (xs : List ℕ). drop k (map within xs)) (sym (row_places targets starts v r z)))
 
 -- ---- states that get a number
 
@@ -174,78 +166,6 @@ module _ (x : ℕ) (stack : List ℕ) (at stop : ℕ) (number : List ℕ) where
   renumber_next more s is number' e =
       ap (renumbered x (entries (stop - (at + 1)) (at + 1) stack)) (e ∙ ap (λ (u : ℕ). set number u x) is)
       ∙ sym (ap (λ (ss : List ℕ). renumbered x ss number) (entries_next at stop stack more))
-
--- ---- one turn
-
-pub discovers : (b : Board) (c : Cursor) (t : ℕ) (number stack firsts path next : List ℕ) (groups top height : ℕ)
-    → number ≡ set b.number t c.top → stack ≡ set b.stack c.top t → firsts ≡ set b.firsts c.groups c.top
-    → path ≡ set b.path c.height t → next ≡ set b.next c.height 0
-    → groups ≡ up c.groups → top ≡ up c.top → height ≡ up c.height
-    → stand_of (board_of number stack firsts path next) (record { groups = groups; top = top; height = height }) ≡ discovered b c t
-unfolding discovered
-discovers b c t number stack firsts path next groups top height n s f p x g o h =
-    λ i. stand_of (board_of (n i) (s i) (f i) (p i) (x i)) (record { groups = g i; top = o i; height = h i })
-
--- the path leaves its last state
-module _ (b : Board) (c : Cursor) (height : ℕ) (height_is : height ≡ c.height - 1) (groups : ℕ) (groups_is : groups ≡ c.groups - 1)
-    (first : ℕ) (first_is : first ≡ get_or b.firsts groups 0) where
-  begins : first ≡ first_in b c
-  begins = first_is ∙ same_place b.firsts groups_is
-
-  -- is a state of the newest group left on it?
-  pub left_none : height ≤ 0 → is_left b c (c.height - 1) ≡ false
-  unfolding is_left
-  left_none h = rw (le-ltb 0 (c.height - 1) (omega arith))
-
-  module _ (more : 0 < height) (s : ℕ) (s-is : s ≡ get_or b.path (height - 1) 0) (x : ℕ) (x-is : x ≡ get_or b.number s 0) where
-    tested : is_left b c (c.height - 1) ≡ leb first x
-    unfolding is_left
-    tested =
-        let y : x ≡ get_or b.number (get_or b.path (c.height - 1 - 1) 0) 0 = x-is ∙ same_place b.number (s-is ∙ ap (λ (n : ℕ). get_or b.path (n - 1) 0) height_is) in
-        rw (lt-ltb 0 (c.height - 1) (omega arith)) (λ i. leb (sym begins i) (sym y i))
-
-    pub left_newest : first ≤ x → is_left b c (c.height - 1) ≡ true
-    left_newest h = tested ∙ le-leb first x h
-
-    pub left_older : x < first → is_left b c (c.height - 1) ≡ false
-    left_older h = tested ∙ lt-leb first x h
-
-  module _ (targets starts words : List ℕ) (size kinds : ℕ) where
-    pub departs : is_left b c (c.height - 1) ≡ true → stand_of b (record { groups = c.groups; top = c.top; height = height }) ≡ departed targets starts words size kinds b c
-    unfolding departed
-    departs some = rw some (λ i. stand_of b (record { groups = c.groups; top = c.top; height = height_is i }))
-
-    pub departs_closed : is_left b c (c.height - 1) ≡ false
-        → (round : Bool) → round ≡ is_round targets starts words size kinds b.stack first c.top → (y : ℕ) → y ≡ cond round on_round closed
-        → (number : List ℕ) → number ≡ renumbered y (entries (c.top - first) first b.stack) b.number
-        → stand_of (board_of number b.stack b.firsts b.path b.next) (record { groups = groups; top = first; height = height }) ≡ departed targets starts words size kinds b c
-    unfolding departed
-    departs_closed none round round_is y y-is number number_is =
-        let z : y ≡ cond (is_round targets starts words size kinds b.stack (first_in b c) c.top) on_round closed =
-        y-is ∙ ap (λ (t : Bool). cond t on_round closed) (round_is ∙ ap (λ (f : ℕ). is_round targets starts words size kinds b.stack f c.top) begins) in
-        let n = number_is ∙ (λ i. renumbered (z i) (entries (c.top - begins i) (begins i) b.stack) b.number) in
-        rw none (λ i. stand_of (board_of (n i) b.stack b.firsts b.path b.next) (record { groups = groups_is i; top = begins i; height = height_is i }))
-
--- the edges of the path's last state
-module _ (targets starts words : List ℕ) (size kinds : ℕ) (b : Board) (c : Cursor) (at : ℕ) (at-is : at ≡ c.height - 1)
-    (v : ℕ) (v-is : v ≡ get_or b.path at 0) (k : ℕ) (k-is : k ≡ get_or b.next at 0) (r : Scanned) (r-is : r ≡ scanned b.number b.firsts (drop k (row_of targets starts v)) k c.groups) where
-  turn : onwards targets starts words size kinds b c r ≡ advanced targets starts words size kinds b c
-  unfolding advanced
-  turn =
-      let last = v-is ∙ same_place b.path at-is in
-      let edge = k-is ∙ same_place b.next at-is in
-      ap (onwards targets starts words size kinds b c) (r-is ∙ (λ i. scanned b.number b.firsts (drop (edge i) (row_of targets starts (last i))) (edge i) c.groups))
-
-  pub advances : r.found ≡ true → (e : ℕ) → e ≡ up r.edge → (next : List ℕ) → next ≡ set b.next at e
-      → discovered (board_of b.number b.stack b.firsts b.path next) (grouped c r.groups) r.target ≡ advanced targets starts words size kinds b c
-  unfolding onwards
-  advances more e e-is next next_is =
-      let n = next_is ∙ (λ i. set b.next (at-is i) (e-is i)) in
-      rw (← turn, more) (λ i. discovered (board_of b.number b.stack b.firsts b.path (n i)) (grouped c r.groups) r.target)
-
-  pub retreats : r.found ≡ false → departed targets starts words size kinds b (grouped c r.groups) ≡ advanced targets starts words size kinds b c
-  unfolding onwards
-  retreats none = rw (← turn, none)
 
 -- ---- the states that pass a test, in rising order
 
@@ -307,20 +227,20 @@ module _ (number : List ℕ) where
     pub listed_few : count ≤ s
     listed_few = omega (arith, l.count_is, passed_few is_found s)
 
-    module _ (x : ℕ) (x-is : x ≡ get_or number s 0) (states' : List ℕ) (count' : ℕ) where
-      pub listed_one : x ≡ on_round → (i : ℕ) → i ≡ s → states' ≡ with_mark states i → count' ≡ count + 1 → Listed states' count' (s + 1)
+    module _ (states' : List ℕ) (count' : ℕ) where
+      pub listed_one : get_or number s 0 ≡ on_round → states' ≡ with_mark states s → count' ≡ count + 1 → Listed states' count' (s + 1)
       unfolding marking with_marks with_mark
-      listed_one on i i-is marks counts =
-          let e = ap found_below (add-one s) ∙ passed_more is_found s (eq-eqb (get_or number s 0) on_round (sym x-is ∙ on)) in
+      listed_one on marks counts =
+          let e = ap found_below (add-one s) ∙ passed_more is_found s (eq-eqb (get_or number s 0) on_round on) in
           record {
-            states_size = ap length marks ∙ length-set states (i / 64) (with_bit (i % 64) (get_or states (i / 64) 0)) ∙ l.states_size;
-            states_are = marks ∙ (λ j. with_mark (l.states_are j) (i-is j)) ∙ sym (ap marking e ∙ marks_append (replicate 8 0) (found_below s) (s ∷ []));
+            states_size = ap length marks ∙ length-set states (s / 64) (with_bit (s % 64) (get_or states (s / 64) 0)) ∙ l.states_size;
+            states_are = marks ∙ (λ j. with_mark (l.states_are j) s) ∙ sym (ap marking e ∙ marks_append (replicate 8 0) (found_below s) (s ∷ []));
             count_is = omega (arith, counts, l.count_is, ap length e, length-append (found_below s) (s ∷ []));
           }
 
-      pub listed_other : (x ≡ on_round → ⊥) → states' ≡ states → count' ≡ count → Listed states' count' (s + 1)
+      pub listed_other : (get_or number s 0 ≡ on_round → ⊥) → states' ≡ states → count' ≡ count → Listed states' count' (s + 1)
       listed_other off same counts =
-          let e = ap found_below (add-one s) ∙ passed_same is_found s (ne_eqb (get_or number s 0) on_round (λ z. off (x-is ∙ z))) in
+          let e = ap found_below (add-one s) ∙ passed_same is_found s (ne_eqb (get_or number s 0) on_round off) in
           record {
             states_size = ap length same ∙ l.states_size;
             states_are = same ∙ l.states_are ∙ ap marking (sym e);

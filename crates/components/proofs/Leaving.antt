@@ -17,8 +17,9 @@ use Rattle.plain.proofs.Tests.{contra, either, not-true, and-true, and_both, in_
 use Rattle.plain.proofs.Rounds.{Lies}
 use Rattle.rows.specs.Rows.{entries}
 use Rattle.look.specs.Numbers.{no_number}
+use Rattle.components.specs.declared.Board.{Board}
 use Rattle.components.specs.declared.Cursor.{Cursor}
-use Rattle.components.specs.Model.{row_of, closed, on_round, Board, board_of, stand_of, carries_all, is_cyclic, is_round, renumbered, first_in, is_left, departed}
+use Rattle.components.specs.Model.{row_of, closed, on_round, board_of, stand_of, carries_all, is_cyclic, is_round, renumbered, first_in, is_left, departed}
 use Rattle.components.proofs.Groups.{Group, group, members_of, path_of, Stack}
 use Rattle.components.proofs.Invariant.{Inv, inv_done, inv_closed, found, cyclic_back, back_cyclic, carried_passes, passes_carried}
 use Rattle.components.proofs.Boards.{piled_below, pile_entry, entry_pile, first_entry, placed, placed_low, placed_newer, placed_older, number_of, number_found, number_closed, number_open, same_number, renumbered_in, renumbered_out, renumbered_length, renumbered_blanks}

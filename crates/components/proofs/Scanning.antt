@@ -8,6 +8,7 @@ use native.Mathlib.Omega.{arith}
 use lib.Dec.{eqb, ltb}
 use lib.ListN.{length, get_or, drop, length-append}
 use borrow.Author.Tests.{eqb-true, eqb-false, lt-ltb, le-ltb}
+use Rattle.std.specs.Prelude.{None, Some}
 use Rattle.plain.specs.Lists.{elem, In}
 use Rattle.plain.specs.Search.{Frame, frame}
 use Rattle.plain.specs.Cycles.{Kinded}
@@ -17,6 +18,7 @@ use Rattle.plain.proofs.Rounds.{StartInside, MovesInside}
 use Rattle.look.specs.Numbers.{no_number}
 use Rattle.look.specs.Scan.{row_in}
 use Rattle.look.proofs.Counting.{edge_left}
+use Rattle.look.specs.declared.Edge.{Edge}
 use Rattle.components.specs.declared.Scanned.{Scanned}
 use Rattle.components.specs.Model.{within, row_of, game_in, joined, scanned}
 use Rattle.components.proofs.Groups.{Group, group, members_of, path_of, joining, joining_here, joining_below, joining_members, joining_path}
@@ -142,7 +144,7 @@ below_last [] = []
 below_last (x ∷ p) = p
 
 module _ (number firsts : List ℕ) (t : ℕ) (ts : List ℕ) (e n : ℕ) where
-  scanned_new : eqb (get_or number t 0) no_number ≡ true → scanned number firsts (t ∷ ts) e n ≡ record { groups = n; edge = e; target = t; found = true }
+  scanned_new : eqb (get_or number t 0) no_number ≡ true → scanned number firsts (t ∷ ts) e n ≡ record { groups = n; found = Some (record { index = e; target = t }) }
   unfolding scanned
   scanned_new h = rw (h, scanned)
 
@@ -179,7 +181,7 @@ module _ (targets starts words : List ℕ) (size kinds start : ℕ) where
 
   -- where it ends: behind the last edge, or before one that leads to a state without a number
   abbrev pub Ending : List ℕ → List ℕ → ℕ → Scanned → Type 0
-  Ending number ts e r = ((r.found ≡ false) × (ts ≡ [])) ⊎ ((r.found ≡ true) × (r.edge ≡ e) × (get_or number r.target 0 ≡ no_number) × (rest : List ℕ) × (ts ≡ r.target ∷ rest))
+  Ending number ts e r = ((r.found ≡ None) × (ts ≡ [])) ⊎ ((edge : Edge) × (r.found ≡ Some edge) × (edge.index ≡ e) × (get_or number edge.target 0 ≡ no_number) × (rest : List ℕ) × (ts ≡ edge.target ∷ rest))
 
   pub record Gone (number firsts M : List ℕ) (P : List Frame) (f k : List ℕ) (s : ℕ) (r : Scanned) : Type 0 where
     pub ms : List ℕ
@@ -263,7 +265,7 @@ module _ (targets starts words : List ℕ) (size kinds start : ℕ) where
       where
         new : eqb (get_or number t 0) no_number ≡ true → Gone number firsts M P f k s (scanned number firsts (t ∷ ts) e n)
         new h = subst (Gone number firsts M P f k s) (sym (scanned_new number firsts t ts e n h))
-            (record { ms = ms; ts = t ∷ ts; p = p; gs = gs; e = e; going = w; groups_is = c; ending = inr (refl, refl, eqb-true (get_or number t 0) no_number h, ts, refl) })
+            (record { ms = ms; ts = t ∷ ts; p = p; gs = gs; e = e; going = w; groups_is = c; ending = inr (record { index = e; target = t }, refl, refl, eqb-true (get_or number t 0) no_number h, ts, refl) })
 
         old : ((ms : List ℕ) (p : List Frame) (gs : List Group) (e n : ℕ) → Going firsts M P f k s ms ts p gs e → n ≡ suc (length gs) → Gone number firsts M P f k s (scanned number firsts ts e n))
             → eqb (get_or number t 0) no_number ≡ false → Gone number firsts M P f k s (scanned number firsts (t ∷ ts) e n)

@@ -24,9 +24,11 @@ use Rattle.rows.proofs.Entries.{row_length}
 use Rattle.look.specs.Numbers.{no_number, blanks, up}
 use Rattle.look.specs.Scan.{fits, row_in}
 use Rattle.look.proofs.Counting.{up_more, blank_filled, edge_left}
+use Rattle.components.specs.declared.Board.{Board}
 use Rattle.components.specs.declared.Cursor.{Cursor}
-use Rattle.components.specs.declared.Scanned.{Scanned}
-use Rattle.components.specs.Model.{within, row_of, Board, board_of, Sized, Stand, grouped, discovered}
+use Rattle.look.specs.declared.Edge.{Edge}
+use Rattle.components.specs.declared.Stand.{Stand}
+use Rattle.components.specs.Model.{within, row_of, board_of, Sized, grouped, discovered}
 use Rattle.components.proofs.Groups.{Group, group, members_of, path_of, Stack}
 use Rattle.components.proofs.Invariant.{Inv, inv_new, on_member}
 use Rattle.components.proofs.Boards.{Piled, piled_push, placed_here, placed_other, number_of, number_open, number_none, same_number}
@@ -210,15 +212,15 @@ module _ (targets starts words : List ℕ) (size kinds start : ℕ) where
 
   -- ---- the path's last state has an edge to a state that is not discovered
 
-  module _ (b : Board) (c : Cursor) (fs : List ℕ) (f k : List ℕ) (s : ℕ) (us : List ℕ) (r : Scanned) (ms rest : List ℕ) (p : List Frame) (gs : List Group)
-      (w : Laid b c (ms ++ members_of gs) fs (frame s us ∷ p ++ path_of gs) f k) (v : Inv a (group ms (frame s (r.target ∷ rest) ∷ p) ∷ gs) f k) (walked : Walked gs)
-      (piled : Piled b.firsts (firsts_of (group ms (frame s (r.target ∷ rest) ∷ p) ∷ gs))) (count : r.groups ≡ suc (length gs))
-      (left : r.target ∷ rest ≡ drop r.edge (a.graph.successors s)) (new : get_or b.number r.target 0 ≡ no_number) where
+  module _ (b : Board) (c : Cursor) (fs : List ℕ) (f k : List ℕ) (s : ℕ) (us : List ℕ) (n : ℕ) (edge : Edge) (ms rest : List ℕ) (p : List Frame) (gs : List Group)
+      (w : Laid b c (ms ++ members_of gs) fs (frame s us ∷ p ++ path_of gs) f k) (v : Inv a (group ms (frame s (edge.target ∷ rest) ∷ p) ∷ gs) f k) (walked : Walked gs)
+      (piled : Piled b.firsts (firsts_of (group ms (frame s (edge.target ∷ rest) ∷ p) ∷ gs))) (count : n ≡ suc (length gs))
+      (left : edge.target ∷ rest ≡ drop edge.index (a.graph.successors s)) (new : get_or b.number edge.target 0 ≡ no_number) where
     abbrev t : ℕ
-    t = r.target
+    t = edge.target
 
     abbrev passed : Board
-    passed = board_of b.number b.stack b.firsts b.path (set b.next (c.height - 1) (up r.edge))
+    passed = board_of b.number b.stack b.firsts b.path (set b.next (c.height - 1) (up edge.index))
 
     low : t < 512
     low = target_low targets starts words size kinds start s t (v.stack.0.genuine s t (pending_here s t (t ∷ rest) p (in_head t rest))).1
@@ -232,13 +234,13 @@ module _ (targets starts words : List ℕ) (size kinds start : ℕ) where
     abbrev newest : List Group
     newest = group (t ∷ []) (frame t (a.graph.successors t) ∷ []) ∷ group ms (frame s rest ∷ p) ∷ gs
 
-    here : Laid passed (grouped c r.groups) (ms ++ members_of gs) (firsts_of (group ms (frame s rest ∷ p) ∷ gs)) (frame s rest ∷ p ++ path_of gs) f k
+    here : Laid passed (grouped c n) (ms ++ members_of gs) (firsts_of (group ms (frame s rest ∷ p) ∷ gs)) (frame s rest ∷ p ++ path_of gs) f k
     here =
-        let edge = edge_left (a.graph.successors s) r.edge t rest left in
-        laid_passed b c (ms ++ members_of gs) fs (firsts_of (group ms (frame s rest ∷ p) ∷ gs)) s us rest (p ++ path_of gs) f k r.groups r.edge w piled (omega (arith, count, firsts_length gs))
-        (omega (arith, edge.there, row_few s)) (omega (arith, path_few newest f k v')) edge.rest
+        let passing = edge_left (a.graph.successors s) edge.index t rest left in
+        laid_passed b c (ms ++ members_of gs) fs (firsts_of (group ms (frame s rest ∷ p) ∷ gs)) s us rest (p ++ path_of gs) f k n edge.index w piled (omega (arith, count, firsts_length gs))
+        (omega (arith, passing.there, row_few s)) (omega (arith, path_few newest f k v')) passing.rest
 
-    pub turn_new : Turn b c (discovered passed (grouped c r.groups) t)
+    pub turn_new : Turn b c (discovered passed (grouped c n) t)
     unfolding discovered
     turn_new = record {
       at = record {
@@ -247,7 +249,7 @@ module _ (targets starts words : List ℕ) (size kinds start : ℕ) where
         k = k;
         inv = v';
         walked = ((t, a.graph.successors t, [], refl), ((s, rest, p, refl), walked));
-        laid = laid_discovered passed (grouped c r.groups) (ms ++ members_of gs) (firsts_of (group ms (frame s rest ∷ p) ∷ gs)) (frame s rest ∷ p ++ path_of gs) f k t here low
+        laid = laid_discovered passed (grouped c n) (ms ++ members_of gs) (firsts_of (group ms (frame s rest ∷ p) ∷ gs)) (frame s rest ∷ p ++ path_of gs) f k t here low
             (omega (arith, members_few newest f k v'), omega (arith, groups_few newest f k v', firsts_length gs), omega (arith, path_few newest f k v')) (unknown.0, unknown.1);
       };
       lighter = omega (arith, blank_filled b.number t c.top new (λ z. omega (arith, w.top_is, members_few newest f k v')), up_more c.height (omega (arith, w.height_is, path_few newest f k v')));

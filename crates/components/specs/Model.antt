@@ -1,12 +1,14 @@
 -- What the functions of the component search do, in terms of their arrays; and the game that the arrays of a table stand for, whatever they hold. Cited by contracts. Assumes nothing.
-use Rattle.std.specs.Prelude.{ℕ, zero, suc, ◌+◌, ◌*◌, ◌-◌, ◌%◌, ◌≡◌, Bool, true, false, ◌&&◌, ◌||◌, cond, List, [], ◌∷◌, map, eqb, ltb, leb, length, get_or, set, drop}
+use Rattle.std.specs.Prelude.{ℕ, zero, suc, ◌+◌, ◌*◌, ◌-◌, ◌%◌, ◌≡◌, Bool, true, ◌&&◌, ◌||◌, cond, None, Some, List, [], ◌∷◌, map, eqb, ltb, leb, length, get_or, set, drop}
 use Rattle.plain.specs.Lists.{any, filter, below, elem}
 use Rattle.plain.specs.Cycles.{Kinded}
 use Rattle.plain.specs.Table.{accepts, marking}
 use Rattle.rows.specs.Rows.{entries}
 use Rattle.look.specs.Numbers.{no_number, up}
 use Rattle.look.specs.Scan.{most_states, row_in}
+use Rattle.components.specs.declared.Board.{Board}
 use Rattle.components.specs.declared.Cursor.{Cursor}
+use Rattle.components.specs.declared.Stand.{Stand}
 use Rattle.components.specs.declared.Scanned.{Scanned}
 use Rattle.components.specs.declared.Found.{Found}
 
@@ -42,14 +44,7 @@ closed = 65533
 abbrev pub on_round : ℕ
 on_round = 65534
 
--- By state: its place among the open states, or what stands in place of it. The open states. By group: the place of its first state among them. The path, and by place on it the index of the next edge.
-pub record Board : Type 0 where
-  pub number : List ℕ
-  pub stack : List ℕ
-  pub firsts : List ℕ
-  pub path : List ℕ
-  pub next : List ℕ
-
+-- what the search writes on, of lists
 abbrev pub board_of : List ℕ → List ℕ → List ℕ → List ℕ → List ℕ → Board
 board_of number stack firsts path next = record { number = number; stack = stack; firsts = firsts; path = path; next = next }
 
@@ -62,10 +57,6 @@ pub record Sized (b : Board) : Type 0 where
   pub next_size : length b.next ≡ 512
 
 -- where the search stands
-pub record Stand : Type 0 where
-  pub board : Board
-  pub cursor : Cursor
-
 abbrev pub stand_of : Board → Cursor → Stand
 stand_of b c = record { board = b; cursor = c }
 
@@ -78,9 +69,9 @@ joined firsts x (suc n) = cond (ltb 0 n && ltb x (get_or firsts n 0)) (joined fi
 
 -- the edges that are left, from edge k on, with so many groups
 unfoldable pub scanned : List ℕ → List ℕ → List ℕ → ℕ → ℕ → Scanned
-scanned number firsts [] k n = record { groups = n; edge = 0; target = 0; found = false }
+scanned number firsts [] k n = record { groups = n; found = None }
 scanned number firsts (t ∷ ts) k n = cond (eqb (get_or number t 0) no_number)
-    (record { groups = n; edge = k; target = t; found = true })
+    (record { groups = n; found = Some (record { index = k; target = t }) })
     (scanned number firsts ts (suc k) (joined firsts (get_or number t 0) n))
 
 -- ---- a complete group
@@ -136,9 +127,10 @@ grouped c n = record { groups = n; top = c.top; height = c.height }
 
 -- behind the edges of the path's last state
 unfoldable pub onwards : List ℕ → List ℕ → List ℕ → ℕ → ℕ → Board → Cursor → Scanned → Stand
-onwards targets starts words size kinds b c r = cond r.found
-    (discovered (board_of b.number b.stack b.firsts b.path (set b.next (c.height - 1) (up r.edge))) (grouped c r.groups) r.target)
-    (departed targets starts words size kinds b (grouped c r.groups))
+onwards targets starts words size kinds b c r = elim r.found [
+  | None ↦ departed targets starts words size kinds b (grouped c r.groups)
+  | Some e ↦ discovered (board_of b.number b.stack b.firsts b.path (set b.next (c.height - 1) (up e.index))) (grouped c r.groups) e.target
+]
 
 unfoldable pub advanced : List ℕ → List ℕ → List ℕ → ℕ → ℕ → Board → Cursor → Stand
 advanced targets starts words size kinds b c =

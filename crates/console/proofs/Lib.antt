@@ -1,3 +1,4 @@
 pub mod Reading
 pub mod Handed
 pub mod Printing
+pub mod Filling

@@ -12,15 +12,15 @@ use Rattle.lead.specs.declared.Lead.{Lead}
 use Rattle.lead.specs.declared.Plan.{Plan}
 use Rattle.lead.specs.Asked.{asked}
 use Rattle.watch.specs.declared.Written.{Written}
-use Rattle.watch.specs.Text.{waiting, step, limit, held_behind}
+use Rattle.watch.specs.Text.{Held, Step, waiting, step, limit, held_behind}
 use Rattle.watch.specs.Model.{lines_most, Laid, Writes}
 use Rattle.watch.proofs.Records.{held_append}
 use Rattle.watch.proofs.Output.{laid_bytes}
 use Rattle.console.specs.declared.Status.{Status}
 use Rattle.console.specs.declared.Status.TheVariants.{More, Line, Last, Over}
 use Rattle.console.specs.declared.Reader.{Reader}
-use Rattle.console.specs.Lines.{chunk, handed, first_reader, reader_behind, Within, held_in, bytes_in, has_line, is_line, bytes_told, Printed, Found, Next}
-use Rattle.console.proofs.Reading.{line_status, within_behind}
+use Rattle.console.specs.Lines.{chunk, held_most, handed, first_reader, reader_behind, Within, held_in, bytes_in, has_line, is_line, bytes_told, Printed, Found, Next}
+use Rattle.console.proofs.Reading.{line_status, within_first, within_behind}
 
 -- What was read so far: its lines up to here, and those that the bytes left of the last read begin, whatever bytes follow.
 pub record Read (r : Reader) (held buf seen : List ℕ) (ls : List (List ℕ)) : Type 0 where
@@ -99,3 +99,38 @@ told_bytes line lead plan marks answer reply walk d d' w e f t =
 pub one_behind : (ls : List (List ℕ)) (l : List ℕ) → (step (held_behind waiting (map record_of ls)) (record_of l)).next ≡ held_behind waiting (map record_of (ls ++ (l ∷ [])))
 unfolding held_behind
 one_behind ls l = sym (held_append waiting (map record_of ls) (record_of l ∷ [])) ∙ ap (held_behind waiting) (sym (map-append record_of ls (l ∷ [])))
+
+-- Between two lines: what was read so far, and what is held behind its records, of which a program says what its variables are.
+pub record Between (r : Reader) (held buf : List ℕ) (Stands : Held → Type 0) : Type 0 where
+  pub within : Within r chunk
+  pub space : length buf ≡ chunk
+  pub size : length held ≡ held_most
+  pub ls : List (List ℕ)
+  pub seen : List ℕ
+  pub read : Read r held buf seen ls
+  pub stands : Stands (held_behind waiting (map record_of ls))
+
+pub between_first : (q : Reader) (held buf : List ℕ) (Stands : Held → Type 0) → q ≡ first_reader → length buf ≡ chunk → length held ≡ held_most → Stands waiting → Between q held buf Stands
+unfolding held_behind
+between_first q held buf Stands e k m h = record { within = within_first q e; space = k; size = m; ls = []; seen = []; read = read_first q held buf e; stands = h }
+
+module _ (r : Reader) (held buf : List ℕ) (Stands : Held → Type 0) (b : Between r held buf Stands) (r' : Reader) (held' buf' : List ℕ) (n : Next r held buf r' held' buf') where
+  -- the step that the next line makes
+  abbrev pub next_step : Step
+  next_step = step (held_behind waiting (map record_of b.ls)) (record_of (held_in r' held'))
+
+  pub prints : (d d' : List ℕ) (first len : ℕ) → has_line r'.status ≡ true → Laid next_step.lines d d' first len → Printed (held_in r' held') (take len d')
+  prints d d' first len e l = printed r' held' buf' _ b.ls d d' first len (come r held buf r' held' buf' b.seen b.ls n e b.read) l
+
+  pub between_next : (q : Reader) (Stands' : Held → Type 0) → q ≡ reader_behind r' → is_line r'.status ≡ true → Stands' next_step.next → Between q held' buf' Stands'
+  between_next q Stands' e f h =
+      let g = goes_onward r held buf r' held' buf' b.seen b.ls n q e f b.read in
+      record {
+        within = g.within;
+        space = n.space;
+        size = n.size;
+        ls = b.ls ++ (held_in r' held' ∷ []);
+        seen = b.seen ++ n.brought;
+        read = g.read;
+        stands = subst Stands' (one_behind b.ls (held_in r' held')) h;
+      }

@@ -111,40 +111,40 @@ module _ (r : Reader) (held₀ buf held : List ℕ) (at len : ℕ) (g : Going he
         ∙ (λ i. handed (sym p i) (less z i) (drop (at + 1) (take r.end buf) ++ more));
   }
 
-  module _ (s : Reader) where
-    pub took_over : at < r.end → r.at + r.left ≤ at → s ≡ record { at = at; end = r.end; len = len; left = left; status = Over } → Took r held₀ buf s held
-    took_over t z e = rw e (record {
+  pub took_line : at < r.end → at < r.at + r.left → get_or buf at 0 ≡ 10
+      → Took r held₀ buf (record { at = at + 1; end = r.end; len = len; left = r.left - (at + 1 - r.at); status = Line }) held
+  took_line t z b = record {
+    within = record { at = omega arith; end = g.within; len = g.len_most };
+    size = g.size;
+    end = refl;
+    falls = omega (arith, g.from);
+    moved = λ l. omega (arith, g.from);
+    goes = λ more. g.rest more ∙ ap (λ (bs : List ℕ). handed (take len held) left (bs ++ more)) (next_byte buf at r.end t g.within)
+        ∙ handed_line (take len held) left (get_or buf at 0) (drop (at + 1) (take r.end buf) ++ more) (omega (arith, g.from)) b
+        ∙ ap (λ (n : ℕ). take len held ∷ handed [] n (drop (at + 1) (take r.end buf) ++ more)) (less z);
+  }
+
+  module _ (stop : ℕ) (e : stop ≡ at) where
+    pub took_over : at < r.end → r.at + r.left ≤ at → Took r held₀ buf (record { at = stop; end = r.end; len = len; left = r.left - (stop - r.at); status = Over }) held
+    took_over t z = rw e (record {
       within = record { at = g.to; end = g.within; len = g.len_most };
       size = g.size;
       end = refl;
       falls = omega (arith, g.from, g.enough);
-      moved = λ l. absurd (true≢false (sym (ap is_line l)));
+      moved = λ l. cc;
       goes = λ more. g.rest more ∙ ap (λ (bs : List ℕ). handed (take len held) left (bs ++ more)) (next_byte buf at r.end t g.within)
           ∙ handed_over (take len held) left (get_or buf at 0) (drop (at + 1) (take r.end buf) ++ more) (omega arith);
     })
 
-    pub took_line : at < r.end → at < r.at + r.left → get_or buf at 0 ≡ 10
-        → s ≡ record { at = at + 1; end = r.end; len = len; left = r.left - (at + 1 - r.at); status = Line } → Took r held₀ buf s held
-    took_line t z b e = rw e (record {
-      within = record { at = omega arith; end = g.within; len = g.len_most };
-      size = g.size;
-      end = refl;
-      falls = omega (arith, g.from);
-      moved = λ l. omega (arith, g.from);
-      goes = λ more. g.rest more ∙ ap (λ (bs : List ℕ). handed (take len held) left (bs ++ more)) (next_byte buf at r.end t g.within)
-          ∙ handed_line (take len held) left (get_or buf at 0) (drop (at + 1) (take r.end buf) ++ more) (omega (arith, g.from)) b
-          ∙ ap (λ (n : ℕ). take len held ∷ handed [] n (drop (at + 1) (take r.end buf) ++ more)) (less z);
-    })
-
-    pub took_all : r.end ≤ at → s ≡ record { at = at; end = r.end; len = len; left = left; status = More } → Took r held₀ buf s held
-    took_all t e =
+    pub took_all : r.end ≤ at → Took r held₀ buf (record { at = stop; end = r.end; len = len; left = r.left - (stop - r.at); status = More }) held
+    took_all t =
         let none : drop at (take r.end buf) ≡ [] = drop_of_length-le (take r.end buf) {i = at} (omega (arith, length-take r.end buf)) in
         rw e (record {
           within = record { at = g.to; end = g.within; len = g.len_most };
           size = g.size;
           end = refl;
           falls = omega (arith, g.from, g.enough);
-          moved = λ l. absurd (true≢false (sym (ap is_line l)));
+          moved = λ l. cc;
           goes = (none, λ more. g.rest more ∙ ap (λ (bs : List ℕ). handed (take len held) left (bs ++ more)) none);
         })
 
@@ -198,12 +198,6 @@ module _ (held : List ℕ) (left : ℕ) (bytes : List ℕ) (held' : List ℕ) (l
     next_way held'' left'' bytes'' Last g = g
     next_way held'' left'' bytes'' Over g = λ more. further more ∙ g more
 
-pub within_buf : (r : Reader) (size : ℕ) → size ≡ 512 → Within r 512 → Within r size
-within_buf r size e w = record { at = w.at; end = omega (arith, w.end); len = w.len }
-
-pub within_same : (q r : Reader) (size : ℕ) → q ≡ r → Within r size → Within q size
-within_same q r size e w = rw e w
-
 pub reached_first : (r : Reader) (held buf : List ℕ) (s : Reader) (held' : List ℕ) → length buf ≡ 512 → Took r held buf s held' → Reached r held buf s held' buf
 reached_first r held buf s held' k t = record {
   within = record { at = t.within.at; end = omega (arith, t.within.end, k); len = t.within.len };
@@ -218,10 +212,6 @@ reached_first r held buf s held' k t = record {
 -- how the bytes of a further read are taken
 abbrev pub afresh : Reader → ℕ → Reader
 afresh s end = record { at = 0; end = end; len = s.len; left = s.left; status = More }
-
-pub took_afresh : (q s : Reader) (end : ℕ) (held buf : List ℕ) (s' : Reader) (held' : List ℕ)
-    → q ≡ afresh s end → Took q held buf s' held' → Took (afresh s end) held buf s' held'
-took_afresh q s end held buf s' held' e t = rw e at t
 
 pub reached_again : (r : Reader) (held buf : List ℕ) (s : Reader) (held' buf' : List ℕ) (end : ℕ) (buf'' : List ℕ) (s' : Reader) (held'' : List ℕ)
     → Reached r held buf s held' buf' → is_more s.status ≡ true → length buf'' ≡ 512 → Took (afresh s end) held' buf'' s' held''
@@ -334,7 +324,7 @@ line_status Last e = absurd (true≢false (sym e))
 line_status Over e = absurd (true≢false (sym e))
 
 pub within_first : (q : Reader) → q ≡ first_reader → Within q 512
-within_first q e = within_same q first_reader 512 e (record { at = omega arith; end = omega arith; len = omega arith })
+within_first q e = rw e (record { at = omega arith; end = omega arith; len = omega arith })
 
 pub within_behind : (q r : Reader) → q ≡ reader_behind r → Within r 512 → Within q 512
-within_behind q r e w = within_same q (reader_behind r) 512 e (record { at = w.at; end = w.end; len = omega arith })
+within_behind q r e w = rw e (record { at = w.at; end = w.end; len = omega arith })

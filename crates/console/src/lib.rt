@@ -1,7 +1,8 @@
 // Lines from standard input, and answers to standard output: what the programs share.
 #![tactic(auto)]
 
-ghost use Rattle.std.specs.Prelude.{◌≡◌, ◌≤◌, length};
+ghost use Rattle.std.specs.Prelude.{◌≡◌, ◌≤◌, length, take};
+ghost use Rattle.std.specs.Io.KnownBytes.{Consumes};
 ghost use Rattle.console.specs.Lines.{chunk, held_most, Within, Took, Next, is_more, has_line, is_line, first_reader, reader_behind, end_of, bytes_told, Printed};
 
 use lead::Lead;
@@ -16,7 +17,7 @@ pub const CHUNK: usize = 512;
 pub const HELD: usize = 33;
 
 // What the bytes so far come to: the line goes on, a line is held whole, it is the last one, or there is none to come.
-#[derive(Clone, Copy)]
+#[derive(Clone, Copy, PartialEq, Eq)]
 enum Status {
     More,
     Line,
@@ -35,30 +36,69 @@ pub struct Reader {
     status: Status,
 }
 
-fn standing(at: usize, end: usize, len: usize, left: usize, status: Status) -> Reader
-    ensures { result ≡ record { at = at; end = end; len = len; left = left; status = status } }
-{
-    Reader {
-        at,
-        end,
-        len,
-        left,
-        status,
-    }
-}
-
 // The reader before the first byte.
 pub fn begin() -> Reader
     ensures { result ≡ first_reader }
 {
-    standing(0, 0, 0, watch::LIMIT, Status::More)
+    Reader {
+        at: 0,
+        end: 0,
+        len: 0,
+        left: watch::LIMIT,
+        status: Status::More,
+    }
 }
 
-// The reader behind a line.
-pub fn onward(r: Reader) -> Reader
-    ensures { result ≡ reader_behind r }
-{
-    standing(r.at, r.end, 0, r.left, Status::More)
+impl Reader {
+    // The reader behind a line.
+    pub fn onward(self) -> Reader
+        ensures { result ≡ reader_behind self }
+    {
+        Reader {
+            len: 0,
+            status: Status::More,
+            ..self
+        }
+    }
+
+    // Is there a line to answer?
+    pub fn has_line(self) -> bool
+        ensures { result ≡ has_line self.status }
+    {
+        matches!(self.status, Status::Line | Status::Last)
+    }
+
+    // Did its newline come, so that another line may follow?
+    pub fn is_line(self) -> bool
+        ensures { result ≡ is_line self.status }
+    {
+        self.status == Status::Line
+    }
+
+    // Does the line go on?
+    fn is_more(self) -> bool
+        ensures { result ≡ is_more self.status }
+    {
+        self.status == Status::More
+    }
+
+    // Where the input ends: what is held is the last line, if it is not empty.
+    #[tactic(auto, unfolding(crate::specs::Lines::end_of))]
+    fn at_end(self) -> Reader
+        ensures { result ≡ end_of self }
+    {
+        let status = if self.len == 0 {
+            Status::Over
+        } else {
+            Status::Last
+        };
+        Reader {
+            at: 0,
+            end: 0,
+            status,
+            ..self
+        }
+    }
 }
 
 // Takes bytes up to a newline, or up to the end of the read or of what may still come. How many may come is counted once, for all bytes that were taken.
@@ -66,74 +106,88 @@ fn take_bytes(buf: &[u8], held: &mut [u8; HELD], r: Reader) -> Reader
     requires { Within r (length buf.now) × (length held.old ≡ held_most) }
     ensures { Took r held.old buf.now result held.new }
 {
-    let end = r.end;
-    let from = r.at;
-    let stop = from + watch::least(r.left, end - from);
-    let mut at = from;
+    let stop = r.at + r.left.min(r.end - r.at);
     let mut len = r.len;
-    while at < stop {
+    for at in r.at..stop {
         let b = buf[at];
-        at += 1;
         if b == line::NEWLINE {
-            return standing(at, end, len, r.left - (at - from), Status::Line);
+            return Reader {
+                at: at + 1,
+                len,
+                left: r.left - (at + 1 - r.at),
+                status: Status::Line,
+                ..r
+            };
         }
         if len < HELD {
             held[len] = b;
             len += 1;
         }
     }
-    let left = r.left - (at - from);
-    if at < end {
-        return standing(at, end, len, left, Status::Over);
+    let left = r.left - (stop - r.at);
+    let status = if stop < r.end {
+        Status::Over
+    } else {
+        Status::More
+    };
+    Reader {
+        at: stop,
+        len,
+        left,
+        status,
+        ..r
     }
-    standing(at, end, len, left, Status::More)
-}
-
-// Does the line go on?
-fn is_more(r: Reader) -> bool
-    ensures { result ≡ is_more r.status }
-{
-    let status = r.status;
-    match status {
-        Status::More => true,
-        Status::Line => false,
-        Status::Last => false,
-        Status::Over => false,
-    }
-}
-
-// Where the input ends: what is held is the last line, if it is not empty.
-fn at_end(r: Reader) -> Reader
-    ensures { result ≡ end_of r }
-{
-    if r.len == 0 {
-        return standing(0, 0, r.len, r.left, Status::Over);
-    }
-    standing(0, 0, r.len, r.left, Status::Last)
 }
 
 // How many bytes one read brings, at the start of the buffer: none where it fails.
-fn read_once(mut input: Stdin, buf: &mut [u8; CHUNK]) -> usize
-    ensures { result ≤ length buf.new }
+pub fn read_once<R: Read>(input: &mut R, buf: &mut [u8]) -> usize
+    ensures within { result ≤ length buf.new }
+    ensures size { length buf.new ≡ length buf.old }
+    ensures bytes { Consumes (R.remaining input.old) (R.remaining input.new) (take result buf.new) }
 {
-    match input.read(buf) {
-        Ok(n) => n,
-        Err(_) => 0,
+    input.read(buf).unwrap_or(0)
+}
+
+// Reads until the block is full, or the input ends or a read fails: how many bytes that brings.
+pub fn read_full<R: Read>(input: &mut R, block: &mut [u8]) -> usize
+    ensures within { result ≤ length block.new }
+    ensures size { length block.new ≡ length block.old }
+    ensures bytes { Consumes (R.remaining input.old) (R.remaining input.new) (take result block.new) }
+{
+    let mut done = 0;
+    while done < block.len() {
+        let n = read_once(input, &mut block[done..]);
+        if n == 0 {
+            return done;
+        }
+        done += n;
     }
+    done
 }
 
 // The next line, read on as far as it takes. A read that fails counts as the end of the input.
-pub fn next_line(input: Stdin, buf: &mut [u8; CHUNK], held: &mut [u8; HELD], r: Reader) -> Reader
+pub fn next_line(
+    mut input: Stdin,
+    buf: &mut [u8; CHUNK],
+    held: &mut [u8; HELD],
+    r: Reader,
+) -> Reader
     requires { Within r chunk × (length buf.old ≡ chunk) × (length held.old ≡ held_most) }
     ensures { Next r held.old buf.old result held.new buf.new }
 {
     let mut s = take_bytes(buf, held, r);
-    while is_more(s) {
-        let end = read_once(input, buf);
+    while s.is_more() {
+        let end = read_once(&mut input, buf);
         if end == 0 {
-            return at_end(s);
+            return s.at_end();
         }
-        s = take_bytes(buf, held, standing(0, end, s.len, s.left, Status::More));
+        let fresh = Reader {
+            at: 0,
+            end,
+            status: Status::More,
+            ..s
+        };
+        s = take_bytes(buf, held, fresh);
     }
     s
 }
@@ -142,10 +196,7 @@ pub fn next_line(input: Stdin, buf: &mut [u8; CHUNK], held: &mut [u8; HELD], r: 
 fn write_once(mut output: Stdout, bytes: &[u8]) -> usize
     ensures { result ≤ length bytes.now }
 {
-    match output.write(bytes) {
-        Ok(n) => n,
-        Err(_) => 0,
-    }
+    output.write(bytes).unwrap_or(0)
 }
 
 // Writes the lines that answer a line, as often as it takes: false where a write takes nothing or fails. Only this function writes. Its parameters fix what it
@@ -163,39 +214,14 @@ pub fn print(
 ) -> bool
     requires { (bytes.now ≡ bytes_told line.now lead marks.now answer reply walk.now) × Printed line.now bytes.now }
 {
-    let mut at: usize = 0;
-    while at < bytes.len() {
-        let put = write_once(output, &bytes[at..]);
+    // Kept: what may not change. Where a write is interrupted the program ends, and `write_all` would try it again.
+    let mut rest = bytes;
+    while !rest.is_empty() {
+        let put = write_once(output, rest);
         if put == 0 {
             return false;
         }
-        at += put;
+        rest = &rest[put..];
     }
     true
-}
-
-// Is there a line to answer?
-pub fn has_line(r: Reader) -> bool
-    ensures { result ≡ has_line r.status }
-{
-    let status = r.status;
-    match status {
-        Status::More => false,
-        Status::Line => true,
-        Status::Last => true,
-        Status::Over => false,
-    }
-}
-
-// Did its newline come, so that another line may follow?
-pub fn is_line(r: Reader) -> bool
-    ensures { result ≡ is_line r.status }
-{
-    let status = r.status;
-    match status {
-        Status::More => false,
-        Status::Line => true,
-        Status::Last => false,
-        Status::Over => false,
-    }
 }

@@ -1,7 +1,7 @@
 -- One line of a game, up to `go`: what is held behind it, and the lines that tell it. Assumes nothing.
 use mathlib.Core.Path.{◌≡◌, refl, sym, ap, subst, subst⁻¹, ◌∙◌}
 use mathlib.Core.Bool.{Bool, true, false, ◌&&◌, cond}
-use mathlib.Core.List.{List, [], ◌∷◌}
+use mathlib.Core.List.{List}
 use Prim.Native.Nat.{ℕ, min}
 use native.Mathlib.Omega.{arith}
 use lib.Dec.{eqb}
@@ -16,7 +16,6 @@ use Rattle.line.specs.declared.Record.{Record}
 use Rattle.line.proofs.Paying.{PayFits, other_word}
 use Rattle.question.specs.declared.Question.{Question}
 use Rattle.question.specs.declared.Reply.{Reply}
-use Rattle.question.specs.declared.Reply.TheVariants as Reply
 use Rattle.verdict.specs.declared.Answer.{Answer}
 use Rattle.verdict.specs.Answers.{is_refused, LoadAnswered}
 use Rattle.session.specs.Model.{no_game}

@@ -16,22 +16,14 @@ use verdict::Answer;
 fn is_read(lead: Lead) -> bool
     ensures { result ≡ is_read lead.stage }
 {
-    let stage = lead.stage;
-    match stage {
-        Stage::Waiting => false,
-        Stage::Opened => false,
-        Stage::Gathering => false,
-        Stage::Playing => true,
-        Stage::Batching => true,
-        Stage::Over => true,
-    }
+    matches!(lead.stage, Stage::Playing | Stage::Batching | Stage::Over)
 }
 
 // The textbook search of what was gathered.
 fn search(lead: Lead, marks: &[u64; 32], numbers: &[u16], walk: &mut [u16]) -> Answer
     ensures { LoadAnswered (gathered lead marks.now numbers.now) walk.old result walk.new }
 {
-    let n = watch::least(wide(lead.count), numbers.len());
+    let n = wide(lead.count).min(numbers.len());
     textbook::search(
         lead.size,
         lead.start,
@@ -57,37 +49,32 @@ fn main(rt: HostRuntime) {
     let mut r = console::begin();
     loop {
         r = console::next_line(input, &mut buf, &mut held, r);
-        if !console::has_line(r) {
+        if !r.has_line() {
             return;
         }
-        let len = r.len;
-        let plan = lead::read(lead, &mut marks, &mut numbers, &held[..len]);
-        let task = plan.task;
-        if let Task::Ask(ask) = task {
+        let line = &held[..r.len];
+        let plan = lead::read(lead, &mut marks, &mut numbers, line);
+        if let Task::Ask(ask) = plan.task {
             answer = search(lead, &marks, &numbers, &mut walk);
         }
         let reply = Reply::Refused(0);
         let w = watch::write(plan, &marks, answer, reply, &walk, &mut lines);
-        let n = w.len;
         if !console::print(
             output,
-            &held[..len],
+            line,
             lead,
             &marks,
             answer,
             reply,
             &walk,
-            &lines[..n],
+            &lines[..w.len],
         ) {
             return;
         }
         lead = w.lead;
-        if is_read(lead) {
+        if is_read(lead) || !r.is_line() {
             return;
         }
-        if !console::is_line(r) {
-            return;
-        }
-        r = console::onward(r);
+        r = r.onward();
     }
 }

@@ -5,16 +5,16 @@ use mathlib.Core.List.{List}
 use Prim.Native.Nat.{ℕ, suc, ◌+◌, ◌%◌, ◌≤◌, ◌<◌}
 use native.Mathlib.Numerals.{add-one}
 use native.Mathlib.Omega.{arith}
-use lib.ListN.{length, get_or, set, drop, replicate, length-replicate, length-append, length-drop}
+use lib.ListN.{length, get_or, set, replicate, length-replicate}
 use Rattle.plain.specs.Table.{accepts}
 use Rattle.plain.specs.Layers.{copy, state_of, layer_of, landing}
 use Rattle.plain.proofs.Copies.{copy_first, state_one, layer_one, next_last}
 use Rattle.rows.proofs.Paste.{same_place}
 use Rattle.rows.proofs.Entries.{entries_length, entries_at}
 use Rattle.rows.proofs.Empty.{reads_same}
-use Rattle.look.specs.Scan.{Layout, layout_of, ends_of, plain_layout}
-use Rattle.layers.specs.Layout.{listed, base_at, layered}
-use Rattle.layers.proofs.Listing.{listed_length, listed_is, listed_front, written, written_none, written_all, writes}
+use Rattle.look.specs.Scan.{layout_of, ends_of, plain_layout}
+use Rattle.layers.specs.Layout.{base_at, layered}
+use Rattle.layers.proofs.Listing.{listed_is, listed_front, written, written_none, written_all, writes}
 use Rattle.layers.proofs.Standing.{Stands, state_is, layer_is}
 
 -- where the row of a copy begins, and where it ends
@@ -95,13 +95,3 @@ laid_one n starts words size =
     (λ i h. same_place starts (ap suc (state_one n i) ∙ omega arith) ∙ sym (entries_at 512 1 starts i h)) in
     let bases = listed_is (replicate 512 0) 512 (base_at n 0 words) (length-replicate {A = ℕ} 512 0) (λ i h. base_one n words i ∙ sym (reads_same 512 i 0)) in
     sym (λ i. layout_of (begins i) (ends i) (bases i))
-
--- the lists have the lengths of their arrays
-pub laid_sizes : (n m : ℕ) (starts words : List ℕ) (y : Layout) → length starts ≡ 513 → y ≡ layered n m starts words → (length y.begins ≡ 513) × (length y.ends ≡ 512) × (length y.bases ≡ 512)
-unfolding layered
-laid_sizes n m starts words y h e = (
-  ap (λ (z : Layout). length z.begins) e
-      ∙ omega (arith, length-append (listed 512 (begin_at n m starts)) (drop 512 starts), listed_length 512 (begin_at n m starts), length-drop 512 starts),
-  ap (λ (z : Layout). length z.ends) e ∙ listed_length 512 (end_at n m starts),
-  ap (λ (z : Layout). length z.bases) e ∙ listed_length 512 (base_at n m words),
-)

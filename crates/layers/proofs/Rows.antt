@@ -21,7 +21,8 @@ use Rattle.rows.specs.Rows.{entries}
 use Rattle.rows.proofs.Paste.{same_place}
 use Rattle.rows.proofs.Entries.{entries_at}
 use Rattle.rows.proofs.Empty.{reads_same}
-use Rattle.look.specs.Scan.{Layout, ends_of, plain_layout, spanned, lifted, row_laid}
+use Rattle.look.specs.Scan.{ends_of, plain_layout, spanned, lifted, row_laid}
+use Rattle.look.specs.declared.Layout.{Layout}
 use Rattle.layers.specs.Layout.{listed, base_at, layered}
 use Rattle.layers.proofs.Listing.{listed_length, listed_at}
 use Rattle.layers.proofs.Laying.{begin_at, end_at}

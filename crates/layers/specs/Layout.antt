@@ -2,7 +2,8 @@
 use Rattle.std.specs.Prelude.{ℕ, zero, suc, ◌%◌, List, [], ◌∷◌, ◌++◌, get_or, drop}
 use Rattle.plain.specs.Table.{accepts}
 use Rattle.plain.specs.Layers.{copy, layer_of, state_of, landing}
-use Rattle.look.specs.Scan.{Layout, layout_of, most_states}
+use Rattle.look.specs.Scan.{layout_of, most_states}
+use Rattle.look.specs.declared.Layout.{Layout}
 
 -- n numbers, each by its place
 unfoldable pub listed : ℕ → (ℕ → ℕ) → List ℕ

@@ -2,15 +2,14 @@
 // `above` is how many layers lie above the first.
 #![tactic(auto)]
 
-ghost use Rattle.std.specs.Prelude.{◌≡◌, ℕ, suc, ◌+◌, ◌*◌, ◌%◌, ◌≤◌, ◌<◌, min, length, replicate};
+ghost use Rattle.std.specs.Prelude.{◌≡◌, ℕ, suc, ◌+◌, ◌*◌, ◌%◌, ◌≤◌, ◌<◌, min};
 ghost use Rattle.plain.specs.Table.{accepts, by_kind};
 ghost use Rattle.plain.specs.Layers.{copy, state_of, landing};
-ghost use Rattle.look.specs.Scan.{layout_of};
 ghost use Rattle.layers.specs.Layout.{layered};
 ghost use Rattle.layers.specs.Packed.{Packed, ClearedFrom};
 
-use look::{STATES, times};
-use rows::wide;
+use look::{Layout, STATES, times};
+use rows::{Rows, wide};
 
 // The copy of a state in a layer, which counts from 0.
 pub fn copy_of(size: u16, layer: u16, state: u16) -> usize
@@ -24,13 +23,11 @@ pub fn state_of(size: u16, above: u16, v: u16) -> u16
     ensures { result ≡ state_of size above v }
 {
     let mut state = v;
-    let mut left = above;
-    while 0 < left {
+    for passed in 0..above {
         if state < size {
             return state;
         }
         state -= size;
-        left -= 1;
     }
     state
 }
@@ -42,14 +39,12 @@ pub fn pack(marks: &[u64; 32], size: u16, kinds: u16) -> [u64; 8]
 {
     let mut words: [u64; 8] = [0; 8];
     let end = times(kinds, size);
-    let mut v: usize = 0;
     let mut s: usize = 0;
     let mut first: usize = 0;
-    while v < end {
+    for v in 0..end {
         if marks::accepts_in(marks, first + s) {
             marks::set_mark(&mut words, v);
         }
-        v += 1;
         s += 1;
         if s == wide(size) {
             s = 0;
@@ -63,10 +58,8 @@ pub fn pack(marks: &[u64; 32], size: u16, kinds: u16) -> [u64; 8]
 fn clear_from(words: &mut [u64; 8], first: usize)
     ensures { ClearedFrom first words.old words.new }
 {
-    let mut v = first;
-    while v < STATES {
+    for v in first..STATES {
         marks::clear_mark(words, v);
-        v += 1;
     }
 }
 
@@ -74,11 +67,7 @@ fn clear_from(words: &mut [u64; 8], first: usize)
 pub fn keep_kinds(words: &mut [u64; 8], size: u16, kinds: u16, new: u16)
     ensures { ClearedFrom (min kinds new * size) words.old words.new }
 {
-    let mut staying = kinds;
-    if new < kinds {
-        staying = new;
-    }
-    clear_from(words, times(staying, size));
+    clear_from(words, times(kinds.min(new), size));
 }
 
 // Where the moves of v land: what is added to their targets.
@@ -96,27 +85,17 @@ fn base_of(words: &[u64; 8], v: usize, at: usize, size: u16, left: u16) -> u16
 }
 
 // The rows of every copy, layer by layer.
-fn lay_copies(
-    starts: &[u16; 513],
-    words: &[u64; 8],
-    size: u16,
-    above: u16,
-    begins: &mut [u16; 513],
-    ends: &mut [u16; 512],
-    bases: &mut [u16; 512],
-)
-    requires { (length starts.now ≡ 513) × (begins.old ≡ starts.now) × (length ends.old ≡ 512) × (length bases.old ≡ 512) }
-    ensures { layout_of begins.new ends.new bases.new ≡ layered size above starts.now words.now }
+fn lay_copies(rows: &Rows, words: &[u64; 8], size: u16, above: u16, layout: &mut Layout)
+    requires { layout.old.begins ≡ rows.now.starts }
+    ensures { layout.new ≡ layered size above rows.now.starts words.now }
 {
-    let mut v: usize = 0;
     let mut s: usize = 0;
     let mut at: usize = 0;
     let mut left = above;
-    while v < STATES {
-        begins[v] = starts[s];
-        ends[v] = starts[s + 1];
-        bases[v] = base_of(words, v, at, size, left);
-        v += 1;
+    for v in 0..STATES {
+        layout.begins[v] = rows.starts[s];
+        layout.ends[v] = rows.starts[s + 1];
+        layout.bases[v] = base_of(words, v, at, size, left);
         s += 1;
         if s == wide(size) {
             if 0 < left {
@@ -128,22 +107,18 @@ fn lay_copies(
     }
 }
 
-// Where the rows of the layers lie. The lists of a game of one kind are those of its rows, as they are lent: `begins` is the array of starts, and nothing is added.
-pub fn lay(
-    starts: &[u16; 513],
-    words: &[u64; 8],
-    size: u16,
-    above: u16,
-    begins: &mut [u16; 513],
-    ends: &mut [u16; 512],
-    bases: &mut [u16; 512],
-)
-    requires { (length starts.now ≡ 513) × (begins.old ≡ starts.now) × (length ends.old ≡ 512) × (bases.old ≡ replicate 512 0) }
-    ensures { layout_of begins.new ends.new bases.new ≡ layered size above starts.now words.now }
+// Where the rows of the layers lie. Those of a game of one kind are its rows as they stand: they begin at the starts, and nothing is added.
+pub fn lay(rows: &Rows, words: &[u64; 8], size: u16, above: u16) -> Layout
+    ensures { result ≡ layered size above rows.now.starts words.now }
 {
-    look::lay_ends(starts, ends);
-    if above == 0 {
-        return;
+    let mut layout = Layout {
+        begins: rows.starts,
+        ends: [0; 512],
+        bases: [0; 512],
+    };
+    look::lay_ends(&rows.starts, &mut layout.ends);
+    if above != 0 {
+        lay_copies(rows, words, size, above, &mut layout);
     }
-    lay_copies(starts, words, size, above, begins, ends, bases);
+    layout
 }

@@ -5,13 +5,12 @@ use Rattle.plain.specs.Table.{with_mark}
 use Rattle.line.specs.Words.{is_word}
 use Rattle.line.specs.declared.Word.TheVariants.{Game, Pay, Move, Go, Kinds}
 use Rattle.line.specs.declared.Word.{Word}
-use Rattle.line.specs.declared.Word.TheVariants as Word
 use Rattle.line.specs.declared.Record.{Record}
 use Rattle.answer.specs.Bytes.{overwritten}
 use Rattle.table.specs.declared.Op.{Op}
 use Rattle.table.specs.declared.Op.TheVariants.{Add, Cut, Mark, Unmark}
 use Rattle.batch.specs.declared.Update.TheVariants.{Change, Batch}
-use Rattle.batch.specs.declared.Command.TheVariants as Command
+use Rattle.batch.specs.declared.Command.{Command}
 use Rattle.table.specs.declared.Position.TheVariants.{Alone}
 use Rattle.batch.specs.declared.BatchLine.{BatchLine}
 use Rattle.batch.specs.Batches.{line_for, line_to}
@@ -48,6 +47,10 @@ refusing stage l n = record { lead = staged stage l; task = Refuse (record { num
 -- what was gathered is to be loaded
 abbrev pub loading : Lead → Plan
 loading l = record { lead = l; task = Asks AskLoad }
+
+-- a call is asked of the session
+abbrev pub calling : Command → Lead → Plan
+calling command l = record { lead = l; task = Asks (AskCall command) }
 
 -- a change is asked of the session
 abbrev pub changing : Op → Lead → Plan
@@ -196,6 +199,10 @@ gathers_move Over r = false
 -- is it one that is taken: are there fewer than 2,048 so far?
 unfoldable pub takes_move : Lead → Record → Bool
 takes_move l r = not (is_full l) && gathers_move l.stage r
+
+-- a list with more numbers behind its first n, where it has room for them
+abbrev pub filed_behind : List ℕ → ℕ → List ℕ → List ℕ
+filed_behind ns n more = cond (leb (n + length more) (length ns)) (overwritten ns n more) ns
 
 -- The list of the moves' numbers behind a line: those of a `move` that is taken stand behind the others, where the list has room. Every other line leaves
 -- the list as it was.

@@ -1,18 +1,18 @@
 // What a line asks for, and what is held from line to line.
 #![tactic(auto)]
 
-ghost use Rattle.std.specs.Prelude.{◌≡◌};
+ghost use Rattle.std.specs.Prelude.{◌≡◌, ◌≤◌, length};
 ghost use Rattle.line.specs.Records.{record_of};
-ghost use Rattle.lead.specs.Asked.{first_lead, staged as Asked·staged, no_task, refusing as Asked·refusing, changing as Asked·changing, setting_kinds, questioning as Asked·questioning, batching as Asked·batching, holding as Asked·holding, is_full, asked_first, asked_move, asked_before, asked_opened, about as Asked·about, request_of, asked_after, asked_inside, asked, takes_pay, filed_pay, takes_move, filed_move, takes_line, line_read, filed_line, filed, is_over};
+ghost use Rattle.lead.specs.Asked.{first_lead, staged as Asked·staged, no_task, refusing as Asked·refusing, calling as Asked·calling, questioning as Asked·questioning, batching as Asked·batching, holding as Asked·holding, is_full, asked_first, asked_move, asked_before, asked_opened, about as Asked·about, request_of, asked_after, asked_inside, asked, takes_pay, filed_pay, filed_behind, takes_move, filed_move, takes_line, line_read, filed_line, filed, is_over};
 
 use batch::{BatchLine, Command, Update};
-use line::{Record, Word, is_word};
+use line::{Record, Word};
 use question::{Question, Topic};
 use rows::wide;
 use table::{Op, Position, Refusal};
 
 // How far the lead has come: no line yet, straight behind `game`, before `go`, after it, inside a batch, or past a refusal that ends the run.
-#[derive(Clone, Copy)]
+#[derive(Clone, Copy, PartialEq, Eq)]
 pub enum Stage {
     Waiting,
     Opened,
@@ -24,6 +24,7 @@ pub enum Stage {
 
 // What is held from line to line beside the session, the marks and a list of numbers. Before `go`: N, the start state, the count of kinds, and how many numbers of the list are the
 // moves'. Inside a batch: how many are its lines'. The marks are lent beside it: here they would be copied at each line.
+// Kept: `count` stands beside `stage` and in no variant of it, and functions take a lead and are no methods: contracts, definitions and callers in crates above name them.
 #[derive(Clone, Copy)]
 pub struct Lead {
     pub stage: Stage,
@@ -45,6 +46,7 @@ pub enum Request {
 }
 
 // What a line asks of the session. The lines of a batch are those held.
+// Kept: no `Option<Command>`, which would be no plainer: a load is no absence of a call.
 #[derive(Clone, Copy)]
 pub enum Ask {
     Load,
@@ -90,13 +92,7 @@ pub fn first_lead() -> Lead
 pub fn staged(stage: Stage, lead: Lead) -> Lead
     ensures { result ≡ Asked·staged stage lead }
 {
-    Lead {
-        stage,
-        size: lead.size,
-        start: lead.start,
-        kinds: lead.kinds,
-        count: lead.count,
-    }
+    Lead { stage, ..lead }
 }
 
 // Nothing is to be done, and this is held.
@@ -123,23 +119,23 @@ fn refusing(stage: Stage, lead: Lead, number: u16) -> Plan
 }
 
 // The first line has to be `game`.
+#[tactic(auto, using(crate::proofs::Telling::told), unfolding(crate::specs::Asked::asked_first))]
 fn ask_first(lead: Lead, r: Record) -> Plan
     ensures { result ≡ asked_first lead r }
 {
-    let word = r.word;
-    if is_word(word, Word::Game) {
+    if r.word == Word::Game {
         return no_task(Lead {
             stage: Stage::Opened,
             size: r.first,
             start: r.second,
-            kinds: 1,
-            count: 0,
+            ..first_lead()
         });
     }
     refusing(Stage::Over, lead, 1)
 }
 
 // Are there 2,048 moves?
+#[tactic(auto, unfolding(crate::specs::Asked::is_full))]
 fn is_full(lead: Lead) -> bool
     ensures { result ≡ is_full lead }
 {
@@ -147,6 +143,7 @@ fn is_full(lead: Lead) -> bool
 }
 
 // A `move` before `go`: "a 2,049th `move` line gets 5 as it is read"
+#[tactic(auto, unfolding(crate::specs::Asked::is_full, crate::specs::Asked::asked_move))]
 fn ask_move(lead: Lead) -> Plan
     ensures { result ≡ asked_move lead }
 {
@@ -155,73 +152,54 @@ fn ask_move(lead: Lead) -> Plan
     }
     no_task(Lead {
         stage: Stage::Gathering,
-        size: lead.size,
-        start: lead.start,
-        kinds: lead.kinds,
         count: lead.count + 2,
+        ..lead
     })
 }
 
 // Before `go`: `pay` until a `move` came, `move`, `go`.
+#[tactic(auto, using(crate::proofs::Telling::told), unfolding(crate::specs::Asked::asked_before))]
 fn ask_before(lead: Lead, r: Record) -> Plan
     ensures { result ≡ asked_before lead r }
 {
-    let word = r.word;
-    if is_word(word, Word::Pay) {
-        if lead.count == 0 {
-            return no_task(staged(Stage::Gathering, lead));
-        }
-    }
-    if is_word(word, Word::Move) {
-        return ask_move(lead);
-    }
-    if is_word(word, Word::Go) {
-        return Plan {
+    match r.word {
+        Word::Pay if lead.count == 0 => no_task(staged(Stage::Gathering, lead)),
+        Word::Move => ask_move(lead),
+        Word::Go => Plan {
             lead,
             task: Task::Ask(Ask::Load),
-        };
+        },
+        _ => refusing(Stage::Over, lead, 1),
     }
-    refusing(Stage::Over, lead, 1)
 }
 
 // Straight behind `game`: `kinds`, or what may follow without it.
+#[tactic(auto, using(crate::proofs::Telling::told), unfolding(crate::specs::Asked::asked_opened))]
 fn ask_opened(lead: Lead, r: Record) -> Plan
     ensures { result ≡ asked_opened lead r }
 {
-    let word = r.word;
-    if is_word(word, Word::Kinds) {
+    if r.word == Word::Kinds {
         return no_task(Lead {
             stage: Stage::Gathering,
-            size: lead.size,
-            start: lead.start,
             kinds: r.first,
             count: 0,
+            ..lead
         });
     }
     ask_before(lead, r)
 }
 
-// A change is asked of the session.
-fn changing(lead: Lead, op: Op) -> Plan
-    ensures { result ≡ Asked·changing op lead }
+// A call is asked of the session.
+fn calling(lead: Lead, command: Command) -> Plan
+    ensures { result ≡ Asked·calling command lead }
 {
     Plan {
         lead,
-        task: Task::Ask(Ask::Call(Command::Update(Update::Change(op)))),
+        task: Task::Ask(Ask::Call(command)),
     }
 }
 
-// Another count of kinds is asked of it.
-fn setting_kinds(lead: Lead, kinds: u16) -> Plan
-    ensures { result ≡ setting_kinds kinds lead }
-{
-    Plan {
-        lead,
-        task: Task::Ask(Ask::Call(Command::Kinds(kinds))),
-    }
-}
-
-// A question is asked of the session.
+// A question is asked of it.
 fn questioning(lead: Lead, question: Question) -> Plan
     ensures { result ≡ Asked·questioning question lead }
 {
@@ -239,13 +217,13 @@ fn about(topic: Topic, number: u16) -> Request
 }
 
 // After `go`: `add` and `cut`, `mark` and `unmark`, `begin` and `end`, `kinds`, `ways`, `short`.
+#[tactic(auto, unfolding(crate::specs::Asked::request_of))]
 fn request_of(r: Record) -> Request
     ensures { result ≡ request_of r }
 {
-    let word = r.word;
     let from = r.first;
     let to = r.second;
-    match word {
+    match r.word {
         Word::Add => Request::Change(Op::Add { from, to }),
         Word::Cut => Request::Change(Op::Cut { from, to }),
         Word::Mark => Request::Change(Op::Mark {
@@ -261,11 +239,7 @@ fn request_of(r: Record) -> Request
         Word::Kinds => Request::Kinds(from),
         Word::Ways => about(Topic::Ways, from),
         Word::Short => about(Topic::Short, from),
-        Word::Game => Request::Unknown,
-        Word::Pay => Request::Unknown,
-        Word::Move => Request::Unknown,
-        Word::Go => Request::Unknown,
-        Word::Unreadable => Request::Unknown,
+        Word::Game | Word::Pay | Word::Move | Word::Go | Word::Unreadable => Request::Unknown,
     }
 }
 
@@ -275,29 +249,27 @@ fn batching(lead: Lead, count: u16) -> Lead
 {
     Lead {
         stage: Stage::Batching,
-        size: lead.size,
-        start: lead.start,
-        kinds: lead.kinds,
         count,
+        ..lead
     }
 }
 
 // A line after `go`, outside a batch.
+#[tactic(auto, unfolding(crate::specs::Asked::asked_after))]
 fn ask_after(lead: Lead, r: Record) -> Plan
     ensures { result ≡ asked_after lead r }
 {
-    let request = request_of(r);
-    match request {
-        Request::Change(op) => changing(lead, op),
+    match request_of(r) {
+        Request::Change(op) => calling(lead, Command::Update(Update::Change(op))),
         Request::Begin => no_task(batching(lead, 0)),
-        Request::End => refusing(Stage::Playing, lead, 1),
-        Request::Kinds(kinds) => setting_kinds(lead, kinds),
+        Request::Kinds(kinds) => calling(lead, Command::Kinds(kinds)),
         Request::Question(question) => questioning(lead, question),
-        Request::Unknown => refusing(Stage::Playing, lead, 1),
+        Request::End | Request::Unknown => refusing(Stage::Playing, lead, 1),
     }
 }
 
 // A line inside a batch is held, where there is a place for it.
+#[tactic(auto, unfolding(crate::specs::Asked::holding))]
 fn holding(lead: Lead) -> Plan
     ensures { result ≡ Asked·holding lead }
 {
@@ -308,71 +280,56 @@ fn holding(lead: Lead) -> Plan
 }
 
 // A line inside a batch: `end`, or one that is held.
+#[tactic(auto, using(crate::proofs::Telling::told), unfolding(crate::specs::Asked::asked_inside))]
 fn ask_inside(lead: Lead, r: Record) -> Plan
     ensures { result ≡ asked_inside lead r }
 {
-    let word = r.word;
-    if is_word(word, Word::End) {
-        return Plan {
-            lead: staged(Stage::Playing, lead),
-            task: Task::Ask(Ask::Call(Command::Update(Update::Batch))),
-        };
+    if r.word == Word::End {
+        return calling(staged(Stage::Playing, lead), Command::Update(Update::Batch));
     }
     holding(lead)
 }
 
 // Is the line a `move` that is taken?
+#[tactic(auto, using(crate::proofs::Telling::told), unfolding(crate::specs::Asked::takes_move))]
 fn takes_move(lead: Lead, r: Record) -> bool
     ensures { result ≡ takes_move lead r }
 {
-    if is_full(lead) {
-        return false;
-    }
-    let word = r.word;
-    let stage = lead.stage;
-    match stage {
-        Stage::Waiting => false,
-        Stage::Opened => is_word(word, Word::Move),
-        Stage::Gathering => is_word(word, Word::Move),
-        Stage::Playing => false,
-        Stage::Batching => false,
-        Stage::Over => false,
+    !is_full(lead) && matches!(lead.stage, Stage::Opened | Stage::Gathering) && r.word == Word::Move
+}
+
+// Files numbers behind those that the list has already, where it has room.
+fn file_behind(numbers: &mut [u16], count: u16, more: &[u16])
+    requires { length more.now ≤ 3 }
+    ensures { numbers.new ≡ filed_behind numbers.old count more.now }
+{
+    let at = wide(count);
+    let end = at + more.len();
+    if end <= numbers.len() {
+        numbers[at..end].copy_from_slice(more);
     }
 }
 
 // Files the numbers of a `move` that is taken behind those of the moves before it, where the list has room.
+#[tactic(auto, unfolding(crate::specs::Asked::filed_move))]
 fn file_move(lead: Lead, r: Record, numbers: &mut [u16])
     ensures { numbers.new ≡ filed_move lead r numbers.old }
 {
     if takes_move(lead, r) {
-        let at = wide(lead.count);
-        if at + 1 < numbers.len() {
-            numbers[at] = r.first;
-            numbers[at + 1] = r.second;
-        }
+        file_behind(numbers, lead.count, &[r.first, r.second]);
     }
 }
 
 // Is the line a `pay` that is taken: before `go`, and before any `move`?
+#[tactic(auto, using(crate::proofs::Telling::told), unfolding(crate::specs::Asked::takes_pay))]
 fn takes_pay(lead: Lead, r: Record) -> bool
     ensures { result ≡ takes_pay lead r }
 {
-    if 0 < lead.count {
-        return false;
-    }
-    let word = r.word;
-    let stage = lead.stage;
-    match stage {
-        Stage::Waiting => false,
-        Stage::Opened => is_word(word, Word::Pay),
-        Stage::Gathering => is_word(word, Word::Pay),
-        Stage::Playing => false,
-        Stage::Batching => false,
-        Stage::Over => false,
-    }
+    lead.count == 0 && matches!(lead.stage, Stage::Opened | Stage::Gathering) && r.word == Word::Pay
 }
 
 // Sets the mark of a `pay` that is taken, in the words of its kind.
+#[tactic(auto, unfolding(crate::specs::Asked::filed_pay))]
 fn file_pay(lead: Lead, r: Record, marks: &mut [u64; 32])
     ensures { marks.new ≡ filed_pay lead r marks.old }
 {
@@ -382,63 +339,49 @@ fn file_pay(lead: Lead, r: Record, marks: &mut [u64; 32])
 }
 
 // Is the line one of a batch that is held?
+#[tactic(auto, using(crate::proofs::Telling::told), unfolding(crate::specs::Asked::takes_line))]
 fn takes_line(lead: Lead, r: Record) -> bool
     ensures { result ≡ takes_line lead r }
 {
-    if HELD <= lead.count {
-        return false;
-    }
-    let word = r.word;
-    let stage = lead.stage;
-    match stage {
-        Stage::Waiting => false,
-        Stage::Opened => false,
-        Stage::Gathering => false,
-        Stage::Playing => false,
-        Stage::Batching => !is_word(word, Word::End),
-        Stage::Over => false,
-    }
+    lead.count < HELD && lead.stage == Stage::Batching && r.word != Word::End
 }
 
 // The numbers of a line of a batch: those of a change, or of a line that makes none.
+// Kept: the zeros are written out and no `Default`, which would be no plainer: it is the 0 in `what` that says that the line makes no change.
+#[tactic(auto, unfolding(crate::specs::Asked::line_read))]
 fn line_of(r: Record) -> BatchLine
     ensures { result ≡ line_read r }
 {
-    let request = request_of(r);
-    if let Request::Change(op) = request {
-        return batch::line_of(op);
-    }
-    BatchLine {
-        what: 0,
-        first: 0,
-        second: 0,
+    match request_of(r) {
+        Request::Change(op) => batch::line_of(op),
+        _ => BatchLine {
+            what: 0,
+            first: 0,
+            second: 0,
+        },
     }
 }
 
 // Files the numbers of a line that is held behind those of the lines before it, where the list has room.
+#[tactic(auto, unfolding(crate::specs::Asked::filed_line))]
 fn file_line(lead: Lead, r: Record, numbers: &mut [u16])
     ensures { numbers.new ≡ filed_line lead r numbers.old }
 {
     if takes_line(lead, r) {
-        let at = wide(lead.count);
-        if at + 2 < numbers.len() {
-            let l = line_of(r);
-            numbers[at] = l.what;
-            numbers[at + 1] = l.first;
-            numbers[at + 2] = l.second;
-        }
+        let line = line_of(r);
+        file_behind(numbers, lead.count, &[line.what, line.first, line.second]);
     }
 }
 
 // What a line asks for, and the marks and the numbers behind it.
+#[tactic(auto, unfolding(crate::specs::Asked::asked, crate::specs::Asked::filed, crate::specs::Asked::takes_pay, crate::specs::Asked::filed_pay, crate::specs::Asked::takes_move, crate::specs::Asked::filed_move, crate::specs::Asked::takes_line, crate::specs::Asked::filed_line))]
 pub fn read(lead: Lead, marks: &mut [u64; 32], numbers: &mut [u16], bytes: &[u8]) -> Plan
     ensures value { result ≡ asked lead (record_of bytes.now) }
     ensures marks_after { marks.new ≡ filed_pay lead (record_of bytes.now) marks.old }
     ensures numbers_after { numbers.new ≡ filed lead (record_of bytes.now) numbers.old }
 {
     let r = line::read_record(bytes);
-    let stage = lead.stage;
-    match stage {
+    match lead.stage {
         Stage::Waiting => ask_first(lead, r),
         Stage::Opened => {
             file_pay(lead, r, marks);
@@ -463,13 +406,5 @@ pub fn read(lead: Lead, marks: &mut [u64; 32], numbers: &mut [u16], bytes: &[u8]
 pub fn is_over(lead: Lead) -> bool
     ensures { result ≡ is_over lead.stage }
 {
-    let stage = lead.stage;
-    match stage {
-        Stage::Waiting => false,
-        Stage::Opened => false,
-        Stage::Gathering => false,
-        Stage::Playing => false,
-        Stage::Batching => false,
-        Stage::Over => true,
-    }
+    lead.stage == Stage::Over
 }

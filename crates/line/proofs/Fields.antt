@@ -1,30 +1,20 @@
 -- What stands before a byte, and a list as the part before it and the parts behind it: the same for lines and for fields. Assumes nothing.
 use mathlib.Core.Path.{◌≡◌, refl, sym, ap, ◌∙◌}
 use mathlib.Core.List.{List, [], ◌∷◌}
-use mathlib.Core.Bool.{Bool, true, false, cond}
+use mathlib.Core.Bool.{Bool, true, false, not, cond}
 use Prim.Native.Nat.{ℕ, suc, ◌+◌, ◌-◌, ◌≤◌, ◌<◌}
 use native.Mathlib.Decide.{dec_lt}
-use native.Mathlib.Numerals.{add-one}
 use native.Mathlib.Omega.{arith}
-use borrow.Author.Tests.{eq-eqb, ne_eqb, lt-ltb, le-ltb}
+use borrow.Author.Tests.{lt-ltb, le-ltb}
 use lib.Dec.{eqb, ltb}
-use lib.ListN.{length, get_or, take, drop, length-drop, drop_of_length-le}
-use lib.Seq.{drop-cons, drop-drop, length-take-le}
+use lib.ListN.{length, take, drop, length-drop, drop_of_length-le}
+use lib.Seq.{drop-drop, length-take-le}
+use Rattle.std.specs.Prelude.{Option, Some, None, position}
+use Rattle.std.specs.List.{position_or_len}
+use Rattle.std.specs.Option.{unwrap_or}
 use Rattle.line.specs.Fields.{tab, newline, on_first, parted, lines_of, fields_of, up_to, field_at}
 
 -- ---- what stands before a byte, from a place on
-
-pub up_to_stop : (b : ℕ) (l : List ℕ) (i : ℕ) → i < length l → get_or l i 0 ≡ b → up_to b (drop i l) ≡ 0
-unfolding up_to
-up_to_stop b l i h e = rw (drop-cons l i 0 h, eq-eqb (get_or l i 0) b e)
-
-pub up_to_more : (b : ℕ) (l : List ℕ) (i : ℕ) → i < length l → (get_or l i 0 ≡ b → ⊥) → up_to b (drop i l) ≡ suc (up_to b (drop (i + 1) l))
-unfolding up_to
-up_to_more b l i h e = rw (drop-cons l i 0 h, ne_eqb (get_or l i 0) b e, add-one)
-
-pub up_to_end : (b : ℕ) (l : List ℕ) (i : ℕ) → length l ≤ i → up_to b (drop i l) ≡ 0
-unfolding up_to
-up_to_end b l i h = rw (drop_of_length-le l h)
 
 one_more : (t : Bool) (n m : ℕ) → n ≤ m → cond t 0 (suc n) ≤ suc m
 one_more true n m h = omega arith
@@ -34,6 +24,26 @@ pub up_to_le : (b : ℕ) (l : List ℕ) → up_to b l ≤ length l
 unfolding up_to
 up_to_le b [] = omega arith
 up_to_le b (x ∷ xs) = one_more (eqb x b) (up_to b xs) (length xs) (up_to_le b xs)
+
+-- std's word for it
+up_to_position : (b : ℕ) (l : List ℕ) → position_or_len (λ x. eqb x b) l ≡ up_to b l
+unfolding up_to
+up_to_position b [] = refl
+up_to_position b (x ∷ xs) = by_test (eqb x b) (up_to_position b xs)
+  where
+    by_test : (t : Bool) → position_or_len (λ x. eqb x b) xs ≡ up_to b xs → cond (not t) (1 + position_or_len (λ x. eqb x b) xs) 0 ≡ cond t 0 (suc (up_to b xs))
+    by_test true e = refl
+    by_test false e = omega (arith, e)
+
+-- the place of the first b, or the length
+pub first_stop : (b : ℕ) (l : List ℕ) (o : Option ℕ) → o ≡ position (λ x. eqb x b) l → unwrap_or o (length l) ≡ up_to b l
+first_stop b l o e = ap (λ (p : Option ℕ). unwrap_or p (length l)) (e ∙ ap (λ (n : ℕ). cond (ltb n (length l)) (Some n) None) (up_to_position b l)) ∙ within_length
+  where
+    within_length : unwrap_or (cond (ltb (up_to b l) (length l)) (Some (up_to b l)) None) (length l) ≡ up_to b l
+    within_length = elim (dec_lt (up_to b l) (length l)) [
+      | yes h ↦ rw (lt-ltb (up_to b l) (length l) h)
+      | no h ↦ rw (le-ltb (up_to b l) (length l) (omega arith)) (omega (arith, up_to_le b l))
+    ]
 
 pub end_within : (b : ℕ) (l : List ℕ) (from e : ℕ) → from ≤ length l → e ≡ from + up_to b (drop from l) → e ≤ length l
 end_within b l from e h k = omega (arith, up_to_le b (drop from l), length-drop from l)

@@ -7,6 +7,7 @@ use native.Mathlib.Omega.{arith}
 use borrow.Author.Tests.{ne_eqb, leb-true, ltb-true, eqb-true}
 use lib.Dec.{eqb, ltb, leb}
 use lib.ListN.{length, get_or}
+use Rattle.std.proofs.lemmas.Bool.{and_parts}
 use Rattle.line.specs.Fields.{fields_of}
 use Rattle.line.specs.Numbers.{all, is_digit, value, leading_zero, is_number}
 use Rattle.line.specs.Words.{tag_of, kind_of, is_word}
@@ -14,7 +15,7 @@ use Rattle.line.specs.Records.{unreadable, word_of, is_kind, fields_fit, worded,
 use Rattle.line.specs.declared.Word.{Word}
 use Rattle.line.specs.declared.Word.TheVariants.{Pay, Unreadable}
 use Rattle.line.specs.declared.Record.{Record}
-use Rattle.line.proofs.Words.{both, same_word}
+use Rattle.line.proofs.Words.{same_word}
 
 -- a line that has one word has no other
 pub other_word : (w v u : Word) → is_word w v ≡ true → is_word v u ≡ false → is_word w u ≡ false
@@ -23,11 +24,11 @@ other_word w v u e f = ap (λ (n : ℕ). eqb n (tag_of u)) (eqb-true (tag_of w) 
 
 number_most : (limit : ℕ) (f : List ℕ) → is_number limit f ≡ true → value f ≤ limit
 unfolding is_number
-number_most limit f e = leb-true (value f) limit (both (ltb 0 (length f) && leb (length f) 5 && not (leading_zero f) && all is_digit f) (leb (value f) limit) e).1
+number_most limit f e = leb-true (value f) limit (and_parts (ltb 0 (length f) && leb (length f) 5 && not (leading_zero f) && all is_digit f) (leb (value f) limit) e).1
 
 kind_few : (f : List ℕ) → is_kind f ≡ true → (0 < value f) × (value f ≤ 4)
 unfolding is_kind
-kind_few f e = let w = both (is_number 4 f) (ltb 0 (value f)) e in (ltb-true 0 (value f) w.1, number_most 4 f w.0)
+kind_few f e = let w = and_parts (is_number 4 f) (ltb 0 (value f)) e in (ltb-true 0 (value f) w.1, number_most 4 f w.0)
 
 -- what the numbers behind the word are
 abbrev Named : ℕ → ℕ → Type 0
@@ -36,11 +37,11 @@ Named state kind = (state < 512) × (0 < kind) × (kind ≤ 4)
 fields_named : (fs : List (List ℕ)) → fields_fit Pay fs ≡ true → Named (get_or (map value fs) 0 0) (get_or (map value fs) 1 1)
 unfolding fields_fit all
 fields_named [] e = absurd (true≢false (sym e))
-fields_named (f ∷ []) e = (omega (arith, number_most 511 f (both (is_number 511 f) true (both (is_number 511 f && true) true e).0).0), omega arith, omega arith)
+fields_named (f ∷ []) e = (omega (arith, number_most 511 f (and_parts (is_number 511 f) true (and_parts (is_number 511 f && true) true e).0).0), omega arith, omega arith)
 fields_named (f ∷ g ∷ []) e =
-    let w = both (is_number 511 f && true) (is_kind g && true) e in
-    let kind = kind_few g (both (is_kind g) true w.1).0 in
-    (omega (arith, number_most 511 f (both (is_number 511 f) true w.0).0), kind.0, kind.1)
+    let w = and_parts (is_number 511 f && true) (is_kind g && true) e in
+    let kind = kind_few g (and_parts (is_kind g) true w.1).0 in
+    (omega (arith, number_most 511 f (and_parts (is_number 511 f) true w.0).0), kind.0, kind.1)
 fields_named (f ∷ g ∷ h ∷ rest) e = absurd (true≢false (sym e ∙ none))
   where
     many : List (List ℕ)

@@ -10,21 +10,22 @@ use borrow.Author.Tests.{eq-eqb, ne_eqb, eqb-true, leb-true, lt-ltb, le-ltb}
 use lib.Dec.{eqb, leb, ltb}
 use lib.ListN.{length, get_or, take, drop, length-take}
 use lib.Seq.{take_all, take-length}
+use Rattle.std.specs.Prelude.{Option, Some, None, Result, Ok, Err}
+use Rattle.std.specs.Result.{result_unwrap_or}
 use Rattle.line.specs.Fields.{tab, fields_of, field_at}
 use Rattle.line.specs.Numbers.{all, value, is_number, number_of}
 use Rattle.line.specs.Words.{count_of, limit_of, kind_of, takes_kind}
 use Rattle.line.specs.Records.{words, unreadable, word_of, is_kind, fields_fit, worded, from_fields, record_of}
 use Rattle.line.specs.Items.{row_of, as_item, item_at, second_limit, filled_with}
-use Rattle.line.specs.declared.Item.{Item}
-use Rattle.line.specs.declared.Item.TheVariants as I
-use Rattle.line.specs.declared.Number.TheVariants as N
+use Rattle.line.specs.declared.NoRecord.{NoRecord}
+use Rattle.line.specs.declared.Record.{Record}
 use Rattle.line.specs.declared.Word.{Word}
 use Rattle.line.proofs.Words.{each_word}
 use Rattle.line.proofs.Fields.{behind_none, fields_behind, field_within, fields_at, behind_field}
 
 -- ---- what stands behind a field
 
-pub item_end : (limit : ℕ) (l : List ℕ) (at : ℕ) → at ≡ length l → I.End ≡ item_at limit l at
+pub item_end : (limit : ℕ) (l : List ℕ) (at : ℕ) → at ≡ length l → Ok None ≡ item_at limit l at
 unfolding item_at
 item_end limit l at e = rw (eq-eqb at (length l) e)
 
@@ -34,18 +35,18 @@ unfolding item_at
 item_field limit l at f d e = rw (ne_eqb at (length l) d, e)
 
 -- what an item tells of the fields behind the field that ends at `at`
-abbrev pub Tells : ℕ → List ℕ → ℕ → Item → Type 0
-Tells limit l at (I.Is v end) =
+abbrev pub Tells : ℕ → List ℕ → ℕ → Result (Option (ℕ × ℕ)) NoRecord → Type 0
+Tells limit l at (Ok (Some (v, end))) =
     (f : List ℕ) × (fields_behind l at ≡ f ∷ fields_behind l end) × (is_number limit f ≡ true) × (value f ≡ v) × (end ≤ length l)
-Tells limit l at I.Bad = (f : List ℕ) × (rest : List (List ℕ)) × (fields_behind l at ≡ f ∷ rest) × (is_number limit f ≡ false)
-Tells limit l at I.End = fields_behind l at ≡ []
+Tells limit l at (Err _) = (f : List ℕ) × (rest : List (List ℕ)) × (fields_behind l at ≡ f ∷ rest) × (is_number limit f ≡ false)
+Tells limit l at (Ok None) = fields_behind l at ≡ []
 
 field_tells : (limit : ℕ) (l : List ℕ) (at : ℕ) (t : Bool) → at < length l → is_number limit (field_at l (at + 1)) ≡ t
-    → Tells limit l at (as_item (cond t (N.Is (value (field_at l (at + 1)))) N.Bad) (at + 1 + length (field_at l (at + 1))))
+    → Tells limit l at (as_item (cond t (Some (value (field_at l (at + 1)))) None) (at + 1 + length (field_at l (at + 1))))
 field_tells limit l at true h e = (field_at l (at + 1), behind_field l at h, e, refl, field_within l (at + 1) (omega arith))
 field_tells limit l at false h e = (field_at l (at + 1), _, behind_field l at h, e)
 
-pub item_tells : (limit : ℕ) (l : List ℕ) (at : ℕ) (i : Item) → at ≤ length l → i ≡ item_at limit l at → Tells limit l at i
+pub item_tells : (limit : ℕ) (l : List ℕ) (at : ℕ) (i : Result (Option (ℕ × ℕ)) NoRecord) → at ≤ length l → i ≡ item_at limit l at → Tells limit l at i
 unfolding number_of
 item_tells limit l at i k e = elim (dec_lt at (length l)) [
   | yes h ↦ subst (Tells limit l at) (item_field limit l at _ (λ d. omega arith) refl ∙ sym e) (field_tells limit l at _ h refl)
@@ -83,12 +84,6 @@ takes w = by_kind (takes_kind w) refl (each_word takes_few refl refl w)
     by_kind true k e = kind k (eqb-true (count_of w) 1 e)
     by_kind false k e = numbers k (leb-true (count_of w) 2 e)
 
-pub two_at_most : (w : Word) → count_of w ≤ 2
-two_at_most w = elim (takes w) [
-  | numbers k h ↦ h
-  | kind k h ↦ omega arith
-]
-
 kind_alone : (a b v : Bool) → a && (b && true) && v ≡ a && true && (b && v && true)
 kind_alone true true v = sym (and-true v)
 kind_alone true false v = refl
@@ -108,11 +103,13 @@ kind_fits limit d (f ∷ g ∷ x ∷ rest) =
 abbrev limits_of : Word → List ℕ
 limits_of w = limit_of w ∷ second_limit (row_of w) ∷ []
 
+-- a word takes so many fields, or a kind behind them
+abbrev counted : Word → List (List ℕ) → Bool
+counted w fs = eqb (length fs) (count_of w) || takes_kind w && eqb (length fs) (suc (count_of w)) && ltb 0 (get_or (map value fs) 1 (kind_of w))
+
 -- the fields fit a word where its numbers can be read and it takes so many of them
 numbers_fit : (w : Word) (fs : List (List ℕ)) → Takes w
-    → within (limits_of w) fs
-    && (eqb (length fs) (count_of w) || takes_kind w && eqb (length fs) (suc (count_of w)) && ltb 0 (get_or (map value fs) 1 (kind_of w)))
-    ≡ fields_fit w fs
+    → within (limits_of w) fs && counted w fs ≡ fields_fit w fs
 unfolding second_limit fields_fit
 numbers_fit w fs (numbers k h) = elim (ℕ_discrete (length fs) (count_of w)) [
   | yes e ↦ rw (k, ← e, eq-eqb (length fs) (length fs) refl, take-length fs, within_all (limit_of w) fs (omega arith))
@@ -120,10 +117,18 @@ numbers_fit w fs (numbers k h) = elim (ℕ_discrete (length fs) (count_of w)) [
 ]
 numbers_fit w fs (kind k h) = rw (k, h) (kind_fits (limit_of w) (kind_of w) fs)
 
+-- a record, or that of a line that cannot be read
+abbrev pub or_unreadable : Result Record NoRecord → Record
+or_unreadable r = result_unwrap_or r unreadable
+
+or_by_test : (t : Bool) (r : Record) → or_unreadable (cond t (Ok r) (Err (record {}))) ≡ cond t r unreadable
+or_by_test true r = refl
+or_by_test false r = refl
+
 worded_good : (w : Word) (fs : List (List ℕ)) → within (limits_of w) fs ≡ true
-    → filled_with (row_of w) (length fs) (get_or (map value fs) 0 0) (get_or (map value fs) 1 (kind_of w)) ≡ worded w fs
+    → or_unreadable (filled_with (row_of w) (length fs) (get_or (map value fs) 0 0) (get_or (map value fs) 1 (kind_of w))) ≡ worded w fs
 unfolding worded filled_with
-worded_good w fs e = rw (← numbers_fit w fs (takes w), e)
+worded_good w fs e = rw (← numbers_fit w fs (takes w), e) (or_by_test (counted w fs) _)
 
 worded_bad : (w : Word) (fs : List (List ℕ)) → within (limits_of w) fs ≡ false → unreadable ≡ worded w fs
 unfolding worded
@@ -131,32 +136,32 @@ worded_bad w fs e = rw (← numbers_fit w fs (takes w), e)
 
 -- ---- the ways in which a line goes on behind its word
 
-pub none_behind : (w : Word) (l : List ℕ) (at : ℕ) → Tells (limit_of w) l at I.End → filled_with (row_of w) 0 0 (kind_of w) ≡ worded w (fields_behind l at)
+pub none_behind : (w : Word) (l : List ℕ) (at : ℕ) → Tells (limit_of w) l at (Ok None) → or_unreadable (filled_with (row_of w) 0 0 (kind_of w)) ≡ worded w (fields_behind l at)
 unfolding within
 none_behind w l at t = worded_good w [] refl ∙ rw t
 
-pub bad_behind : (w : Word) (l : List ℕ) (at : ℕ) → Tells (limit_of w) l at I.Bad → unreadable ≡ worded w (fields_behind l at)
+pub bad_behind : (w : Word) (l : List ℕ) (at : ℕ) → Tells (limit_of w) l at (Err (record {})) → unreadable ≡ worded w (fields_behind l at)
 unfolding within
 bad_behind w l at t = worded_bad w (fields_behind l at) (rw (t.2, t.3))
 
-pub one_behind : (w : Word) (l : List ℕ) (at v end : ℕ) → Tells (limit_of w) l at (I.Is v end) → Tells (second_limit (row_of w)) l end I.End
-    → filled_with (row_of w) 1 v (kind_of w) ≡ worded w (fields_behind l at)
+pub one_behind : (w : Word) (l : List ℕ) (at v end : ℕ) → Tells (limit_of w) l at (Ok (Some (v, end))) → Tells (second_limit (row_of w)) l end (Ok None)
+    → or_unreadable (filled_with (row_of w) 1 v (kind_of w)) ≡ worded w (fields_behind l at)
 unfolding within
 one_behind w l at v end t u = rw (t.1, u, sym t.3) (worded_good w (t.0 ∷ []) (rw t.2))
 
-pub bad_second : (w : Word) (l : List ℕ) (at v end : ℕ) → Tells (limit_of w) l at (I.Is v end) → Tells (second_limit (row_of w)) l end I.Bad
+pub bad_second : (w : Word) (l : List ℕ) (at v end : ℕ) → Tells (limit_of w) l at (Ok (Some (v, end))) → Tells (second_limit (row_of w)) l end (Err (record {}))
     → unreadable ≡ worded w (fields_behind l at)
 unfolding within
 bad_second w l at v end t u = worded_bad w (fields_behind l at) (rw (t.1, u.2, t.2, u.3))
 
-pub two_behind : (w : Word) (l : List ℕ) (at v end u last : ℕ) → Tells (limit_of w) l at (I.Is v end) → Tells (second_limit (row_of w)) l end (I.Is u last)
-    → last ≡ length l → filled_with (row_of w) 2 v u ≡ worded w (fields_behind l at)
+pub two_behind : (w : Word) (l : List ℕ) (at v end u last : ℕ) → Tells (limit_of w) l at (Ok (Some (v, end))) → Tells (second_limit (row_of w)) l end (Ok (Some (u, last)))
+    → last ≡ length l → or_unreadable (filled_with (row_of w) 2 v u) ≡ worded w (fields_behind l at)
 unfolding within
 two_behind w l at v end u last s t e =
     rw (s.1, t.1, behind_none tab ([] ∷ []) l last (omega arith), sym s.3, sym t.3)
     (worded_good w (s.0 ∷ t.0 ∷ []) (rw (s.2, t.2)))
 
-pub more_behind : (w : Word) (l : List ℕ) (at v end u last : ℕ) → Tells (limit_of w) l at (I.Is v end) → Tells (second_limit (row_of w)) l end (I.Is u last)
+pub more_behind : (w : Word) (l : List ℕ) (at v end u last : ℕ) → Tells (limit_of w) l at (Ok (Some (v, end))) → Tells (second_limit (row_of w)) l end (Ok (Some (u, last)))
     → (last ≡ length l → ⊥) → unreadable ≡ worded w (fields_behind l at)
 unfolding within
 more_behind w l at v end u last s t d =

@@ -1,7 +1,5 @@
 -- Document 01, "Lines on the lead": what a field spells as a number. Assumes nothing.
-use Rattle.std.specs.Prelude.{ℕ, ◌+◌, ◌*◌, ◌-◌, Bool, true, ◌&&◌, not, cond, List, [], ◌∷◌, eqb, leb, ltb, length, get_or}
-use Rattle.line.specs.declared.Number.{Number}
-use Rattle.line.specs.declared.Number.TheVariants.{Is, Bad}
+use Rattle.std.specs.Prelude.{ℕ, ◌+◌, ◌*◌, ◌-◌, Bool, true, ◌&&◌, not, cond, List, [], ◌∷◌, eqb, leb, ltb, length, get_or, Option, Some, None}
 
 -- do all elements pass the test?
 unfoldable pub all : {A : Type 0} → (A → Bool) → List A → Bool
@@ -28,5 +26,5 @@ leading_zero field = ltb 1 (length field) && eqb (get_or field 0 0) 48
 unfoldable pub is_number : ℕ → List ℕ → Bool
 is_number limit field = ltb 0 (length field) && leb (length field) 5 && not (leading_zero field) && all is_digit field && leb (value field) limit
 
-unfoldable pub number_of : ℕ → List ℕ → Number
-number_of limit field = cond (is_number limit field) (Is (value field)) Bad
+unfoldable pub number_of : ℕ → List ℕ → Option ℕ
+number_of limit field = cond (is_number limit field) (Some (value field)) None

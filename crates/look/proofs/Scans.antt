@@ -1,5 +1,5 @@
 -- The row of a state by its places, and a scan of it, edge by edge. Assumes nothing.
-use Rattle.std.proofs.Common.{◌≡◌, ℕ, zero, suc, ◌+◌, ◌-◌, ◌%◌, ◌<◌, ◌≤◌, Bool, true, false, ◌&&◌, ltb, leb, List, [], ◌∷◌, map, length, get_or, replicate, sym, refl, ap, ◌∙◌, ⊎_elim, add-zero, arith, ltb-false, ltb-true, le-ltb, lt-ltb, le-leb, leb-false, leb-true}
+use Rattle.std.proofs.Common.{◌≡◌, subst, ℕ, zero, suc, ◌+◌, ◌-◌, ◌%◌, ◌<◌, ◌≤◌, Bool, true, false, ◌&&◌, ltb, leb, List, [], ◌∷◌, map, length, get_or, replicate, sym, refl, ap, ◌∙◌, ⊎_elim, add-zero, arith, ltb-false, ltb-true, le-ltb, lt-ltb, le-leb, leb-false, leb-true}
 use lib.ListN.{length-map}
 use borrow.Author.Tests.{lt-leb}
 use Rattle.plain.specs.Lists.{In}
@@ -11,7 +11,10 @@ use Rattle.rows.proofs.Change.{starts_within}
 use Rattle.look.specs.declared.Row.{Row}
 use Rattle.look.specs.declared.Stretch.{Stretch}
 use Rattle.look.specs.Numbers.{no_number, up, raised}
-use Rattle.look.specs.Scan.{fits, row_in, Spans, Layout, ends_of, plain_layout, Stretches, spanned, lifted, row_laid, Skips, Swept}
+use Rattle.std.specs.Prelude.{None, Some}
+use Rattle.std.proofs.lemmas.Option.{none-some, same_Some}
+use Rattle.look.specs.Scan.{fits, row_in, Spans, ends_of, plain_layout, Stretches, spanned, lifted, row_laid, Skips, Hits, Swept}
+use Rattle.look.specs.declared.Layout.{Layout}
 use Rattle.look.proofs.Counting.{raised_none, raised_next}
 
 -- ---- the row of a state, by its places
@@ -208,28 +211,28 @@ module _ (row array : List ℕ) (k spent e now : ℕ) (so_far : SoFar row array 
         )
 
     -- the edge is the one
-    pub scan_finds : (edge target : ℕ) → edge ≡ e → target ≡ t → get_or array t 0 ≡ no_number → Swept row array k spent (record { edge = edge; target = target; found = true }) now'
-    scan_finds edge target f g new = record {
+    pub scan_finds : (index target : ℕ) → index ≡ e → target ≡ t → get_or array t 0 ≡ no_number → Swept row array k spent (Some (record { index = index; target = target })) now'
+    scan_finds index target f g new = record {
       passed = passed;
       skips = so_far.1;
-      looked = λ y. (
-        record {
+      looked = λ r y. (
+        subst (Hits row array (k + passed)) (same_Some _ _ y) (record {
           edge = omega (arith, here);
-          edge_is = f ∙ here;
+          index_is = f ∙ here;
           target_is = g ∙ handed ∙ ap (λ (j : ℕ). get_or row j 0) here;
           new = ap (λ (u : ℕ). get_or array u 0) g ∙ new;
-        },
+        }),
         raises ∙ ap up so_far.2,
       );
-      ended = λ y. absurd (contra refl y);
+      ended = λ y. absurd (none-some _ (sym y));
     }
 
   -- no edge is left
-  pub scan_ends : length row ≤ e → Swept row array k spent (record { edge = 0; target = 0; found = false }) now
+  pub scan_ends : length row ≤ e → Swept row array k spent None now
   scan_ends done = record {
     passed = passed;
     skips = so_far.1;
-    looked = λ y. absurd (contra y refl);
+    looked = λ r y. absurd (none-some _ y);
     ended = λ y. (omega (arith, here), so_far.2);
   }
 

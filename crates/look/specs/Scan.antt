@@ -1,9 +1,10 @@
 -- The row of a state, its places, and what a scan of it leaves: cited by the contracts of this crate. Assumes nothing.
-use Rattle.std.specs.Prelude.{◌≡◌, ℕ, suc, ◌+◌, ◌-◌, ◌%◌, ◌<◌, ◌≤◌, Bool, true, false, cond, ◌&&◌, List, [], map, length, replicate, ◌≢◌, nat_le, nat_lt, slice_index, slice_index_or}
+use Rattle.std.specs.Prelude.{◌≡◌, ℕ, suc, ◌+◌, ◌-◌, ◌%◌, ◌<◌, ◌≤◌, Bool, true, false, cond, ◌&&◌, Option, None, Some, List, [], map, length, replicate, ◌≢◌, nat_le, nat_lt, slice_index, slice_index_or}
 use Rattle.rows.specs.Rows.{entries, row_at}
 use Rattle.look.specs.declared.Row.{Row}
 use Rattle.look.specs.declared.Stretch.{Stretch}
-use Rattle.look.specs.declared.Scanned.{Scanned}
+use Rattle.look.specs.declared.Edge.{Edge}
+use Rattle.look.specs.declared.Layout.{Layout}
 use Rattle.look.specs.Numbers.{no_number, up, raised}
 
 -- the entries of an array that goes by state, and of the array of targets
@@ -30,12 +31,7 @@ pub record Spans (starts : List ℕ) (v : ℕ) (r : Row) : Type 0 where
 
 -- ---- the rows as a search reads them
 
--- By state: the place of its row's first edge among the targets, the place behind its last, and what is added to each target.
-pub record Layout : Type 0 where
-  pub begins : List ℕ
-  pub ends : List ℕ
-  pub bases : List ℕ
-
+-- the rows as a search reads them, of lists
 abbrev pub layout_of : List ℕ → List ℕ → List ℕ → Layout
 layout_of begins ends bases = record { begins = begins; ends = ends; bases = bases }
 
@@ -46,13 +42,6 @@ ends_of starts = entries most_states 1 starts
 -- the rows of a table, read as they lie
 abbrev pub plain_layout : List ℕ → Layout
 plain_layout starts = layout_of starts (ends_of starts) (replicate most_states 0)
-
--- lengths that the arrays have by their types
-pub record Laid (targets begins ends bases : List ℕ) : Type 0 where
-  pub targets_size : length targets ≡ most_targets
-  pub begins_size : length begins ≡ suc most_states
-  pub ends_size : length ends ≡ most_states
-  pub bases_size : length bases ≡ most_states
 
 -- how many edges stand between two places; those that go on past the array of targets count as none
 unfoldable pub spanned : ℕ → ℕ → ℕ
@@ -83,15 +72,15 @@ abbrev pub Skips : List ℕ → List ℕ → ℕ → ℕ → Type 0
 Skips row array k n = (i : ℕ) → i < n → (k + i < length row) × (slice_index array (slice_index row (k + i)) ≢ no_number)
 
 -- a look at edge k of the row: it leads to a state that has no number in the array
-pub record Hits (row array : List ℕ) (k : ℕ) (r : Scanned) : Type 0 where
+pub record Hits (row array : List ℕ) (k : ℕ) (r : Edge) : Type 0 where
   pub edge : k < length row
-  pub edge_is : r.edge ≡ k
+  pub index_is : r.index ≡ k
   pub target_is : r.target ≡ slice_index row k
   pub new : slice_index_or array r.target 0 ≡ no_number
 
 -- What a scan from edge k of a row on leaves: some edges are passed over, and one more is looked at, or none is left. Each look was counted.
-pub record Swept (row array : List ℕ) (k spent : ℕ) (r : Scanned) (spent' : ℕ) : Type 0 where
+pub record Swept (row array : List ℕ) (k spent : ℕ) (r : Option Edge) (spent' : ℕ) : Type 0 where
   pub passed : ℕ
   pub skips : Skips row array k passed
-  pub looked : r.found ≡ true → Hits row array (k + passed) r × (spent' ≡ up (raised passed spent))
-  pub ended : r.found ≡ false → (length row ≤ k + passed) × (spent' ≡ raised passed spent)
+  pub looked : (e : Edge) → r ≡ Some e → Hits row array (k + passed) e × (spent' ≡ up (raised passed spent))
+  pub ended : r ≡ None → (length row ≤ k + passed) × (spent' ≡ raised passed spent)

@@ -96,19 +96,12 @@ or_four false false false false = refl
 -- a state that carries any kind has its bit in the joined words
 pub joined_any : (ws : List ℕ) (s : ℕ) → s < 512 → bit (s % 64) (joined_at ws (s / 64)) ≡ any (λ words. accepts words s) (by_kind ws)
 unfolding joined_at accepts by_kind any
-joined_any ws s h =
-    let i = s / 64 in
-    let b = s % 64 in
-    let w : ℕ → ℕ = λ k. get_or ws (i + k) 0 in
-    bit_of_or b (bit_or (bit_or (get_or ws i 0) (w 8)) (w 16)) (w 24)
-    ∙ ap (λ (x : Bool). x || bit b (w 24)) (bit_of_or b (bit_or (get_or ws i 0) (w 8)) (w 16) ∙ ap (λ (x : Bool). x || bit b (w 16)) (bit_of_or b (get_or ws i 0) (w 8)))
-    ∙ or_four (bit b (get_or ws i 0)) (bit b (w 8)) (bit b (w 16)) (bit b (w 24))
-    ∙ (λ j. bit b (sym first j) || (bit b (sym (of_kind 8) j) || (bit b (sym (of_kind 16) j) || (bit b (sym (of_kind 24) j) || false))))
+joined_any ws s h = simp (bit_of_or, or_four, first, of_kind)
   where
     first : get_or (take 8 ws) (s / 64) 0 ≡ get_or ws (s / 64) 0
     first = get_or-take 8 ws (s / 64) 0 (omega arith)
 
     of_kind : (k : ℕ) → get_or (take 8 (drop k ws)) (s / 64) 0 ≡ get_or ws (s / 64 + k) 0
     of_kind k =
-        let e : k + s / 64 ≡ s / 64 + k = omega arith in
-        get_or-take 8 (drop k ws) (s / 64) 0 (omega arith) ∙ get_or-drop k ws (s / 64) 0 ∙ ap (λ (i : ℕ). get_or ws i 0) e
+        let within : s / 64 < 8 = omega arith in
+        rw (get_or-take, get_or-drop) (ap (λ (i : ℕ). get_or ws i 0) (add_comm k (s / 64)))

@@ -5,6 +5,7 @@ ghost use Rattle.std.specs.Prelude.{◌≡◌, ◌%◌, ◌^◌};
 ghost use Rattle.plain.specs.Table.{accepts, with_mark, without_mark, by_kind, accepting_count};
 
 // The mask of state s: 2 to the power of its position, which is s mod 64.
+#[tactic(auto, using(std::proofs::lemmas::Nat::one_shl))]
 fn mask(s: usize) -> u64
     ensures { result ≡ 2 ^ (s % 64) }
 {
@@ -12,25 +13,24 @@ fn mask(s: usize) -> u64
 }
 
 // Does state s pay, by words that are lent? No for a state past the last word.
+#[tactic(auto, using(plain::proofs::Bits::bit_of_zero), unfolding(plain::specs::Table::accepts, plain::specs::Table::bit))]
 pub fn accepts_in(words: &[u64], s: usize) -> bool
     ensures { result ≡ accepts words.now s }
 {
-    let word = s / 64;
-    let bit = s % 64;
-    if word < words.len() {
-        (words[word] >> bit) % 2 == 1
-    } else {
-        false
-    }
+    words
+        .get(s / 64)
+        .is_some_and(|word| (word >> (s % 64)) % 2 == 1)
 }
 
 // Sets the mark of s in words that are lent. A state past the last word has none, and the words stay as they are.
+// Kept: an index behind its test, here and in `clear_mark`: of what the words end as behind `get_mut` the library says nothing.
+#[tactic(auto, using(plain::proofs::Bits::or_sets), unfolding(plain::specs::Table::with_mark))]
 pub fn set_mark(words: &mut [u64], s: usize)
     ensures { words.new ≡ with_mark words.old s }
 {
     let word = s / 64;
     if word < words.len() {
-        words[word] = words[word] | mask(s);
+        words[word] |= mask(s);
     }
 }
 
@@ -40,8 +40,7 @@ pub fn clear_mark(words: &mut [u64], s: usize)
 {
     let word = s / 64;
     if word < words.len() {
-        let w = words[word];
-        words[word] = w - (w & mask(s));
+        words[word] &= !mask(s);
     }
 }
 
@@ -49,12 +48,10 @@ pub fn clear_mark(words: &mut [u64], s: usize)
 pub fn count(marks: [u64; 32]) -> u32
     ensures { result ≡ accepting_count (by_kind marks) }
 {
-    let mut sum: u32 = 0;
-    let mut i: usize = 0;
-    while i < 8 {
+    let mut sum = 0;
+    for i in 0..8 {
         let any = marks[i] | marks[i + 8] | marks[i + 16] | marks[i + 24];
-        sum += u64::count_ones(any);
-        i += 1;
+        sum += any.count_ones();
     }
     sum
 }

@@ -3,6 +3,8 @@
 
 use lead::Task;
 
+// Kept: one function for the end of this loop and of the desk program's makes this one slower by 7 to 8 % (docs/DECISIONS.md, 94).
+// Kept: a struct of the six arrays would be no plainer: it would be taken apart at each call, which borrows two or three of them.
 fn main(rt: HostRuntime) {
     let input = rt.stdin();
     let output = rt.stdout();
@@ -17,38 +19,32 @@ fn main(rt: HostRuntime) {
     let mut r = console::begin();
     loop {
         r = console::next_line(input, &mut buf, &mut held, r);
-        if !console::has_line(r) {
+        if !r.has_line() {
             return;
         }
-        let len = r.len;
-        let plan = lead::read(lead, &mut marks, &mut numbers, &held[..len]);
-        let task = plan.task;
-        if let Task::Ask(ask) = task {
+        let line = &held[..r.len];
+        let plan = lead::read(lead, &mut marks, &mut numbers, line);
+        if let Task::Ask(ask) = plan.task {
             c = watch::serve(c.session, lead, ask, &marks, &numbers, &mut walk);
         }
-        let answer = c.answer;
-        let reply = watch::reply_to(c.session, task);
-        let w = watch::write(plan, &marks, answer, reply, &walk, &mut lines);
-        let n = w.len;
+        let reply = watch::reply_to(c.session, plan.task);
+        let w = watch::write(plan, &marks, c.answer, reply, &walk, &mut lines);
         if !console::print(
             output,
-            &held[..len],
+            line,
             lead,
             &marks,
-            answer,
+            c.answer,
             reply,
             &walk,
-            &lines[..n],
+            &lines[..w.len],
         ) {
             return;
         }
         lead = w.lead;
-        if lead::is_over(lead) {
+        if lead::is_over(lead) || !r.is_line() {
             return;
         }
-        if !console::is_line(r) {
-            return;
-        }
-        r = console::onward(r);
+        r = r.onward();
     }
 }

@@ -26,7 +26,7 @@ use Rattle.look.proofs.Scans.{row_filed}
 use Rattle.layers.proofs.Marking.{packed_bit}
 use Rattle.shortest.specs.declared.Lengths.{Lengths}
 use Rattle.shortest.specs.Model.{lengths_of, Holds, Shortens}
-use Rattle.table.specs.Trials.{Arrays}
+use Rattle.table.specs.declared.Arrays.{Arrays}
 use Rattle.table.specs.Filing.{Stored}
 use Rattle.question.specs.declared.Reply.{Reply}
 use Rattle.question.specs.declared.Reply.TheVariants.{Refused, Degrees, Shortest, NoRound}

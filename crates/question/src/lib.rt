@@ -1,9 +1,10 @@
 // Questions on a session: what is asked, what is replied, and how a reply is read off the arrays of a table. A question changes nothing.
 #![tactic(auto)]
 
-ghost use Rattle.std.specs.Prelude.{◌≡◌, length};
-ghost use Rattle.rows.specs.Rows.{Tabled};
+ghost use Rattle.std.specs.Prelude.{◌≡◌};
 ghost use Rattle.question.specs.Replies.{ways_in, ShortIn};
+
+use table::Arrays;
 
 // What is asked about: the moves that leave and enter a state, or the shortest round.
 #[derive(Clone, Copy)]
@@ -37,15 +38,14 @@ pub enum Reply {
 }
 
 // How many moves leave and enter a state: the one count is between the ends of its row, the other is held.
-pub fn ways(size: u16, starts: &[u16; 513], indegree: &[u16; 512], state: u16) -> Reply
-    requires { (length starts.now ≡ 513) × (length indegree.now ≡ 512) }
-    ensures { result ≡ ways_in state size starts.now indegree.now }
+pub fn ways(size: u16, arrays: &Arrays, state: u16) -> Reply
+    ensures { result ≡ ways_in state size arrays.now.rows.starts arrays.now.indegree }
 {
     if size <= state {
         return Reply::Refused(6);
     }
-    let leaving = rows::degree(starts, state);
-    let entering = look::get(indegree, state);
+    let leaving = arrays.rows.degree(state);
+    let entering = look::get(&arrays.indegree, state);
     Reply::Degrees {
         state,
         leaving,
@@ -54,18 +54,8 @@ pub fn ways(size: u16, starts: &[u16; 513], indegree: &[u16; 512], state: u16) -
 }
 
 // The shortest round within a budget of looks, where the present one has so many moves, 0 if there is none. Where there is no game, nothing is said of its rounds.
-pub fn short(
-    size: u16,
-    kinds: u16,
-    start: u16,
-    present: u16,
-    targets: &[u16; 2048],
-    starts: &[u16; 513],
-    words: &[u64; 8],
-    budget: u16,
-) -> Reply
-    requires { Tabled targets.now starts.now }
-    ensures { ShortIn budget size kinds start present targets.now starts.now words.now result }
+pub fn short(size: u16, kinds: u16, start: u16, present: u16, arrays: &Arrays, budget: u16) -> Reply
+    ensures { ShortIn budget size kinds start present arrays.now.rows.targets arrays.now.rows.starts arrays.now.words result }
 {
     if 1 < kinds {
         return Reply::Refused(17);
@@ -76,7 +66,7 @@ pub fn short(
     if present == 0 {
         return Reply::NoRound;
     }
-    let n = shortest::shorten(targets, starts, words, size, start, present, budget);
+    let n = shortest::shorten(&arrays.rows, &arrays.words, size, start, present, budget);
     Reply::Shortest {
         best: n.best,
         least: n.least,

@@ -21,22 +21,14 @@ ghost use Rattle.std.specs.Prelude.{◌≤◌, ◌<◌, length};
 use batch::{Command, Update};
 use question::{Question, Reply, Topic};
 use session::{Outcome, Session};
-use std::io::{Read, Stdin, Stdout};
+use std::io::Stdout;
 use table::{Op, Position, Refusal};
 use verdict::Answer;
 
 const BLOCK: usize = 65536;
 
-// A batch begins with this number.
-const BATCH: u16 = 6;
-
-// And a question about a state, and one about a short round.
-const WAYS: u16 = 7;
-
-const SHORT: u16 = 9;
-
-// And another count of kinds.
-const NEW_KINDS: u16 = 8;
+// So much of a list is there to be lent.
+const ROOM: usize = 600;
 
 // The most kinds whose words a load has.
 const KINDS: usize = 4;
@@ -44,173 +36,144 @@ const KINDS: usize = 4;
 // The most lines of a batch in a script.
 const LINES: usize = 70;
 
-// Casts that say how large the result is, so that sums of it are seen to fit.
-fn widened(x: u8) -> u16
-    ensures { result < 256 }
-{
-    x as u16
+// What the number at the head of a call says.
+#[derive(Clone, Copy)]
+enum Call {
+    End,
+    Load,
+    Add,
+    Cut,
+    Mark,
+    Unmark,
+    Batch,
+    Ways,
+    Kinds,
+    Short,
 }
 
-fn long(x: u16) -> u64
-    ensures { result < 65536 }
-{
-    x as u64
-}
-
-fn wide(x: u16) -> usize
-    ensures { result < 65536 }
-{
-    x as usize
-}
-
-fn least(a: usize, b: usize) -> usize
-    ensures { (result ≤ a) × (result ≤ b) }
-{
-    if a < b { a } else { b }
-}
-
-// The byte that is so many on from a place; 0 past the end.
-fn byte_at(text: &[u8], at: usize, on: usize) -> u16
-    ensures { result < 256 }
-{
-    if at < text.len() {
-        if on < text.len() - at {
-            let i = at + on;
-            return widened(text[i]);
+impl From<u16> for Call {
+    fn from(number: u16) -> Call {
+        match number {
+            0 => Call::End,
+            1 => Call::Load,
+            3 => Call::Cut,
+            4 => Call::Mark,
+            5 => Call::Unmark,
+            6 => Call::Batch,
+            7 => Call::Ways,
+            8 => Call::Kinds,
+            9 => Call::Short,
+            _ => Call::Add,
         }
     }
-    0
 }
 
-// The number that is so many bytes on from a place; 0 past the end.
-fn number_at(text: &[u8], at: usize, on: usize) -> u16
-    requires { on < 65536 }
+// The byte at a place; 0 past the end.
+fn byte_at(text: &[u8], at: usize) -> u8 {
+    text.get(at).copied().unwrap_or(0)
+}
+
+// The number at a place; 0 past the end.
+fn number_at(text: &[u8], at: usize) -> u16
+    requires { at < 65536 }
 {
-    let low = byte_at(text, at, on);
-    byte_at(text, at, on + 1) * 256 + low
+    u16::from_le_bytes([byte_at(text, at), byte_at(text, at + 1)])
 }
 
 // The four numbers there as one word.
-fn word_at(text: &[u8], at: usize, on: usize) -> u64
-    requires { on < 1000 }
+fn word_at(text: &[u8], at: usize) -> u64
+    requires { at < 1000 }
 {
-    let a = long(number_at(text, at, on));
-    let b = long(number_at(text, at, on + 2));
-    let c = long(number_at(text, at, on + 4));
-    let d = long(number_at(text, at, on + 6));
+    let a = u64::from(number_at(text, at));
+    let b = u64::from(number_at(text, at + 2));
+    let c = u64::from(number_at(text, at + 4));
+    let d = u64::from(number_at(text, at + 6));
     ((d * 65536 + c) * 65536 + b) * 65536 + a
 }
 
-// How many kinds the load at a place has words for.
-fn kind_count(text: &[u8], at: usize) -> usize
+// How many kinds the load has words for.
+fn kind_count(load: &[u8]) -> usize
     ensures { result ≤ 4 }
 {
-    least(wide(number_at(text, at, 8)), KINDS)
+    usize::from(number_at(load, 8)).min(KINDS)
 }
 
-// How many bytes the load at a place has before the count of its numbers.
-fn head_at(text: &[u8], at: usize) -> usize
+// How many bytes the load has before the count of its numbers.
+fn head_of(load: &[u8]) -> usize
     ensures { result < 300 }
 {
-    10 + kind_count(text, at) * 64
+    10 + kind_count(load) * 64
 }
 
-// The paying words of the load at a place, eight for each kind; 0 for the kinds that it has none for.
-fn words_at(text: &[u8], at: usize) -> [u64; 32] {
+// The paying words of the load, eight for each kind; 0 for the kinds that it has none for.
+fn words_of(load: &[u8]) -> [u64; 32] {
     let mut words: [u64; 32] = [0; 32];
-    let count = kind_count(text, at) * 8;
-    let mut i: usize = 0;
-    while i < count {
-        words[i] = word_at(text, at, 10 + i * 8);
-        i += 1;
+    for i in 0..kind_count(load) * 8 {
+        words[i] = word_at(load, 10 + i * 8);
     }
     words
 }
 
-// So many numbers, from so many bytes on from a place, put at the head of the list.
-fn list_at(text: &[u8], at: usize, on: usize, count: usize, list: &mut [u16])
-    requires { (on < 1000) × (count ≤ 5000) }
+// The numbers from a place on fill the list.
+fn list_at(text: &[u8], at: usize, list: &mut [u16])
+    requires { (at < 1000) × (length list.old ≤ 5000) }
 {
-    let mut i: usize = 0;
-    while i < count {
-        if i < list.len() {
-            list[i] = number_at(text, at, on + i * 2);
-        }
-        i += 1;
+    for i in 0..list.len() {
+        list[i] = number_at(text, at + i * 2);
     }
 }
 
 // The list that is lent, with a value of its own at each place.
-fn fill(lent: &mut [u16]) {
-    let mut i: usize = 0;
-    while i < lent.len() {
-        if i < 600 {
-            lent[i] = 40000 + i as u16;
-        }
-        i += 1;
+fn fill(lent: &mut [u16; ROOM]) {
+    for i in 0..ROOM {
+        lent[i] = 40000 + i as u16;
     }
 }
 
-// A write that fails is passed over.
-fn print_line(output: Stdout, n: u64) {
-    let _ = println!(output; "{n}");
+// A number on each line. A write that fails is passed over.
+fn print_lines(output: Stdout, numbers: &[u64]) {
+    for n in numbers {
+        let _ = println!(output; "{n}");
+    }
 }
 
 // The entry at a place; 0 past the end.
 fn entry(lent: &[u16], i: usize) -> u64
     ensures { result < 65536 }
 {
-    if i < lent.len() {
-        return long(lent[i]);
-    }
-    0
+    u64::from(lent.get(i).copied().unwrap_or(0))
 }
 
 // A sum that shows whether an entry has changed: each is taken once more than the one before it.
 fn print_sum(output: Stdout, lent: &[u16]) {
-    let mut tail: u64 = 0;
-    let mut sum: u64 = 0;
-    let mut i: usize = 600;
-    while 0 < i {
-        i -= 1;
+    let mut tail = 0;
+    let mut sum = 0;
+    for i in (0..ROOM).rev() {
         tail += entry(lent, i);
         sum = (sum + tail) % 65521;
     }
-    print_line(output, sum);
+    print_lines(output, &[sum]);
 }
 
 fn print_walk(output: Stdout, lent: &[u16], count: usize) {
-    let mut i: usize = 0;
-    while i < count {
-        print_line(output, entry(lent, i));
-        i += 1;
+    for i in 0..count {
+        print_lines(output, &[entry(lent, i)]);
     }
 }
 
 fn print_refusal(output: Stdout, r: Refusal) {
-    let position = r.position;
-    match position {
-        Position::Alone => {
-            print_line(output, 0);
-            print_line(output, long(r.number));
-        }
-        Position::Line(i) => {
-            print_line(output, 3);
-            print_line(output, long(r.number));
-            print_line(output, long(i));
-        }
+    let number = u64::from(r.number);
+    match r.position {
+        Position::Alone => print_lines(output, &[0, number]),
+        Position::Line(i) => print_lines(output, &[3, number, u64::from(i)]),
     }
 }
 
 fn print_answer(output: Stdout, answer: Answer, lent: &[u16]) {
     match answer {
-        Answer::Refused(r) => {
-            print_refusal(output, r);
-        }
+        Answer::Refused(r) => print_refusal(output, r),
         Answer::Clear { spent, kept } => {
-            print_line(output, 1);
-            print_line(output, long(spent));
-            print_line(output, long(kept));
+            print_lines(output, &[1, u64::from(spent), u64::from(kept)]);
         }
         Answer::Round {
             spent,
@@ -218,46 +181,42 @@ fn print_answer(output: Stdout, answer: Answer, lent: &[u16]) {
             stem,
             cycle,
         } => {
-            print_line(output, 2);
-            print_line(output, long(spent));
-            print_line(output, long(kept));
-            print_line(output, long(stem));
-            print_line(output, long(cycle));
-            print_walk(output, lent, wide(stem) + wide(cycle));
+            print_lines(output, &[2, spent, kept, stem, cycle].map(u64::from));
+            print_walk(output, lent, usize::from(stem) + usize::from(cycle));
         }
     }
     print_sum(output, lent);
 }
 
-// The load at a place, with as much of the list lent as it says.
-fn load_at(text: &[u8], at: usize, lent: &mut [u16]) -> Outcome {
+// The load is made, with as much of the list lent as it says.
+fn load(text: &[u8], lent: &mut [u16]) -> Outcome {
     let mut list: [u16; 5000] = [0; 5000];
-    let head = head_at(text, at);
-    let count = least(wide(number_at(text, at, head)), 5000);
-    list_at(text, at, head + 2, count, &mut list);
+    let head = head_of(text);
+    let count = usize::from(number_at(text, head)).min(5000);
+    list_at(text, head + 2, &mut list[..count]);
     let end = head + 2 + count * 2;
-    let room = least(wide(number_at(text, at, end)), lent.len());
-    let words = words_at(text, at);
-    let size = number_at(text, at, 2);
-    let start = number_at(text, at, 4);
-    let kinds = number_at(text, at, 6);
+    let room = usize::from(number_at(text, end)).min(lent.len());
+    let words = words_of(text);
+    let size = number_at(text, 2);
+    let start = number_at(text, 4);
+    let kinds = number_at(text, 6);
     session::load(size, start, kinds, words, &list[..count], &mut lent[..room])
 }
 
-// The change at a place.
-fn op_at(text: &[u8], at: usize, what: u16) -> Op {
-    let first = number_at(text, at, 2);
-    let second = number_at(text, at, 4);
-    match what {
-        3 => Op::Cut {
+// What the call changes.
+fn op_of(text: &[u8], call: Call) -> Op {
+    let first = number_at(text, 2);
+    let second = number_at(text, 4);
+    match call {
+        Call::Cut => Op::Cut {
             from: first,
             to: second,
         },
-        4 => Op::Mark {
+        Call::Mark => Op::Mark {
             state: first,
             kind: second,
         },
-        5 => Op::Unmark {
+        Call::Unmark => Op::Unmark {
             state: first,
             kind: second,
         },
@@ -268,203 +227,130 @@ fn op_at(text: &[u8], at: usize, what: u16) -> Op {
     }
 }
 
-// What the call at a place asks for.
-fn command_at(text: &[u8], at: usize, what: u16) -> Command {
-    if what == NEW_KINDS {
-        return Command::Kinds(number_at(text, at, 2));
+// What the call asks for.
+fn command_of(text: &[u8], call: Call) -> Command {
+    match call {
+        Call::Kinds => Command::Kinds(number_at(text, 2)),
+        Call::Batch => Command::Update(Update::Batch),
+        _ => Command::Update(Update::Change(op_of(text, call))),
     }
-    if what == BATCH {
-        return Command::Update(Update::Batch);
-    }
-    let op = op_at(text, at, what);
-    Command::Update(Update::Change(op))
 }
 
-// How many lines the call at a place has: one that is no batch has none.
-fn line_count(text: &[u8], at: usize, what: u16) -> usize
+// How many lines the call has: one that is no batch has none.
+fn line_count(text: &[u8], call: Call) -> usize
     ensures { result ≤ 70 }
 {
-    if what == BATCH {
-        return least(wide(number_at(text, at, 4)), LINES);
+    match call {
+        Call::Batch => usize::from(number_at(text, 4)).min(LINES),
+        _ => 0,
     }
-    0
 }
 
-// How much of the list the call at a place lends.
-fn room_at(text: &[u8], at: usize, what: u16) -> usize {
-    if what == NEW_KINDS {
-        return wide(number_at(text, at, 4));
+// How much of the list the call lends.
+fn room_of(text: &[u8], call: Call) -> usize {
+    match call {
+        Call::Kinds => usize::from(number_at(text, 4)),
+        Call::Batch => usize::from(number_at(text, 2)),
+        _ => usize::from(number_at(text, 6)),
     }
-    if what == BATCH {
-        return wide(number_at(text, at, 2));
-    }
-    wide(number_at(text, at, 6))
 }
 
 // The session's number for what a line does.
-fn code_of(what: u16) -> u16 {
-    match what {
-        2 => 1,
-        3 => 2,
-        4 => 3,
-        5 => 4,
+fn code_of(number: u16) -> u16 {
+    match number {
+        2..=5 => number - 1,
         _ => 0,
     }
 }
 
 // At the head of each line, the session's number in place of the script's.
 fn recode(lines: &mut [u16]) {
-    let mut i: usize = 0;
-    while i < lines.len() {
+    for i in (0..lines.len()).step_by(batch::LINE) {
         lines[i] = code_of(lines[i]);
-        i += batch::LINE;
     }
 }
 
-// The call at a place is made, with as much of the list lent as it says.
-fn update_at(text: &[u8], at: usize, what: u16, s: Session, lent: &mut [u16]) -> Outcome {
-    let mut lines: [u16; 210] = [0; 210];
-    let count = line_count(text, at, what) * batch::LINE;
-    list_at(text, at, 6, count, &mut lines);
-    recode(&mut lines);
-    let command = command_at(text, at, what);
-    let room = least(room_at(text, at, what), lent.len());
+// The call is made, with as much of the list lent as it says.
+fn update(text: &[u8], call: Call, s: Session, lent: &mut [u16]) -> Outcome {
+    let mut lines: [u16; LINES * batch::LINE] = [0; LINES * batch::LINE];
+    let count = line_count(text, call) * batch::LINE;
+    list_at(text, 6, &mut lines[..count]);
+    recode(&mut lines[..count]);
+    let command = command_of(text, call);
+    let room = room_of(text, call).min(lent.len());
     session::update(s, command, &lines[..count], &mut lent[..room])
 }
 
 fn print_reply(output: Stdout, reply: Reply) {
     match reply {
-        Reply::Refused(number) => {
-            print_line(output, 0);
-            print_line(output, long(number));
-        }
+        Reply::Refused(number) => print_lines(output, &[0, u64::from(number)]),
         Reply::Degrees {
             state,
             leaving,
             entering,
-        } => {
-            print_line(output, 4);
-            print_line(output, long(state));
-            print_line(output, long(leaving));
-            print_line(output, long(entering));
-        }
+        } => print_lines(output, &[4, state, leaving, entering].map(u64::from)),
         Reply::Shortest { best, least } => {
-            print_line(output, 5);
-            print_line(output, long(best));
-            print_line(output, long(least));
+            print_lines(output, &[5, u64::from(best), u64::from(least)]);
         }
-        Reply::NoRound => {
-            print_line(output, 6);
-        }
+        Reply::NoRound => print_lines(output, &[6]),
     }
 }
 
-// Is it a question?
-fn is_question(what: u16) -> bool {
-    if what == WAYS {
-        return true;
-    }
-    what == SHORT
-}
-
-// What a question is about.
-fn topic_of(what: u16) -> Topic {
-    if what == WAYS {
-        return Topic::Ways;
-    }
-    Topic::Short
-}
-
-// The question at a place is asked of the session, and its reply printed.
-fn ask_at(output: Stdout, text: &[u8], at: usize, what: u16, s: Session) {
-    let number = number_at(text, at, 2);
-    let topic = topic_of(what);
+// The question is asked of the session, and its reply printed.
+fn ask(output: Stdout, text: &[u8], topic: Topic, s: Session) {
+    let number = number_at(text, 2);
     print_reply(output, session::ask(s, Question { topic, number }));
 }
 
-// How many bytes the call at a place has.
-fn size_at(text: &[u8], at: usize, what: u16) -> usize
-    ensures { (0 < result) × (result < 200000) }
+// How many bytes the call has.
+fn size_of(text: &[u8], call: Call) -> usize
+    ensures { 0 < result }
 {
-    if what == 1 {
-        let head = head_at(text, at);
-        return head + 4 + wide(number_at(text, at, head)) * 2;
+    match call {
+        Call::Load => {
+            let head = head_of(text);
+            head + 4 + usize::from(number_at(text, head)) * 2
+        }
+        Call::Batch => 6 + line_count(text, call) * 6,
+        Call::Ways | Call::Short => 4,
+        Call::Kinds => 6,
+        _ => 8,
     }
-    if what == BATCH {
-        return 6 + line_count(text, at, what) * 6;
-    }
-    if is_question(what) {
-        return 4;
-    }
-    if what == NEW_KINDS {
-        return 6;
-    }
-    8
 }
 
 // Replays the script of one block.
 fn replay_block(output: Stdout, text: &[u8]) {
-    let mut lent: [u16; 600] = [0; 600];
+    let mut lent: [u16; ROOM] = [0; ROOM];
     // Past the end all is 0: this load is refused.
-    let mut c = load_at(text, text.len(), &mut lent);
-    let mut at: usize = 0;
-    while at < text.len() {
-        let what = number_at(text, at, 0);
-        if what == 0 {
-            return;
+    let mut c = load(&[], &mut lent);
+    let mut rest = text;
+    while !rest.is_empty() {
+        let call = Call::from(number_at(rest, 0));
+        match call {
+            Call::End => return,
+            Call::Ways => ask(output, rest, Topic::Ways, c.session),
+            Call::Short => ask(output, rest, Topic::Short, c.session),
+            _ => {
+                fill(&mut lent);
+                c = match call {
+                    Call::Load => load(rest, &mut lent),
+                    _ => update(rest, call, c.session, &mut lent),
+                };
+                print_answer(output, c.answer, &lent);
+            }
         }
-        if is_question(what) {
-            ask_at(output, text, at, what, c.session);
-            at += size_at(text, at, what);
-            continue;
-        }
-        fill(&mut lent);
-        if what == 1 {
-            c = load_at(text, at, &mut lent);
-        } else {
-            c = update_at(text, at, what, c.session, &mut lent);
-        }
-        let answer = c.answer;
-        print_answer(output, answer, &lent);
-        at += size_at(text, at, what);
+        rest = &rest[size_of(rest, call).min(rest.len())..];
     }
 }
 
-// How many bytes one read brings, at the start of the buffer: none where it fails.
-fn read_once(mut input: Stdin, buf: &mut [u8]) -> usize
-    ensures { result ≤ length buf.new }
-{
-    match input.read(buf) {
-        Ok(n) => n,
-        Err(_) => 0,
-    }
-}
-
-// Reads until the block is full, or the input ends or a read fails: how many bytes that brings.
-fn read_full(input: Stdin, block: &mut [u8; BLOCK]) -> usize
-    ensures { result ≤ BLOCK }
-{
-    let mut done: usize = 0;
-    while done < BLOCK {
-        let n = read_once(input, &mut block[done..]);
-        if n == 0 {
-            return done;
-        }
-        done += n;
-    }
-    done
-}
-
-// Nothing says that the input ends, and a proved loop has to: it counts down from a number that no run uses up.
+// Nothing says that the input ends, and a proved loop has to: it counts up to a number that no run reaches.
 fn main(rt: HostRuntime) {
     let mut text: [u8; BLOCK] = [0; BLOCK];
-    let mut left = u64::MAX;
-    while 0 < left {
-        let n = read_full(rt.stdin(), &mut text);
+    for _ in 0..u64::MAX {
+        let n = console::read_full(&mut rt.stdin(), &mut text);
         if n == 0 {
             return;
         }
         replay_block(rt.stdout(), &text[..n]);
-        left -= 1;
     }
 }

@@ -7,7 +7,7 @@ use lib.Dec.{ltb}
 use lib.ListN.{get_or}
 use Rattle.plain.specs.Machine.{Change, add, cut, mark, unmark, named}
 use Rattle.rows.specs.Rows.{entries, row_at, place_of}
-use Rattle.rows.specs.Change.{Rows}
+use Rattle.rows.specs.declared.Rows.{Rows}
 use Rattle.table.specs.declared.Subject.{Subject}
 use Rattle.table.specs.Trials.{switching}
 use Rattle.table.specs.Filing.{named_by}

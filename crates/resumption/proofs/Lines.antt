@@ -9,7 +9,7 @@ use lib.Seq.{take_all, take-suc, take-suc-set, drop-cons, drop-drop}
 use borrow.Author.Tests.{eq-eqb, ne_eqb}
 use Rattle.plain.specs.Lists.{all}
 use Rattle.plain.specs.Machine.{BatchLine as PlainLine}
-use Rattle.rows.specs.Change.{Rows}
+use Rattle.rows.specs.declared.Rows.{Rows}
 use Rattle.look.specs.Numbers.{no_number, plus}
 use Rattle.batch.specs.declared.BatchLine.{BatchLine}
 use Rattle.table.specs.declared.Subject.{Subject}
@@ -18,7 +18,7 @@ use Rattle.table.specs.Trials.{op_of}
 use Rattle.table.specs.Filing.{named_by}
 use Rattle.batch.specs.Batches.{line_in, is_change, switch_in, lines_in, states_in, head_line, op_for}
 use Rattle.batch.proofs.Batches.{Making, change_line, other_line, lines_next, lines_end}
-use Rattle.resumption.specs.declared.Resumption.TheVariants.{Nowhere}
+use Rattle.std.specs.Prelude.{None}
 use Rattle.resumption.specs.Model.{copies_up, copies_up_all, unexplored_edge, unexplored_in, copy_passed_over, passed_over_in, all_passed_over, named_most, earliest_of, resumption_of}
 use Rattle.resumption.proofs.Edges.{named_one, switched_edge, switched_mark}
 
@@ -175,10 +175,10 @@ module _ (size kinds : ℕ) (ns : List ℕ) (rows : Rows) (number index walk : L
   abbrev copies : List ℕ
   copies = copies_up_all size kinds (take named_most (states_in ns))
 
-  pub resumption_nowhere : all_passed_over (lines_in ns) size kinds rows number index walk height ≡ true → resumption_of size kinds ns rows number index walk height ≡ Nowhere
+  pub resumption_nowhere : all_passed_over (lines_in ns) size kinds rows number index walk height ≡ true → resumption_of size kinds ns rows number index walk height ≡ None
   unfolding resumption_of
-  resumption_nowhere e = ap (λ (b : Bool). cond b Nowhere (earliest_of copies number)) e
+  resumption_nowhere e = ap (λ (b : Bool). cond b None (earliest_of copies number)) e
 
   pub resumption_earliest : all_passed_over (lines_in ns) size kinds rows number index walk height ≡ false → resumption_of size kinds ns rows number index walk height ≡ earliest_of copies number
   unfolding resumption_of
-  resumption_earliest e = ap (λ (b : Bool). cond b Nowhere (earliest_of copies number)) e
+  resumption_earliest e = ap (λ (b : Bool). cond b None (earliest_of copies number)) e

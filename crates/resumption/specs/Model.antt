@@ -1,16 +1,14 @@
 -- Where a search is taken up for the lines of a call, over the lists that the arrays of a session hold. Cited by contracts alone. Assumes nothing.
-use Rattle.std.specs.Prelude.{ℕ, zero, suc, ◌-◌, Bool, true, false, cond, ◌&&◌, ◌||◌, List, [], ◌∷◌, ◌++◌, eqb, ltb, get_or, take}
+use Rattle.std.specs.Prelude.{ℕ, zero, suc, ◌-◌, Bool, true, false, cond, ◌&&◌, ◌||◌, Option, None, Some, List, [], ◌∷◌, ◌++◌, eqb, ltb, get_or, take}
 use Rattle.plain.specs.Lists.{all}
 use Rattle.plain.specs.Machine.{BatchLine as PlainLine, makes, other}
 use Rattle.rows.specs.Rows.{entries, row_at, place_of}
-use Rattle.rows.specs.Change.{Rows}
+use Rattle.rows.specs.declared.Rows.{Rows}
 use Rattle.table.specs.declared.Op.{Op}
 use Rattle.table.specs.declared.Op.TheVariants.{Add, Cut, Mark, Unmark}
 use Rattle.table.specs.Filing.{named_by}
 use Rattle.batch.specs.Batches.{lines_in, states_in as named_in, op_for}
 use Rattle.look.specs.Numbers.{no_number, plus}
-use Rattle.resumption.specs.declared.Resumption.{Resumption}
-use Rattle.resumption.specs.declared.Resumption.TheVariants.{Nowhere, At}
 use Rattle.resumption.specs.declared.First.{First}
 
 -- the copies of a state, one in each of so many layers, and those of several states
@@ -58,15 +56,15 @@ unfoldable pub first_of : First → List ℕ → List ℕ → First
 first_of first [] number = first
 first_of first (v ∷ vs) number = first_of (cond (ltb (get_or number v 0) first.number) (record { number = get_or number v 0; copy = v }) first) vs number
 
--- nowhere where none is discovered
-abbrev pub taken_up_at : First → Resumption
-taken_up_at first = cond (eqb first.number no_number) Nowhere (At first.copy)
+-- the state at whose discovery the search is taken up: none where none is discovered
+abbrev pub taken_up_at : First → Option ℕ
+taken_up_at first = cond (eqb first.number no_number) None (Some first.copy)
 
-abbrev pub earliest_of : List ℕ → List ℕ → Resumption
+abbrev pub earliest_of : List ℕ → List ℕ → Option ℕ
 earliest_of copies number = taken_up_at (first_of (record { number = no_number; copy = 0 }) copies number)
 
 -- Where a search is taken up for the lines of a call, given as numbers: nowhere where all are passed over, else where the first copy of the states that they name was
 -- discovered.
-unfoldable pub resumption_of : ℕ → ℕ → List ℕ → Rows → List ℕ → List ℕ → List ℕ → ℕ → Resumption
+unfoldable pub resumption_of : ℕ → ℕ → List ℕ → Rows → List ℕ → List ℕ → List ℕ → ℕ → Option ℕ
 resumption_of size kinds ns rows number index walk height =
-    cond (all_passed_over (lines_in ns) size kinds rows number index walk height) Nowhere (earliest_of (copies_up_all size kinds (take named_most (named_in ns))) number)
+    cond (all_passed_over (lines_in ns) size kinds rows number index walk height) None (earliest_of (copies_up_all size kinds (take named_most (named_in ns))) number)

@@ -2,21 +2,14 @@
 #![tactic(auto)]
 
 ghost use Rattle.std.specs.Prelude.{◌≡◌, ◌≤◌, length, take};
-ghost use Rattle.rows.specs.Rows.{Tabled};
-ghost use Rattle.rows.specs.Change.{rows_of};
 ghost use Rattle.table.specs.Trials.{op_of};
 ghost use Rattle.batch.specs.Batches.{switch_in, line_in, lines_in, states_in as named_in, numbers_in};
 ghost use Rattle.resumption.specs.Model.{unexplored_edge, copy_passed_over, passed_over_in, all_passed_over, named_most, copies_up, copies_up_all, first_of, earliest_of, resumption_of};
 
 use batch::BatchLine;
+use rows::Rows;
+use search::Records;
 use table::Subject;
-
-// Where a search is taken up: nowhere, since it had not come to what a change alters, or where the state was discovered that the change names.
-#[derive(Clone, Copy)]
-pub enum Resumption {
-    Nowhere,
-    At(u16),
-}
 
 // The most states that a batch names.
 const NAMED: usize = 64;
@@ -28,48 +21,40 @@ fn is_unexplored(
     copy: u16,
     from: u16,
     to: u16,
-    targets: &[u16; 2048],
-    starts: &[u16; 513],
-    index: &[u16; 512],
-    walk: &[u16; 512],
+    rows: &Rows,
+    records: &Records,
     tip: u16,
 ) -> bool
-    requires { Tabled targets.now starts.now × (length index.now ≡ 512) × (length walk.now ≡ 512) }
-    ensures { result ≡ unexplored_edge on copy from to (rows_of targets.now starts.now) index.now walk.now tip }
+    ensures { result ≡ unexplored_edge on copy from to rows.now records.now.index records.now.walk tip }
 {
-    let i = look::find(walk, tip, copy);
+    let i = look::find(&records.walk, tip, copy);
     if tip <= i {
         return false;
     }
     if on {
         return true;
     }
-    let next = look::get(walk, i + 1);
-    look::get(index, next) < rows::place(targets, starts, from, to)
+    let next = look::get(&records.walk, i + 1);
+    look::get(&records.index, next) < rows.place(from, to)
 }
 
 // Had the search not come to what a line changes, in the layer of one copy: has it never met the copy, or not come to the edge there?
 fn is_copy_passed_over(
     line: BatchLine,
     copy: u16,
-    targets: &[u16; 2048],
-    starts: &[u16; 513],
-    number: &[u16; 512],
-    index: &[u16; 512],
-    walk: &[u16; 512],
+    rows: &Rows,
+    records: &Records,
     height: u16,
 ) -> bool
-    requires { Tabled targets.now starts.now × (length number.now ≡ 512) × (length index.now ≡ 512) × (length walk.now ≡ 512) }
-    ensures { result ≡ copy_passed_over (op_of (switch_in line)) copy (rows_of targets.now starts.now) number.now index.now walk.now height }
+    ensures { result ≡ copy_passed_over (op_of (switch_in line)) copy rows.now records.now.number records.now.index records.now.walk height }
 {
-    if look::get(number, copy) == look::NO_NUMBER {
+    if look::get(&records.number, copy) == look::NO_NUMBER {
         return true;
     }
     let switch = batch::switch_in(line);
-    let subject = switch.subject;
-    if let Subject::Edge { from, to } = subject {
+    if let Subject::Edge { from, to } = switch.subject {
         let tip = look::down(height);
-        return is_unexplored(switch.on, copy, from, to, targets, starts, index, walk, tip);
+        return is_unexplored(switch.on, copy, from, to, rows, records, tip);
     }
     false
 }
@@ -79,55 +64,43 @@ fn is_passed_over(
     line: BatchLine,
     size: u16,
     kinds: u16,
-    targets: &[u16; 2048],
-    starts: &[u16; 513],
-    number: &[u16; 512],
-    index: &[u16; 512],
-    walk: &[u16; 512],
+    rows: &Rows,
+    records: &Records,
     height: u16,
 ) -> bool
-    requires { Tabled targets.now starts.now × (length number.now ≡ 512) × (length index.now ≡ 512) × (length walk.now ≡ 512) }
-    ensures { result ≡ passed_over_in (line_in line) size kinds (rows_of targets.now starts.now) number.now index.now walk.now height }
+    ensures { result ≡ passed_over_in (line_in line) size kinds rows.now records.now.number records.now.index records.now.walk height }
 {
     if !batch::is_change(line) {
         return true;
     }
     let mut copy = batch::named_by(line);
-    let mut left = kinds;
-    while 0 < left {
-        if !is_copy_passed_over(line, copy, targets, starts, number, index, walk, height) {
+    for layer in 0..kinds {
+        if !is_copy_passed_over(line, copy, rows, records, height) {
             return false;
         }
         copy = look::plus(copy, size);
-        left -= 1;
     }
     true
 }
 
 // Are all lines of a call passed over? It is asked before they are tried, while the rows are those that the search has read.
 fn all_passed_over(
-    alone: bool,
-    only: BatchLine,
+    alone: Option<BatchLine>,
     lines: &[u16],
     size: u16,
     kinds: u16,
-    targets: &[u16; 2048],
-    starts: &[u16; 513],
-    number: &[u16; 512],
-    index: &[u16; 512],
-    walk: &[u16; 512],
+    rows: &Rows,
+    records: &Records,
     height: u16,
 ) -> bool
-    requires { Tabled targets.now starts.now × (length number.now ≡ 512) × (length index.now ≡ 512) × (length walk.now ≡ 512) }
-    ensures { result ≡ all_passed_over (lines_in (numbers_in alone only lines.now)) size kinds (rows_of targets.now starts.now) number.now index.now walk.now height }
+    ensures { result ≡ all_passed_over (lines_in (numbers_in alone lines.now)) size kinds rows.now records.now.number records.now.index records.now.walk height }
 {
     let end = batch::lines_end(alone, lines);
+    // Kept: over `step_by` the loop needs a measure too, and the library has no lemma on the places that it comes to.
     let mut at: usize = 0;
     while at < end {
-        let line = batch::line_at(alone, only, lines, at);
-        if !is_passed_over(
-            line, size, kinds, targets, starts, number, index, walk, height,
-        ) {
+        let line = batch::line_at(alone, lines, at);
+        if !is_passed_over(line, size, kinds, rows, records, height) {
             return false;
         }
         at += batch::LINE;
@@ -136,18 +109,19 @@ fn all_passed_over(
 }
 
 // The states that the lines of a call name, as many as a batch may name, at the head of a list: how many they are.
-fn name_states(alone: bool, only: BatchLine, lines: &[u16], states: &mut [u16; NAMED]) -> usize
+fn name_states(alone: Option<BatchLine>, lines: &[u16], states: &mut [u16; NAMED]) -> usize
     requires { length states.old ≡ named_most }
-    ensures { (result ≤ named_most) × (length states.new ≡ named_most) × (take result states.new ≡ take named_most (named_in (numbers_in alone only lines.now))) }
+    ensures { (result ≤ named_most) × (length states.new ≡ named_most) × (take result states.new ≡ take named_most (named_in (numbers_in alone lines.now))) }
 {
     let end = batch::lines_end(alone, lines);
+    // Kept: over `step_by` the loop needs a measure too, and the library has no lemma on the places that it comes to.
     let mut at: usize = 0;
     let mut n: usize = 0;
     while at < end {
         if n == NAMED {
             return n;
         }
-        let line = batch::line_at(alone, only, lines, at);
+        let line = batch::line_at(alone, lines, at);
         states[n] = batch::named_by(line);
         n += 1;
         at += batch::LINE;
@@ -164,71 +138,53 @@ struct First {
 
 // The copies of a state, one in each layer, behind those before it.
 fn earlier(first: First, state: u16, size: u16, kinds: u16, number: &[u16; 512]) -> First
-    requires { length number.now ≡ 512 }
     ensures { result ≡ first_of first (copies_up size kinds state) number.now }
 {
-    let mut least = first.number;
-    let mut earliest = first.copy;
+    let mut least = first;
     let mut copy = state;
-    let mut left = kinds;
-    while 0 < left {
+    for layer in 0..kinds {
         let n = look::get(number, copy);
-        if n < least {
-            least = n;
-            earliest = copy;
+        if n < least.number {
+            least = First { number: n, copy };
         }
         copy = look::plus(copy, size);
-        left -= 1;
     }
-    First {
-        number: least,
-        copy: earliest,
-    }
+    least
 }
 
 // Where the search is taken up that first discovers a copy of one of some states: the earliest of them, or nowhere, since it discovered none.
-fn earliest(states: &[u16], size: u16, kinds: u16, number: &[u16; 512]) -> Resumption
-    requires { length number.now ≡ 512 }
+fn earliest(states: &[u16], size: u16, kinds: u16, number: &[u16; 512]) -> Option<u16>
     ensures { result ≡ earliest_of (copies_up_all size kinds states.now) number.now }
 {
     let mut first = First {
         number: look::NO_NUMBER,
         copy: 0,
     };
-    let mut i: usize = 0;
-    while i < states.len() {
-        first = earlier(first, states[i], size, kinds, number);
-        i += 1;
+    for state in states {
+        first = earlier(first, *state, size, kinds, number);
     }
     if first.number == look::NO_NUMBER {
-        return Resumption::Nowhere;
+        return None;
     }
-    Resumption::At(first.copy)
+    Some(first.copy)
 }
 
-// Where the search is taken up for a call.
+// Where the search is taken up for a call: where the state was discovered that this gives, or nowhere, since it had not come to what the call alters.
 pub fn where_to_resume(
-    alone: bool,
-    only: BatchLine,
+    alone: Option<BatchLine>,
     lines: &[u16],
     size: u16,
     kinds: u16,
-    targets: &[u16; 2048],
-    starts: &[u16; 513],
-    number: &[u16; 512],
-    index: &[u16; 512],
-    walk: &[u16; 512],
+    rows: &Rows,
+    records: &Records,
     height: u16,
-) -> Resumption
-    requires { Tabled targets.now starts.now × (length number.now ≡ 512) × (length index.now ≡ 512) × (length walk.now ≡ 512) }
-    ensures { result ≡ resumption_of size kinds (numbers_in alone only lines.now) (rows_of targets.now starts.now) number.now index.now walk.now height }
+) -> Option<u16>
+    ensures { result ≡ resumption_of size kinds (numbers_in alone lines.now) rows.now records.now.number records.now.index records.now.walk height }
 {
-    if all_passed_over(
-        alone, only, lines, size, kinds, targets, starts, number, index, walk, height,
-    ) {
-        return Resumption::Nowhere;
+    if all_passed_over(alone, lines, size, kinds, rows, records, height) {
+        return None;
     }
     let mut states: [u16; NAMED] = [0; NAMED];
-    let n = name_states(alone, only, lines, &mut states);
-    earliest(&states[..n], size, kinds, number)
+    let n = name_states(alone, lines, &mut states);
+    earliest(&states[..n], size, kinds, &records.number)
 }

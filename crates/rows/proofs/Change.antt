@@ -9,7 +9,8 @@ use mathlib.Core.List.{List, [], ◌∷◌, ◌++◌}
 use lib.ListN.{length, get_or, take, drop}
 use Rattle.rows.specs.Rows.{entries, degree_at, row_at, edge_count, Compressed, Changed, Inserted, Removed, Tabled}
 use Rattle.rows.specs.Shift.{opened, shut, moved_starts}
-use Rattle.rows.specs.Change.{Rows, has_room, inserted, has_place, removed}
+use Rattle.rows.specs.declared.Rows.{Rows}
+use Rattle.rows.specs.Change.{has_room, inserted, has_place, removed}
 use Rattle.rows.proofs.Paste.{same_place}
 use Rattle.rows.proofs.Shifts.{opened_length, opened_before, opened_at, opened_behind, shut_length, shut_before, shut_behind, moved_length, moved_before, moved_within, moved_behind}
 use Rattle.rows.proofs.Entries.{entries_same, entries_add, entries_take, entries_drop, no_row, row_same}

@@ -8,7 +8,8 @@ use lib.ListN.{get_or}
 use borrow.Author.Tests.{ltb-true, leb-true, lt-ltb, le-leb}
 use Rattle.rows.specs.Rows.{edge_count}
 use Rattle.rows.specs.Shift.{opened, shut, moved_starts}
-use Rattle.rows.specs.Change.{Rows, rows_of, has_room, with_edge, inserted, has_place, without_edge, removed}
+use Rattle.rows.specs.declared.Rows.{Rows}
+use Rattle.rows.specs.Change.{rows_of, has_room, with_edge, inserted, has_place, without_edge, removed}
 
 four : (a b c d : Bool) → a && b && c && d ≡ true → (a ≡ true) × (b ≡ true) × (c ≡ true) × (d ≡ true)
 four true true true true e = (refl, refl, refl, refl)

@@ -1,12 +1,8 @@
 -- What one edge more, or one fewer, makes of any two arrays, rows or not. Assumes nothing.
 use Rattle.std.specs.Prelude.{ℕ, suc, ◌+◌, Bool, true, false, cond, ◌&&◌, List, ltb, leb, get_or}
+use Rattle.rows.specs.declared.Rows.{Rows}
 use Rattle.rows.specs.Rows.{edge_count}
 use Rattle.rows.specs.Shift.{opened, shut, moved_starts}
-
--- the two arrays, whatever they hold
-pub record Rows : Type 0 where
-  pub targets : List ℕ
-  pub starts : List ℕ
 
 -- two lists as such arrays
 abbrev pub rows_of : List ℕ → List ℕ → Rows

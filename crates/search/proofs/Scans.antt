@@ -8,17 +8,17 @@ use native.Mathlib.Omega.{arith}
 use lib.Dec.{leb}
 use lib.ListN.{get_or}
 use borrow.Author.Tests.{leb-true, leb-false, le-leb, lt-leb}
-use Rattle.plain.proofs.Tests.{contra, either}
-use Rattle.look.specs.declared.Scanned.{Scanned}
+use Rattle.plain.proofs.Tests.{either}
+use Rattle.std.specs.Prelude.{Option, None, Some}
+use Rattle.look.specs.declared.Edge.{Edge}
 use Rattle.look.specs.Numbers.{up, raised}
 use Rattle.look.specs.Scan.{Skips, Swept}
 use Rattle.look.proofs.Counting.{raised_none, raised_next, raised_up}
 use Rattle.look.proofs.Scans.{skips_first, skips_later}
-use Rattle.search.specs.declared.Phase.{Phase}
-use Rattle.search.specs.declared.Phase.TheVariants.{Outer, Nested, Exhausted, Found}
+use Rattle.search.specs.declared.Phase.TheVariants.{Outer, Nested}
 use Rattle.search.specs.declared.Walker.{Walker}
-use Rattle.search.specs.Core.{Game, row_of, accepts_at, Core, Sized, core_of, placed, skipped, finished, returned, emptied, closed, with_walker, probed, discover, deepen, leave_root, go_back, finish, on_open_path, outer_stopped, nested_stopped, over, outer_step, nested_step, step, run_for, Deep, Advanced, Result, result, Ran}
-use Rattle.search.proofs.Ways.{same_walker, same_core, outer_discovers, outer_skips, outer_finishes, nested_closes, nested_deepens, nested_skips, nested_returns, nested_empties, nested_leaves, step_at, run_over, run_sized, finished_deep, discover_deep, deepen_deep, found_deep, back_deep}
+use Rattle.search.specs.Core.{Game, row_of, accepts_at, Core, core_of, placed, skipped, finished, returned, emptied, closed, with_walker, probed, discover, deepen, leave_root, go_back, finish, on_open_path, over, outer_step, nested_step, step, run_for, Deep, Advanced, Result, result, Ran}
+use Rattle.search.proofs.Ways.{same_walker, same_core, outer_discovers, outer_skips, outer_finishes, nested_closes, nested_deepens, nested_skips, nested_returns, nested_empties, nested_leaves, step_at, run_over, finished_deep, discover_deep, deepen_deep, found_deep, back_deep}
 
 -- ---- steps, one after the other
 
@@ -65,11 +65,11 @@ module _ (g : Game) where
     pub enough : least ≤ steps
     pub reached : s' ≡ run_for g steps s
 
-  pub made_none : (s : Core) (phases : ℕ) → Made (phases - phases) s s
-  made_none s phases = record { steps = 0; enough = omega arith; reached = sym (run_none s) }
+  pub made_start : (s : Core) → Made 0 s s
+  made_start s = record { steps = 0; enough = omega arith; reached = sym (run_none s) }
 
-  pub made_more : (s x y : Core) (phases left : ℕ) → 0 < left → left ≤ phases → Made (phases - left) s x → Advanced g x y → Made (phases - (left - 1)) s y
-  made_more s x y phases left more small r a = record {
+  pub made_more : {s x y : Core} {least : ℕ} → Made least s x → Advanced g x y → Made (least + 1) s y
+  made_more {s = s} r a = record {
     steps = r.steps + suc a.more;
     enough = omega (arith, r.enough);
     reached = a.reached ∙ ap (run_for g (suc a.more)) r.reached ∙ sym (run_add r.steps (suc a.more) s);
@@ -83,9 +83,6 @@ module _ (g : Game) where
         reached = a.reached ∙ ap (run_for g (suc a.more)) r.reached ∙ sym (run_add r.steps (suc a.more) s) ∙ ap (λ (n : ℕ). run_for g n s) sum;
         deep = a.deep;
       }
-
-  pub made_start : (s : Core) → Made 0 s s
-  made_start s = record { steps = 0; enough = omega arith; reached = sym (run_none s) }
 
   pub made_on : {s x y : Core} → Made 0 s x → Advanced g x y → Made 0 s y
   made_on r a = let z = made_then r a in record { steps = suc z.more; enough = omega arith; reached = z.reached }
@@ -101,33 +98,18 @@ module _ (g : Game) where
     reached = ap result r.reached;
   }
 
-  pub ran_over : (s x : Core) (phases left : ℕ) → Made (phases - left) s x → over x.walker.phase ≡ true → Ran g phases s (result x)
-  ran_over s x phases left r o = ran s x phases (record {
+  pub ran_over : (s x : Core) (phases : ℕ) {least : ℕ} → Made least s x → over x.walker.phase ≡ true → Ran g phases s (result x)
+  ran_over s x phases r o = ran s x phases (record {
     steps = r.steps + phases;
     enough = omega arith;
     reached = sym (run_over g phases x o) ∙ ap (run_for g phases) r.reached ∙ sym (run_add r.steps phases s);
   })
 
-  pub ran_all : (s x : Core) (phases left : ℕ) → left ≡ 0 → Made (phases - left) s x → Ran g phases s (result x)
-  ran_all s x phases left e r = ran s x phases (record { steps = r.steps; enough = omega (arith, r.enough); reached = r.reached })
+  pub ran_all : (s x : Core) (phases least : ℕ) → phases ≤ least → Made least s x → Ran g phases s (result x)
+  ran_all s x phases least h r = ran s x phases (record { steps = r.steps; enough = omega (arith, r.enough); reached = r.reached })
 
   pub ran_from : {s s₂ : Core} {phases : ℕ} {x : Result} → s ≡ s₂ → Ran g phases s x → Ran g phases s₂ x
   ran_from {phases = phases} {x = x} e r = subst (λ (y : Core). Ran g phases y x) e r
-
-  pub advanced_sized : {s x : Core} → Sized s → Advanced g s x → Sized x
-  advanced_sized {s = s} z a = subst Sized (sym a.reached) (run_sized g (suc a.more) s z)
-
-pub outer_only : (f : Phase) → outer_stopped f ≡ false → f ≡ Outer
-outer_only Outer h = refl
-outer_only Nested h = absurd (contra refl h)
-outer_only Exhausted h = absurd (contra refl h)
-outer_only Found h = absurd (contra refl h)
-
-pub nested_only : (f : Phase) → nested_stopped f ≡ false → f ≡ Nested
-nested_only Outer h = absurd (contra refl h)
-nested_only Nested h = refl
-nested_only Exhausted h = absurd (contra refl h)
-nested_only Found h = absurd (contra refl h)
 
 -- ---- the steps of a scan
 
@@ -169,10 +151,10 @@ nested_run g (suc n) s p above h =
 abbrev pub counted : Core → Walker → ℕ → Core
 counted s w spent = core_of w spent s.number s.parent s.index s.probes s.stamp s.walk s.depth s.cursor
 
-module _ (g : Game) (s : Core) (r : Scanned) (spent' : ℕ) where
+module _ (g : Game) (s : Core) (r : Option Edge) (spent' : ℕ) where
   -- the walker at the edge at which the scan stopped
-  abbrev stopped : Walker
-  stopped = placed s.walker r.edge
+  abbrev stopped : Edge → Walker
+  stopped e = placed s.walker e.index
 
   module _ (phase_is : s.walker.phase ≡ Outer) (high : s.walker.height ≡ 0 → ⊥)
       (q : Swept (row_of g s.walker.cur) s.number s.walker.next s.spent r spent') where
@@ -183,15 +165,15 @@ module _ (g : Game) (s : Core) (r : Scanned) (spent' : ℕ) where
     then_outer s' e d =
         advanced g q.passed s there s' (outer_run g q.passed s phase_is high q.skips) (e ∙ step_at g there Outer phase_is) d
 
-    pub then_discovers : (s' : Core) → r.found ≡ true → s' ≡ discover (counted s stopped spent') r.target → Advanced g s s'
-    then_discovers s' hit f =
-        let l = q.looked hit in
+    pub then_discovers : (x : Edge) → r ≡ Some x → (s' : Core) → s' ≡ discover (counted s (stopped x) spent') x.target → Advanced g s s'
+    then_discovers x hit s' f =
+        let l = q.looked x hit in
         let h = l.0 in
-        then_outer s' (f ∙ ap (λ (k : ℕ). discover (counted s (placed s.walker k) spent') r.target) h.edge_is
+        then_outer s' (f ∙ ap (λ (k : ℕ). discover (counted s (placed s.walker k) spent') x.target) h.index_is
         ∙ outer_discovers g there h.target_is l.1 h.edge high h.new)
-        (subst (λ (x : Core). Deep x.walker) (sym f) (discover_deep _ _))
+        (subst (λ (y : Core). Deep y.walker) (sym f) (discover_deep _ _))
 
-    pub then_finishes : (w : Walker) → r.found ≡ false → w ≡ finished (accepts_at g s.walker.cur) s.parent s.index s.walker
+    pub then_finishes : (w : Walker) → r ≡ None → w ≡ finished (accepts_at g s.walker.cur) s.parent s.index s.walker
         → Advanced g s (counted s w spent')
     unfolding finish finished
     then_finishes w no_more f =
@@ -213,20 +195,20 @@ module _ (g : Game) (s : Core) (r : Scanned) (spent' : ℕ) where
     then_nested : (s' : Core) → s' ≡ nested_step g within → Deep s'.walker → Advanced g s s'
     then_nested s' e d = advanced g q.passed s within s' reaches (e ∙ step_at g within Nested phase_is) d
 
-    module _ (hit : r.found ≡ true) where
-      pub then_closes : (h : ℕ) → on_open_path s.walk s.depth s.walker.height r.target ≡ true → h ≡ get_or s.depth r.target 0
+    module _ (x : Edge) (hit : r ≡ Some x) where
+      pub then_closes : (h : ℕ) → on_open_path s.walk s.depth s.walker.height x.target ≡ true → h ≡ get_or s.depth x.target 0
           → Advanced g s (counted s (closed s.walker h) spent')
       then_closes h on e =
-          let l = q.looked hit in
+          let l = q.looked x hit in
           then_nested _ (nested_closes g within l.0.target_is l.1 l.0.edge above l.0.new e on) (found_deep _ refl)
 
-      pub then_deepens : (s' : Core) → on_open_path s.walk s.depth s.walker.height r.target ≡ false
-          → s' ≡ deepen (counted s stopped spent') r.target → Advanced g s s'
+      pub then_deepens : (s' : Core) → on_open_path s.walk s.depth s.walker.height x.target ≡ false
+          → s' ≡ deepen (counted s (stopped x) spent') x.target → Advanced g s s'
       then_deepens s' off f =
-          let l = q.looked hit in
-          then_nested s' (f ∙ ap (λ (k : ℕ). deepen (counted s (placed s.walker k) spent') r.target) l.0.edge_is
+          let l = q.looked x hit in
+          then_nested s' (f ∙ ap (λ (k : ℕ). deepen (counted s (placed s.walker k) spent') x.target) l.0.index_is
           ∙ nested_deepens g within l.0.target_is l.1 l.0.edge above l.0.new off)
-          (subst (λ (x : Core). Deep x.walker) (sym f) (deepen_deep _ _ (deep.high phase_is) above))
+          (subst (λ (y : Core). Deep y.walker) (sym f) (deepen_deep _ _ (deep.high phase_is) above))
 
     below_is : {n : ℕ} → s.walker.height < s.walker.top → spent' ≡ n → go_back (counted s s.walker spent') ≡ counted s (returned s.walk s.cursor s.walker) n
     unfolding go_back
@@ -236,7 +218,7 @@ module _ (g : Game) (s : Core) (r : Scanned) (spent' : ℕ) where
     unfolding go_back leave_root
     out_is h e = rw (le-leb s.walker.top s.walker.height h, e)
 
-    module _ (no_more : r.found ≡ false) where
+    module _ (no_more : r ≡ None) where
       -- back to the state below: one step
       goes_below : s.walker.height < s.walker.top → Advanced g s (go_back (counted s s.walker spent'))
       goes_below h =

@@ -1,30 +1,18 @@
 -- That the steps of a phase come to an end on any arrays: each turn numbers a state, or takes one off a path. Assumes nothing.
 use mathlib.Core.Path.{◌≡◌, refl, sym, ap, subst}
-use mathlib.Core.Logic.{◌⊎◌, inl, inr, ⊎_elim}
 use mathlib.Core.Bool.{Bool, true, false, cond}
-use mathlib.Core.List.{List, [], ◌∷◌}
-use Prim.Native.Nat.{ℕ, zero, suc, ◌≤◌, ◌<◌}
+use mathlib.Core.List.{List}
+use Prim.Native.Nat.{ℕ, suc, ◌<◌}
 use native.Mathlib.Omega.{arith}
-use lib.Dec.{eqb, leb}
-use lib.ListN.{length, get_or, set}
-use borrow.Author.Tests.{eqb-true, eqb-false, eq-eqb, ne_eqb, leb-false}
-use Rattle.plain.proofs.Tests.{either}
+use lib.Dec.{leb}
+use lib.ListN.{get_or, set}
+use borrow.Author.Tests.{leb-false}
 use Rattle.look.specs.Numbers.{no_number, blanks, up}
 use Rattle.look.proofs.Counting.{up_more, up_most, further_most, blank_filled}
-use Rattle.search.specs.declared.Phase.TheVariants.{Outer, Nested, Exhausted, Found}
 use Rattle.search.specs.declared.Walker.{Walker}
-use Rattle.search.specs.Core.{Core, placed, left, nesting, finished, returned, exhausted, closed, with_walker, discover, deepen, leave_root, go_back, Roomy, OuterTurn, NestedTurn}
+use Rattle.search.specs.Core.{Core, placed, left, nesting, finished, returned, with_walker, discover, deepen, leave_root, go_back, Roomy, OuterTurn, NestedTurn}
 
 -- ---- the outer search
-
-other_outer : Exhausted ≡ Outer → ⊥
-other_outer e = let z : ◌≡◌ {A = ℕ} 0 1 = cc in omega arith
-
-nested_outer : Nested ≡ Outer → ⊥
-nested_outer e = let z : ◌≡◌ {A = ℕ} 0 1 = cc in omega arith
-
-pub turn_exhausts : (w r : Walker) (number : List ℕ) → r ≡ exhausted w → Roomy w number → OuterTurn w number r number
-turn_exhausts w r number e h = subst (λ (x : Walker). OuterTurn w number x number) (sym e) (record { roomy = h; lighter = λ z. absurd (other_outer z) })
 
 pub turn_discovers : (w : Walker) (edge : ℕ) (s s' : Core) (t : ℕ) → s.walker ≡ placed w edge → s' ≡ discover s t → get_or s.number t 0 ≡ no_number → Roomy w s.number
     → OuterTurn w s.number s'.walker s'.number
@@ -42,19 +30,10 @@ unfolding finished
 turn_finishes b parent index w r number e high h = subst (λ (x : Walker). OuterTurn w number x number) (sym e) (by_test b)
   where
     by_test : (b : Bool) → OuterTurn w number (cond b (nesting w) (left parent index w)) number
-    by_test true = record { roomy = h; lighter = λ z. absurd (nested_outer z) }
+    by_test true = record { roomy = h; lighter = λ z. absurd cc }
     by_test false = record { roomy = h; lighter = λ z. omega (arith, high) }
 
 -- ---- the nested search
-
-found_nested : Found ≡ Nested → ⊥
-found_nested e = let z : ◌≡◌ {A = ℕ} 0 1 = cc in omega arith
-
-outer_nested : Outer ≡ Nested → ⊥
-outer_nested e = let z : ◌≡◌ {A = ℕ} 0 1 = cc in omega arith
-
-pub turn_closes : (w : Walker) (h : ℕ) (stamp : List ℕ) → NestedTurn w stamp (closed w h) stamp
-turn_closes w h stamp = record { same_met = refl; lighter = λ z. absurd (found_nested z) }
 
 pub turn_deepens : (w : Walker) (edge : ℕ) (s s' : Core) (t : ℕ) → s.walker ≡ placed w edge → s' ≡ deepen s t → get_or s.stamp t 0 ≡ no_number → w.met < no_number
     → NestedTurn w s.stamp s'.walker s'.stamp
@@ -72,5 +51,5 @@ turn_returns s s' e = subst (λ (x : Core). NestedTurn s.walker s.stamp x.walker
   where
     by_test : (b : Bool) → leb s.walker.top s.walker.height ≡ b
         → NestedTurn s.walker s.stamp (cond b (leave_root s) (with_walker s (returned s.walk s.cursor s.walker))).walker (cond b (leave_root s) (with_walker s (returned s.walk s.cursor s.walker))).stamp
-    by_test true z = record { same_met = refl; lighter = λ y. absurd (outer_nested y) }
+    by_test true z = record { same_met = refl; lighter = λ y. absurd cc }
     by_test false z = record { same_met = refl; lighter = λ y. omega (arith, leb-false s.walker.top s.walker.height z) }

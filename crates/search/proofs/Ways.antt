@@ -1,13 +1,13 @@
 -- What the model is on each way that the code goes, and the laws of its loops. Assumes nothing.
-use mathlib.Core.Path.{◌≡◌, refl, sym, ap, subst, ◌∙◌}
+use mathlib.Core.Path.{◌≡◌, refl, sym, ap, ◌∙◌}
 use mathlib.Core.Bool.{Bool, true, false, cond}
 use mathlib.Core.List.{List, [], ◌∷◌, map}
-use Prim.Native.Nat.{ℕ, zero, suc, ◌+◌, ◌-◌, ◌%◌, ◌≤◌, ◌<◌}
+use Prim.Native.Nat.{ℕ, zero, suc, ◌+◌, ◌-◌, ◌%◌, ◌≤◌, ◌<◌, min}
 use native.Mathlib.Nat.{le_of_suc-le-suc, not-suc-le-zero}
 use native.Mathlib.Omega.{arith}
 use lib.Dec.{eqb, ltb, leb}
 use lib.ListN.{length, get_or, set, replicate, length-set, length-replicate}
-use borrow.Author.Tests.{lt-ltb, le-ltb, le-leb, lt-leb, leb-false, eq-eqb, ne_eqb}
+use borrow.Author.Tests.{lt-ltb, le-ltb, le-leb, lt-leb, leb-true, leb-false, eq-eqb, ne_eqb}
 use Rattle.plain.specs.Table.{accepts}
 use Rattle.plain.proofs.Tests.{contra}
 use Rattle.rows.proofs.Paste.{same_place}
@@ -16,7 +16,9 @@ use Rattle.look.proofs.Counting.{further_above}
 use Rattle.search.specs.declared.Phase.{Phase}
 use Rattle.search.specs.declared.Phase.TheVariants.{Outer, Nested, Exhausted, Found}
 use Rattle.search.specs.declared.Walker.{Walker}
-use Rattle.search.specs.Core.{Game, accepts_below, row_of, Core, core_of, Sized, Recorded, Trailed, Lengths, skipped, left, nesting, finished, returned, emptied, exhausted, closed, with_walker, probed, discover, deepen, leave_root, go_back, on_open_path, by_phase, over, target_of, has_edge, outer_probe, finish, outer_step, nested_probe, nested_step, step, run_for, Deep, up_to, forget_above, climb, retrace_walk, retrace_depth, rewound}
+use Rattle.search.specs.declared.Records.{Records}
+use Rattle.search.specs.declared.Trail.{Trail}
+use Rattle.search.specs.Core.{Game, accepts_below, row_of, Core, core_of, core_in, Sized, Lengths, skipped, left, nesting, finished, returned, emptied, exhausted, closed, with_walker, probed, discover, deepen, leave_root, go_back, on_open_path, by_phase, over, target_of, has_edge, outer_probe, finish, outer_step, nested_probe, nested_step, step, run_for, Deep, up_to, forget_above, climb, retrace_walk, retrace_depth, rewound, rewound_in}
 
 -- two walkers, and two cores, with the same fields
 pub same_walker : (a b : Walker) → a.phase ≡ b.phase → a.cur ≡ b.cur → a.next ≡ b.next → a.height ≡ b.height → a.top ≡ b.top → a.stem ≡ b.stem
@@ -27,19 +29,6 @@ pub same_core : (a b : Core) → a.number ≡ b.number → a.parent ≡ b.parent
     → a.walk ≡ b.walk → a.depth ≡ b.depth → a.cursor ≡ b.cursor → a.spent ≡ b.spent → a.walker ≡ b.walker → a ≡ b
 same_core a b p q r s t u v w x y =
     λ i. record { number = p i; parent = q i; index = r i; probes = s i; stamp = t i; walk = u i; depth = v i; cursor = w i; spent = x i; walker = y i }
-
--- ---- the walk of the open path
-
-module _ (walk depth : List ℕ) (height t : ℕ) where
-  pub on_path_below : (at x : ℕ) → at ≡ get_or depth t 0 → x ≡ get_or walk at 0 → at < height → eqb x t ≡ on_open_path walk depth height t
-  on_path_below at x e f h =
-      let below : ltb (get_or depth t 0) height ≡ true = lt-ltb _ _ (subst (λ (n : ℕ). n < height) e h) in
-      rw below (ap (λ (y : ℕ). eqb y t) (f ∙ same_place walk e))
-
-  pub on_path_above : (at : ℕ) → at ≡ get_or depth t 0 → height ≤ at → false ≡ on_open_path walk depth height t
-  on_path_above at e h =
-      let above : ltb (get_or depth t 0) height ≡ false = le-ltb _ _ (subst (λ (n : ℕ). height ≤ n) e h) in
-      rw above
 
 -- ---- one step
 
@@ -240,35 +229,6 @@ module _ (s : Core) (z : Sized s) where
       sized _ z.number_size z.parent_size z.index_size z.probes_size (simp length-set z.stamp_size) z.walk_size z.depth_size
       z.cursor_size
 
-  pub recorded : Recorded s.number s.parent s.index s.probes s.walk s.depth
-  recorded = record {
-    number_size = z.number_size;
-    parent_size = z.parent_size;
-    index_size = z.index_size;
-    probes_size = z.probes_size;
-    walk_size = z.walk_size;
-    depth_size = z.depth_size;
-  }
-
-  pub trailed : Trailed s.parent s.index s.stamp s.walk s.depth s.cursor
-  trailed = record {
-    parent_size = z.parent_size;
-    index_size = z.index_size;
-    stamp_size = z.stamp_size;
-    walk_size = z.walk_size;
-    depth_size = z.depth_size;
-    cursor_size = z.cursor_size;
-  }
-
--- arrays that a function is not lent are as long as one likes
-pub recorded_sized : (s : Core) → Recorded s.number s.parent s.index s.probes s.walk s.depth → length s.stamp ≡ 512 → length s.cursor ≡ 512
-    → Sized s
-recorded_sized s z m c = sized s z.number_size z.parent_size z.index_size z.probes_size m z.walk_size z.depth_size c
-
-pub trailed_sized : (s : Core) → Trailed s.parent s.index s.stamp s.walk s.depth s.cursor → length s.number ≡ 512 → length s.probes ≡ 512
-    → Sized s
-trailed_sized s z n p = sized s n z.parent_size z.index_size p z.stamp_size z.walk_size z.depth_size z.cursor_size
-
 module _ (g : Game) (s : Core) (z : Sized s) where
   abbrev t : ℕ
   t = target_of g s
@@ -319,26 +279,14 @@ run_sized g (suc n) s z = run_sized g n (step g s) (step_sized g s z)
 
 -- ---- a nested search has states on its paths
 
-pub shallow : (w : Walker) (f : Phase) → w.phase ≡ f → (f ≡ Nested → ⊥) → Deep w
-shallow w f e n = record { high = λ z. absurd (n (sym e ∙ z)); above = λ z. absurd (n (sym e ∙ z)) }
-
-outer_not : Outer ≡ Nested → ⊥
-outer_not e = let z : ◌≡◌ {A = ℕ} 0 1 = cc in omega arith
-
-exhausted_not : Exhausted ≡ Nested → ⊥
-exhausted_not e = let z : ◌≡◌ {A = ℕ} 0 1 = cc in omega arith
-
-found_not : Found ≡ Nested → ⊥
-found_not e = let z : ◌≡◌ {A = ℕ} 0 1 = cc in omega arith
-
 pub outer_deep : (w : Walker) → w.phase ≡ Outer → Deep w
-outer_deep w e = shallow w Outer e outer_not
+outer_deep w e = record { high = λ z. absurd cc; above = λ z. absurd cc }
 
 pub exhausted_deep : (w : Walker) → w.phase ≡ Exhausted → Deep w
-exhausted_deep w e = shallow w Exhausted e exhausted_not
+exhausted_deep w e = record { high = λ z. absurd cc; above = λ z. absurd cc }
 
 pub found_deep : (w : Walker) → w.phase ≡ Found → Deep w
-found_deep w e = shallow w Found e found_not
+found_deep w e = record { high = λ z. absurd cc; above = λ z. absurd cc }
 
 pub finished_deep : (b : Bool) (parent index : List ℕ) (w : Walker) → (w.height ≡ 0 → ⊥) → Deep (finished b parent index w)
 unfolding finished
@@ -348,6 +296,19 @@ finished_deep false parent index w h = outer_deep (left parent index w) refl
 pub discover_deep : (s : Core) (t : ℕ) → Deep (discover s t).walker
 unfolding discover
 discover_deep s t = outer_deep _ refl
+
+-- neither way of it discovers a state
+pub deepen_keeps : (s s' : Core) (t : ℕ) → s' ≡ deepen s t → s'.number ≡ s.number
+unfolding deepen
+deepen_keeps s s' t e = ap (λ (x : Core). x.number) e
+
+pub back_keeps : (s s' : Core) → s' ≡ go_back s → s'.number ≡ s.number
+unfolding go_back leave_root
+back_keeps s s' e = ap (λ (x : Core). x.number) e ∙ by_test (leb s.walker.top s.walker.height)
+  where
+    by_test : (b : Bool) → (cond b (leave_root s) (with_walker s (returned s.walk s.cursor s.walker))).number ≡ s.number
+    by_test true = refl
+    by_test false = refl
 
 pub deepen_deep : (s : Core) (t : ℕ) → 0 < s.walker.height → s.walker.height ≤ s.walker.top → Deep (deepen s t).walker
 unfolding deepen
@@ -397,8 +358,17 @@ module _ (limit : ℕ) where
   forget_length (x ∷ xs) (suc i) = ap suc (forget_length xs i)
 
   -- behind the last entry there is nothing to forget
-  pub forget_past : (xs : List ℕ) (i j : ℕ) → length xs ≤ i → length xs ≤ j → forget_above limit i xs ≡ forget_above limit j xs
+  forget_past : (xs : List ℕ) (i j : ℕ) → length xs ≤ i → length xs ≤ j → forget_above limit i xs ≡ forget_above limit j xs
   forget_past xs i j h k = forget_every xs i h ∙ sym (forget_every xs j k)
+
+  pub forget_capped : (xs : List ℕ) (size n : ℕ) → length xs ≡ n → forget_above limit (min size n) xs ≡ forget_above limit size xs
+  forget_capped xs size n h = by_test (leb size n) refl
+    where
+      by_test : (b : Bool) → leb size n ≡ b → forget_above limit (min size n) xs ≡ forget_above limit size xs
+      by_test true e =
+          let same : min size n ≡ size = omega (arith, leb-true size n e) in
+          ap (λ (k : ℕ). forget_above limit k xs) same
+      by_test false e = forget_past xs (min size n) size (omega (arith, leb-false size n e)) (omega (arith, leb-false size n e))
 
   -- an entry below the size, and one that is not
   pub forget_below : (xs : List ℕ) (size i : ℕ) → i < size → i < length xs → get_or (forget_above limit size xs) i 0 ≡ up_to limit (get_or xs i 0)
@@ -489,14 +459,19 @@ module _ (size start s spent : ℕ) (number parent index probes stamp walk : Lis
       sized _ (forget_length _ number size ∙ z.number_size) z.parent_size z.index_size z.probes_size (forget_length _ stamp size ∙ z.stamp_size)
       (walk_size parent _ s walk ∙ z.walk_size) (depth_size parent _ s (replicate 512 0) ∙ length-replicate {A = ℕ} 512 0) (length-replicate {A = ℕ} 512 0)
 
-  pub rewound_by : {limit height met kept : ℕ} {number' stamp' walk' depth : List ℕ} → limit ≡ get_or number s 0 % 512 → number' ≡ forget_above limit size number
-      → stamp' ≡ forget_above limit size stamp → height ≡ climb parent start 512 s → walk' ≡ retrace_walk parent height s walk
-      → depth ≡ retrace_depth parent height s (replicate 512 0) → met ≡ up limit → kept ≡ get_or probes s 0
-      → core_of (record { phase = Outer; cur = s; next = 0; height = height; top = height; stem = 0; met = met; kept = kept }) spent number' parent index probes
-      stamp' walk' depth (replicate 512 0)
-      ≡ rewound size start s spent number parent index probes stamp walk
+module _ (size start s spent : ℕ) (a : Records) where
+  pub rewound_by : {limit height met kept : ℕ} {number stamp : List ℕ} {r : Records} {t : Trail} → limit ≡ get_or a.number s 0 % 512
+      → number ≡ forget_above limit size a.number → stamp ≡ forget_above limit size a.stamp → height ≡ climb a.parent start 512 s
+      → r ≡ record { number = number; parent = a.parent; index = a.index; probes = a.probes; stamp = stamp; walk = retrace_walk a.parent height s a.walk }
+      → t ≡ record { depth = retrace_depth a.parent height s (replicate 512 0); cursor = replicate 512 0 }
+      → met ≡ up limit → kept ≡ get_or r.probes s 0
+      → core_in (record { phase = Outer; cur = s; next = 0; height = height; top = height; stem = 0; met = met; kept = kept }) spent r t
+      ≡ rewound_in size start s spent a
   unfolding rewound
   rewound_by l n m h w d u k =
-      same_core _ _ (n ∙ ap (λ (a : ℕ). forget_above a size number) l) refl refl refl (m ∙ ap (λ (a : ℕ). forget_above a size stamp) l)
-      (w ∙ ap (λ (a : ℕ). retrace_walk parent a s walk) h) (d ∙ ap (λ (a : ℕ). retrace_depth parent a s (replicate 512 0)) h) refl refl
-      (same_walker _ _ refl refl refl h h refl (u ∙ ap up l) k)
+      same_core _ _ (ap (λ (x : Records). x.number) w ∙ n ∙ ap (λ (x : ℕ). forget_above x size a.number) l) (ap (λ (x : Records). x.parent) w)
+      (ap (λ (x : Records). x.index) w) (ap (λ (x : Records). x.probes) w)
+      (ap (λ (x : Records). x.stamp) w ∙ m ∙ ap (λ (x : ℕ). forget_above x size a.stamp) l)
+      (ap (λ (x : Records). x.walk) w ∙ ap (λ (x : ℕ). retrace_walk a.parent x s a.walk) h)
+      (ap (λ (x : Trail). x.depth) d ∙ ap (λ (x : ℕ). retrace_depth a.parent x s (replicate 512 0)) h) (ap (λ (x : Trail). x.cursor) d) refl
+      (same_walker _ _ refl refl refl h h refl (u ∙ ap up l) (k ∙ ap (λ (x : Records). get_or x.probes s 0) w))

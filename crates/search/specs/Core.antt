@@ -1,12 +1,16 @@
 -- The arrays of the search as lists, and what each step does to them. Cited by the contracts of this crate: a theorem (proofs/OneStep.antt) ties it
 -- to the plain search. Assumes nothing.
-use Rattle.std.specs.Prelude.{ℕ, zero, suc, ◌+◌, ◌*◌, ◌-◌, ◌%◌, ◌≤◌, ◌<◌, ◌≡◌, Bool, true, false, ◌&&◌, cond, List, [], ◌∷◌, ◌++◌, map, eqb, ltb, leb, length, get_or, set, take, drop, replicate}
+use Rattle.std.specs.Prelude.{ℕ, zero, suc, ◌+◌, ◌*◌, ◌-◌, ◌%◌, ◌≤◌, ◌<◌, ◌≡◌, Bool, true, false, ◌&&◌, cond, List, ◌++◌, map, eqb, ltb, leb, length, get_or, set, take, drop, replicate}
 use Rattle.plain.specs.Table.{accepts}
 use Rattle.look.specs.Numbers.{no_number, blanks, plus, up, further}
-use Rattle.look.specs.Scan.{most_states, Layout, row_laid}
+use Rattle.look.specs.Scan.{most_states, row_laid}
+use Rattle.look.specs.declared.Layout.{Layout}
 use Rattle.search.specs.declared.Phase.{Phase}
 use Rattle.search.specs.declared.Phase.TheVariants.{Outer, Nested, Exhausted, Found}
+use Rattle.look.specs.declared.Game.{Game as LentGame}
 use Rattle.search.specs.declared.Walker.{Walker}
+use Rattle.search.specs.declared.Records.{Records}
+use Rattle.search.specs.declared.Trail.{Trail}
 
 -- ---- the game
 
@@ -20,6 +24,10 @@ pub record Game : Type 0 where
 -- the game of lent arrays
 abbrev pub game_of : List ℕ → Layout → List ℕ → ℕ → Game
 game_of targets layout words size = record { targets = targets; layout = layout; words = words; size = size }
+
+-- the same of a game as a search is lent it
+abbrev pub game_in : LentGame → Game
+game_in g = game_of g.targets.now g.layout.now g.words.now g.size
 
 -- is the mark of v set, and is v below the number?
 unfoldable pub accepts_below : List ℕ → ℕ → ℕ → Bool
@@ -68,6 +76,17 @@ core_of w spent number parent index probes stamp walk depth cursor = record {
   walker = w;
 }
 
+-- the same of the records and the trail that a search is lent
+abbrev pub core_in : Walker → ℕ → Records → Trail → Core
+core_in w spent a t = core_of w spent a.number a.parent a.index a.probes a.stamp a.walk t.depth t.cursor
+
+-- the records with another walk, and the trail with other places
+abbrev pub with_walk : Records → List ℕ → Records
+with_walk a walk = record { number = a.number; parent = a.parent; index = a.index; probes = a.probes; stamp = a.stamp; walk = walk }
+
+abbrev pub with_depth : Trail → List ℕ → Trail
+with_depth t depth = record { depth = depth; cursor = t.cursor }
+
 -- lengths that the arrays have by their types
 pub record Sized (s : Core) : Type 0 where
   pub number_size : length s.number ≡ most_states
@@ -79,25 +98,7 @@ pub record Sized (s : Core) : Type 0 where
   pub depth_size : length s.depth ≡ most_states
   pub cursor_size : length s.cursor ≡ most_states
 
--- the arrays that the outer search is lent
-pub record Recorded (number parent index probes walk depth : List ℕ) : Type 0 where
-  pub number_size : length number ≡ most_states
-  pub parent_size : length parent ≡ most_states
-  pub index_size : length index ≡ most_states
-  pub probes_size : length probes ≡ most_states
-  pub walk_size : length walk ≡ most_states
-  pub depth_size : length depth ≡ most_states
-
--- those that the nested search is lent
-pub record Trailed (parent index stamp walk depth cursor : List ℕ) : Type 0 where
-  pub parent_size : length parent ≡ most_states
-  pub index_size : length index ≡ most_states
-  pub stamp_size : length stamp ≡ most_states
-  pub walk_size : length walk ≡ most_states
-  pub depth_size : length depth ≡ most_states
-  pub cursor_size : length cursor ≡ most_states
-
--- those that outlive a search
+-- the same of those that outlive a search
 pub record Lengths (number parent index probes stamp walk : List ℕ) : Type 0 where
   pub number_size : length number ≡ most_states
   pub parent_size : length parent ≡ most_states
@@ -218,19 +219,6 @@ by_phase Nested a b s = b
 by_phase Exhausted a b s = s
 by_phase Found a b s = s
 
--- has the outer search stopped? the nested one?
-abbrev pub outer_stopped : Phase → Bool
-outer_stopped Outer = false
-outer_stopped Nested = true
-outer_stopped Exhausted = true
-outer_stopped Found = true
-
-abbrev pub nested_stopped : Phase → Bool
-nested_stopped Outer = true
-nested_stopped Nested = false
-nested_stopped Exhausted = true
-nested_stopped Found = true
-
 -- is the search over?
 abbrev pub over : Phase → Bool
 over Outer = false
@@ -341,6 +329,10 @@ result_of w spent number parent index probes stamp walk = record {
   walk = walk;
 }
 
+-- the same of the records that a search is lent
+abbrev pub result_in : Walker → ℕ → Records → Result
+result_in w spent a = result_of w spent a.number a.parent a.index a.probes a.stamp a.walk
+
 -- what a search leaves of its arrays
 abbrev pub result : Core → Result
 result s = result_of s.walker s.spent s.number s.parent s.index s.probes s.stamp s.walk
@@ -386,6 +378,10 @@ rewound size start s spent number parent index probes stamp walk =
     core_of (record { phase = Outer; cur = s; next = 0; height = height; top = height; stem = 0; met = up limit; kept = get_or probes s 0 }) spent
     (forget_above limit size number) parent index probes (forget_above limit size stamp)
     (retrace_walk parent height s walk) (retrace_depth parent height s (replicate most_states 0)) (replicate most_states 0)
+
+-- the same of the records that a search is lent
+abbrev pub rewound_in : ℕ → ℕ → ℕ → ℕ → Records → Core
+rewound_in size start s spent a = rewound size start s spent a.number a.parent a.index a.probes a.stamp a.walk
 
 -- the arrays of a search that has discovered only the start state, and marked none
 pub record Fresh (start : ℕ) (number parent index probes stamp : List ℕ) : Type 0 where

@@ -1,12 +1,5 @@
 // Nested depth-first search over compressed rows; it can be resumed where a state was discovered.
 // The arrays are lent, so that no step copies one. Every function is safe for any contents of the arrays.
-//
-// targets, begins, ends, bases, words: the game: its moves, where each state's row lies among them and what is added to its targets, and its paying marks
-// number, parent, index, probes, by state: its discovery number, the state from which it was discovered, by which edge of that state's row,
-//     and the probes made by then
-// stamp, by state: how many states were discovered when the nested search marked it
-// walk: the open path, and behind it the path of the nested search; depth, by state: its place on the open path
-// cursor, by place of the walk: the edge that the nested search took last from the state there
 #![tactic(auto)]
 
 mod outer; // steps of the outer search
@@ -17,7 +10,7 @@ mod run; // the search, begun or resumed, to its end
 pub use rewind::begin;
 pub use run::resume;
 
-#[derive(Clone, Copy)]
+#[derive(Clone, Copy, PartialEq, Eq)]
 pub enum Phase {
     Outer,
     Nested,
@@ -26,6 +19,7 @@ pub enum Phase {
 }
 
 // Where the search stands.
+// Kept: that a nested search has states on its paths stands in clauses, since a struct with a fact of its own takes no update syntax: each walker would be written out.
 #[derive(Clone, Copy)]
 pub struct Walker {
     pub phase: Phase,
@@ -42,6 +36,29 @@ pub struct Walker {
     pub met: u16,
     // the probes kept from the search before
     pub kept: u16,
+}
+
+// What outlives a search.
+#[derive(Clone, Copy)]
+pub struct Records {
+    // by state: its discovery number, the state from which it was discovered, by which edge of that state's row, and the probes made by then
+    pub number: [u16; 512],
+    pub parent: [u16; 512],
+    pub index: [u16; 512],
+    pub probes: [u16; 512],
+    // by state: how many states were discovered when the nested search marked it
+    pub stamp: [u16; 512],
+    // the open path, and behind it the path of the nested search
+    pub walk: [u16; 512],
+}
+
+// What a search notes beside these of its two paths.
+#[derive(Clone, Copy)]
+struct Trail {
+    // by state: its place on the open path
+    depth: [u16; 512],
+    // by place of the walk: the edge that the nested search took last from the state there
+    cursor: [u16; 512],
 }
 
 // The most states of a chain of parents: on a game's own arrays no state stands in it twice.

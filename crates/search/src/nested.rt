@@ -1,166 +1,114 @@
 // Steps of the nested search.
-ghost use Rattle.std.specs.Prelude.{◌≡◌, List, ℕ, ◌<◌, length};
+ghost use Rattle.std.specs.Prelude.{◌≡◌, List, ℕ, ◌<◌};
 ghost use Rattle.look.specs.Numbers.{no_number};
-ghost use Rattle.look.specs.Scan.{layout_of, Laid};
 ghost use Rattle.search.specs.declared.Phase.TheVariants.{Nested};
-ghost use Rattle.search.specs.Core.{game_of, Trailed, Deep, core_of, placed, go_back, deepen as deepens, on_open_path, NestedTurn, Advanced, nested_stopped};
+ghost use Rattle.search.specs.Core.{game_of, Deep, core_in, placed, go_back, deepen as deepens, on_open_path, NestedTurn, Advanced};
 
 use crate::outer::leave;
-use crate::{Phase, Walker};
-use look::{down, further, get, put, scan};
+use crate::{Phase, Records, Trail, Walker};
+use look::{Edge, Game, down, further, get, put, scan};
 use rows::wide;
 
 // Is t on the open path of that height?
-fn on_path(walk: &[u16; 512], depth: &[u16; 512], height: u16, t: u16) -> bool
-    requires { (length walk.now ≡ 512) × (length depth.now ≡ 512) }
-    ensures { result ≡ on_open_path walk.now depth.now height t }
+fn on_path(records: &Records, trail: &Trail, height: u16, t: u16) -> bool
+    ensures { result ≡ on_open_path records.now.walk trail.now.depth height t }
 {
-    let at = get(depth, t);
-    if at < height {
-        get(walk, at) == t
-    } else {
-        false
-    }
+    let at = get(&trail.depth, t);
+    at < height && get(&records.walk, at) == t
 }
 
 // The nested search goes on to t, by an edge of the current state's row.
-fn deepen(
-    stamp: &mut [u16; 512],
-    walk: &mut [u16; 512],
-    cursor: &mut [u16; 512],
-    w: Walker,
-    edge: u16,
-    t: u16,
-) -> Walker
-    requires { (length stamp.old ≡ 512) × (length walk.old ≡ 512) × (length cursor.old ≡ 512) }
-    ensures { (spent : ℕ) (number parent index probes depth : List ℕ) → core_of result spent number parent index probes stamp.new walk.new depth cursor.new ≡ deepens (core_of (placed w edge) spent number parent index probes stamp.old walk.old depth cursor.old) t }
+fn deepen(records: &mut Records, trail: &mut Trail, w: Walker, edge: Edge) -> Walker
+    ensures { (spent : ℕ) → core_in result spent records.new trail.new ≡ deepens (core_in (placed w edge.index) spent records.old trail.old) edge.target }
 {
-    put(stamp, t, w.met);
-    put(walk, w.top, t);
-    put(cursor, down(w.top), edge);
+    let t = edge.target;
+    put(&mut records.stamp, t, w.met);
+    put(&mut records.walk, w.top, t);
+    put(&mut trail.cursor, down(w.top), edge.index);
     Walker {
         phase: Phase::Nested,
         cur: t,
         next: 0,
-        height: w.height,
         top: further(w.top),
         stem: 0,
-        met: w.met,
-        kept: w.kept,
+        ..w
     }
 }
 
 // The nested search goes back, from a state whose edges are all taken. From its first state it ends: that state is marked, and leaves the open path.
 // (While it is on the open path, a probe that leads to it has to find it unmarked.)
-fn go_back(
-    parent: &[u16; 512],
-    index: &[u16; 512],
-    stamp: &mut [u16; 512],
-    walk: &[u16; 512],
-    cursor: &[u16; 512],
-    w: Walker,
-) -> Walker
-    requires { (length parent.now ≡ 512) × (length index.now ≡ 512) × (length stamp.old ≡ 512) × (length walk.now ≡ 512) × (length cursor.now ≡ 512) }
-    ensures { (spent : ℕ) (number probes depth : List ℕ) → core_of result spent number parent.now index.now probes stamp.new walk.now depth cursor.now ≡ go_back (core_of w spent number parent.now index.now probes stamp.old walk.now depth cursor.now) }
+fn go_back(records: &mut Records, trail: &Trail, w: Walker) -> Walker
+    ensures { (spent : ℕ) → core_in result spent records.new trail.now ≡ go_back (core_in w spent records.old trail.now) }
 {
     if w.top <= w.height {
-        put(stamp, w.cur, w.met);
-        return leave(parent, index, w);
+        put(&mut records.stamp, w.cur, w.met);
+        return leave(records, w);
     }
     let top = down(w.top);
     let at = down(top);
-    let next = wide(get(cursor, at)) + 1;
+    let next = wide(get(&trail.cursor, at)) + 1;
     Walker {
         phase: Phase::Nested,
-        cur: get(walk, at),
-        next: next,
-        height: w.height,
-        top: top,
+        cur: get(&records.walk, at),
+        next,
+        top,
         stem: 0,
-        met: w.met,
-        kept: w.kept,
+        ..w
     }
 }
 
 // Steps of the nested search: over the edges that lead to marked states, and one or two more.
 fn nested_step(
-    targets: &[u16; 2048],
-    begins: &[u16; 513],
-    ends: &[u16; 512],
-    bases: &[u16; 512],
-    parent: &[u16; 512],
-    index: &[u16; 512],
-    stamp: &mut [u16; 512],
-    walk: &mut [u16; 512],
-    depth: &[u16; 512],
-    cursor: &mut [u16; 512],
+    game: Game,
+    records: &mut Records,
+    trail: &mut Trail,
     spent: &mut u16,
     w: Walker,
 ) -> Walker
-    requires { (w.phase ≡ Nested) × Deep w × (w.met < no_number) × Laid targets.now begins.now ends.now bases.now × Trailed parent.now index.now stamp.old walk.old depth.now cursor.old }
-    ensures by_index { (words number probes : List ℕ) (size : ℕ) → Advanced (game_of targets.now (layout_of begins.now ends.now bases.now) words size) (core_of w spent.old number parent.now index.now probes stamp.old walk.old depth.now cursor.old) (core_of result spent.new number parent.now index.now probes stamp.new walk.new depth.now cursor.new) }
-    ensures nested_turn { NestedTurn w stamp.old result stamp.new }
+    requires { (w.phase ≡ Nested) × Deep w × (w.met < no_number) }
+    ensures by_index { (words : List ℕ) (size : ℕ) → Advanced (game_of game.entry.targets.now game.entry.layout.now words size) (core_in w spent.old records.old trail.old) (core_in result spent.new records.new trail.new) }
+    ensures nested_turn { NestedTurn w records.old.stamp result records.new.stamp }
+    ensures number_kept { records.new.number ≡ records.old.number }
 {
-    let r = scan(targets, begins, ends, bases, stamp, spent, w.cur, w.next);
-    if r.found {
-        let u = r.target;
-        if on_path(walk, depth, w.height, u) {
+    if let Some(edge) = scan(
+        game.targets,
+        game.layout,
+        &records.stamp,
+        spent,
+        w.cur,
+        w.next,
+    ) {
+        if on_path(records, trail, w.height, edge.target) {
             return Walker {
                 phase: Phase::Found,
-                cur: w.cur,
                 next: 0,
-                height: w.height,
-                top: w.top,
-                stem: get(depth, u),
-                met: w.met,
-                kept: w.kept,
+                stem: get(&trail.depth, edge.target),
+                ..w
             };
         }
-        return deepen(stamp, walk, cursor, w, r.edge, u);
+        return deepen(records, trail, w, edge);
     }
-    go_back(parent, index, stamp, walk, cursor, w)
-}
-
-// Has the nested search stopped?
-fn nested_stopped(phase: Phase) -> bool
-    ensures { result ≡ nested_stopped phase }
-{
-    match phase {
-        Phase::Outer => true,
-        Phase::Nested => false,
-        Phase::Exhausted => true,
-        Phase::Found => true,
-    }
+    go_back(records, trail, w)
 }
 
 // Steps of the nested search until it stops. On any arrays it ends: each turn marks a state or goes back from one.
 pub fn nested_steps(
-    targets: &[u16; 2048],
-    begins: &[u16; 513],
-    ends: &[u16; 512],
-    bases: &[u16; 512],
-    parent: &[u16; 512],
-    index: &[u16; 512],
-    stamp: &mut [u16; 512],
-    walk: &mut [u16; 512],
-    depth: &[u16; 512],
-    cursor: &mut [u16; 512],
+    game: Game,
+    records: &mut Records,
+    trail: &mut Trail,
     spent: &mut u16,
     w: Walker,
 ) -> Walker
-    requires { (w.phase ≡ Nested) × Deep w × (w.met < no_number) × Laid targets.now begins.now ends.now bases.now × Trailed parent.now index.now stamp.old walk.old depth.now cursor.old }
-    ensures by_index { (words number probes : List ℕ) (size : ℕ) → Advanced (game_of targets.now (layout_of begins.now ends.now bases.now) words size) (core_of w spent.old number parent.now index.now probes stamp.old walk.old depth.now cursor.old) (core_of result spent.new number parent.now index.now probes stamp.new walk.new depth.now cursor.new) }
+    requires { (w.phase ≡ Nested) × Deep w × (w.met < no_number) }
+    ensures by_index { (words : List ℕ) (size : ℕ) → Advanced (game_of game.entry.targets.now game.entry.layout.now words size) (core_in w spent.old records.old trail.old) (core_in result spent.new records.new trail.new) }
     ensures met_value { result.met ≡ w.met }
+    ensures number_kept { records.new.number ≡ records.old.number }
 {
     let mut q = w;
-    while true {
-        q = nested_step(
-            targets, begins, ends, bases, parent, index, stamp, walk, depth, cursor, spent, q,
-        );
-        let phase = q.phase;
-        if nested_stopped(phase) {
+    loop {
+        q = nested_step(game, records, trail, spent, q);
+        if q.phase != Phase::Nested {
             return q;
         }
     }
-    q
 }

@@ -35,17 +35,17 @@ use Rattle.search.proofs.Resumed.{resume_fits}
 use Rattle.table.specs.declared.Position.{Position}
 use Rattle.session.specs.declared.Session.{Session}
 use Rattle.session.specs.declared.Settled.{Settled}
-use Rattle.resumption.specs.declared.Resumption.{Resumption}
-use Rattle.resumption.specs.declared.Resumption.TheVariants.{Nowhere, At}
+use Rattle.std.specs.Prelude.{Option, None, Some}
 use Rattle.session.specs.declared.Verdict.{Verdict}
 use Rattle.verdict.specs.declared.Answer.{Answer}
 use Rattle.verdict.specs.declared.Answer.TheVariants.{Refused}
-use Rattle.table.specs.Trials.{Arrays}
+use Rattle.table.specs.declared.Arrays.{Arrays}
 use Rattle.table.specs.Filing.{Stored}
 use Rattle.batch.specs.Batches.{lines_in, states_in as named_in, TriedIn, call_tried_in, position_at}
 use Rattle.batch.proofs.Batches.{lines_other}
 use Rattle.resumption.specs.Model.{copies_up_all, all_passed_over, named_most, earliest_of, resumption_of}
-use Rattle.session.specs.Model.{Records, records_of, records_in, arrays_held, game_in, states_in, back_at, Sought, verdict_of, session_of, Settles, UpdatedIn}
+use Rattle.session.specs.Model.{records_in, arrays_held, game_in, states_in, back_at, Sought, verdict_of, session_of, Settles, UpdatedIn}
+use Rattle.search.specs.declared.Records.{Records}
 use Rattle.session.specs.Promises.{height_of, Holds, call_of, without_game, refused_without_game, Updates}
 use Rattle.verdict.proofs.Told.{told, never_refused}
 use Rattle.verdict.specs.Answers.{refusing, position_of, shown, lowered, WalkOf, Answered, Tells}
@@ -111,15 +111,15 @@ abbrev pub old_of : Session → Verdict
 old_of s = record { stem = s.stem; length = s.length; height = s.height; spent = 0; kept = s.total }
 
 abbrev pub records_held : Session → Records
-records_held s = records_of s.number s.parent s.index s.probes s.stamp s.walk
+records_held s = s.records
 
 -- where a session's search is taken up for the lines of a call, given as numbers
-abbrev taken_up : List ℕ → Session → Resumption
-taken_up ns s = resumption_of s.size s.kinds ns (arrays_held s).rows s.number s.index s.walk s.height
+abbrev taken_up : List ℕ → Session → Option ℕ
+taken_up ns s = resumption_of s.size s.kinds ns (arrays_held s).rows s.records.number s.records.index s.records.walk s.height
 
 module _ (ns : List ℕ) (s : Session) where
   abbrev all_passed : Bool
-  all_passed = all_passed_over (lines_in ns) s.size s.kinds (arrays_held s).rows s.number s.index s.walk s.height
+  all_passed = all_passed_over (lines_in ns) s.size s.kinds (arrays_held s).rows s.records.number s.records.index s.records.walk s.height
 
 -- an accepted call: its lines as numbers, and the arrays that hold the table which it leaves
 module _ (u : PlainUpdate) (ns : List ℕ) (s : Session) (b : Arrays) (a : Records) (v : Verdict)
@@ -145,13 +145,13 @@ module _ (u : PlainUpdate) (ns : List ℕ) (s : Session) (b : Arrays) (a : Recor
   ran_final = run_final t ok h.steps h.ended
 
   r : Notes
-  r = notes_of ran s.number s.parent s.index s.probes s.stamp
+  r = notes_of ran s.records.number s.records.parent s.records.index s.records.probes s.records.stamp
 
   -- nothing is to be done
-  worth_same : taken_up ns s ≡ Nowhere → Untouched u t ok ok' within h.steps h.ended → Worth u t v a
+  worth_same : taken_up ns s ≡ None → Untouched u t ok ok' within h.steps h.ended → Worth u t v a
   unfolding r kept
   worth_same e o =
-      let q = subst (λ (x : Resumption). Sought (game_in s.size s.kinds b) (states_in s.size s.kinds) s.start x (old_of s) (records_held s) v a) e sought in
+      let q = subst (λ (x : Option ℕ). Sought (game_in s.size s.kinds b) (states_in s.size s.kinds) s.start x (old_of s) (records_held s) v a) e sought in
       let w = update_same u t ok ok' within h.steps h.ended r o h.archived.holds in
       let looks : count (final t') ≡ count (final t) = ap length (alike_probes (final t) (final t') w.same_final) in
       let z : s.total + 0 ≡ count (final t') = omega (arith, h.total_is, looks) in
@@ -159,7 +159,7 @@ module _ (u : PlainUpdate) (ns : List ℕ) (s : Session) (b : Arrays) (a : Recor
         steps = h.steps;
         ended = w.still_ended;
         archive = archive_moved (searched t) (searched t') h.steps (records_held s) h.archived w.holds w.same_steps;
-        tells = subst⁻¹ (λ (x : PlainVerdict). WalkOf s.stem s.length s.walk x) (alike_verdict (final t) (final t') w.same_final) h.told;
+        tells = subst⁻¹ (λ (x : PlainVerdict). WalkOf s.stem s.length s.records.walk x) (alike_verdict (final t) (final t') w.same_final) h.told;
         height_is = h.height_is ∙ sym (alike height_of bare_height (final t) (final t') w.same_final);
         kept_is = h.total_is ∙ sym (ap count w.all_kept ∙ looks);
         adds_up = z;
@@ -171,15 +171,15 @@ module _ (u : PlainUpdate) (ns : List ℕ) (s : Session) (b : Arrays) (a : Recor
   named = copies_in t (named_by u)
 
   -- the numbers tell the first meeting among them
-  met_first : (w : FirstMeeting named (searched t) (searched t') (update_agree u t) h.steps) → all_passed ns s ≡ false → taken_up ns s ≡ At w.meeting.state
+  met_first : (w : FirstMeeting named (searched t) (searched t') (update_agree u t) h.steps) → all_passed ns s ≡ false → taken_up ns s ≡ Some w.meeting.state
   unfolding r
   met_first w e =
       let m = update_made u t room yes-it-is in
       let states : take named_most (named_in ns) ≡ named_by u = ap (take named_most) (lines_other ns (changes_of u) lines_are ∙ sym m.named_are) ∙ take_all named_most (named_by u) (named_few m) in
       let met : In w.meeting.state (discovered_of ran) = met_in w.meeting.state w.discovered in
-      resumption_earliest s.size s.kinds ns (arrays_held s).rows s.number s.index s.walk s.height e
-      ∙ (λ i. earliest_of (copies_up_all (h.size_is i) (h.kinds_is i) (states i)) s.number)
-      ∙ earliest_is s.number w.meeting.state (copies_up_all t.size t.kinds (named_by u)) (numbered_met s t h ok w.meeting.state met)
+      resumption_earliest s.size s.kinds ns (arrays_held s).rows s.records.number s.records.index s.records.walk s.height e
+      ∙ (λ i. earliest_of (copies_up_all (h.size_is i) (h.kinds_is i) (states i)) s.records.number)
+      ∙ earliest_is s.records.number w.meeting.state (copies_up_all t.size t.kinds (named_by u)) (numbered_met s t h ok w.meeting.state met)
       (all_up t.size t.kinds ok.states_few ok.some_kind (named_by u) low w.meeting.state w.meeting.is_named)
       (λ x i k. let c = up_all t.size t.kinds ok.states_few (named_by u) low x i in ⊎_elim
       (λ j. earliest named (searched t) (searched t') (update_agree u t) r h.steps h.archived.holds w x c j k)
@@ -203,17 +203,17 @@ module _ (u : PlainUpdate) (ns : List ℕ) (s : Session) (b : Arrays) (a : Recor
   worth_met e o m =
       let met = update_met u t ok ok' within h.steps h.ended r m h.archived.holds in
       let w = met.meeting in
-      let q = subst (λ (x : Resumption). Sought (game_in s.size s.kinds b) (states_in s.size s.kinds) s.start x (old_of s) (records_held s) v a) (met_first w e) sought in
+      let q = subst (λ (x : Option ℕ). Sought (game_in s.size s.kinds b) (states_in s.size s.kinds) s.start x (old_of s) (records_held s) v a) (met_first w e) sought in
       let size : t'.size ≡ t.size = update_size u t in
       let kinds : t'.kinds ≡ t.kinds = update_kinds u t in
       let states = t.kinds * t.size in
-      let fit = resume_fits states named (searched t) (searched t') (update_agree u t) (small t ok) (subst (Small (searched t')) (λ i. kinds i * size i) (small t' ok')) h.steps s.number s.parent s.index s.probes s.stamp s.walk h.archived w in
+      let fit = resume_fits states named (searched t) (searched t') (update_agree u t) (small t ok) (subst (Small (searched t')) (λ i. kinds i * size i) (small t' ok')) h.steps s.records.number s.records.parent s.records.index s.records.probes s.records.stamp s.records.walk h.archived w in
       let begun = ran_from (game_in s.size s.kinds b)
       (same_start w.meeting.state ((λ i. states_in (h.size_is i) (h.kinds_is i)) ∙ states_are t ok) (h.start_is ∙ sym (update_start u t) ∙ sym (starts_at t'))) q.1 in
       let g = reached t' ok' (game_in s.size s.kinds b)
       (subst⁻¹ (λ (x : ℕ × ℕ). Matches (searched t') (game_in x.0 x.1 b)) (λ i. ((h.size_is ∙ sym size) i, (h.kinds_is ∙ sym kinds) i)) (matches t' b ok' stored-new))
       w.at (back_at states (searched t').start w.meeting.state (records_held s)) q.0
-      (rewound_spent states (searched t').start w.meeting.state 0 s.number s.parent s.index s.probes s.stamp s.walk) fit begun in
+      (rewound_spent states (searched t').start w.meeting.state 0 s.records.number s.records.parent s.records.index s.records.probes s.records.stamp s.records.walk) fit begun in
       subst⁻¹ (λ (x : Verdict). Worth u t x a) q.2 (subst⁻¹ (λ (x : Records). Worth u t (verdict_of q.0.walker q.0.spent) x) q.3 (settled_by q.0 w.at g (ap count (kept_meeting u t o ∙ met.kept_here))))
     where
       same_start : (z : ℕ) {m n x y : ℕ} → m ≡ n → x ≡ y → back_at m x z (records_held s) ≡ back_at n y z (records_held s)
@@ -234,7 +234,7 @@ module _ (u : PlainUpdate) (ns : List ℕ) (s : Session) (b : Arrays) (a : Recor
   -- the records are those of the changed table, either way
   worth : Worth u t v a
   worth = ⊎_elim
-      (λ p. worth_same (resumption_nowhere s.size s.kinds ns (arrays_held s).rows s.number s.index s.walk s.height (decided ∙ p)) (⊎_elim inl (λ f. inr (rw ran_final f)) (made.passed p)))
+      (λ p. worth_same (resumption_nowhere s.size s.kinds ns (arrays_held s).rows s.records.number s.records.index s.records.walk s.height (decided ∙ p)) (⊎_elim inl (λ f. inr (rw ran_final f)) (made.passed p)))
       (λ p. let k = made.reached p in worth_met (decided ∙ p) k.0 (rw ran_final k.1)) (either (all (λ c. passed_over c t) (changes_of u)))
     where
       made : Made u t room
@@ -242,7 +242,7 @@ module _ (u : PlainUpdate) (ns : List ℕ) (s : Session) (b : Arrays) (a : Recor
 
       decided : all_passed ns s ≡ all (λ c. passed_over c t) (changes_of u)
       decided =
-          ap (λ (xs : List PlainLine). all_passed_over xs s.size s.kinds (arrays_held s).rows s.number s.index s.walk s.height) lines_are
+          ap (λ (xs : List PlainLine). all_passed_over xs s.size s.kinds (arrays_held s).rows s.records.number s.records.index s.records.walk s.height) lines_are
           ∙ all_decided s t h ok room (changes_of u) t (refl, refl) (taken_here t ok) made.each_accepted
 
   -- the session that is returned
@@ -290,16 +290,8 @@ same_session s h = λ i. record {
   size = s.size;
   start = s.start;
   kinds = s.kinds;
-  words = s.words;
-  targets = s.targets;
-  starts = s.starts;
-  indegree = s.indegree;
-  number = s.number;
-  parent = s.parent;
-  index = s.index;
-  probes = s.probes;
-  stamp = s.stamp;
-  walk = s.walk;
+  arrays = s.arrays;
+  records = s.records;
   stem = s.stem;
   length = s.length;
   height = s.height;

@@ -1,9 +1,9 @@
 -- A search from the start, begun by a load or by another count of kinds: the session holds the table, and the answer and the walk are those of a load of it. Assumes nothing.
 use mathlib.Core.Path.{◌≡◌, refl, sym, ap, subst, ◌∙◌}
 use mathlib.Core.List.{List}
-use Prim.Native.Nat.{ℕ, zero, ◌+◌, ◌*◌, ◌≤◌}
+use Prim.Native.Nat.{ℕ, ◌+◌, ◌*◌, ◌≤◌}
 use native.Mathlib.Omega.{arith}
-use lib.ListN.{length, replicate, length-set, length-replicate}
+use lib.ListN.{length}
 use Rattle.plain.specs.Search.{steps, verdict, count}
 use Rattle.plain.specs.Table.{Table, searched, printed_verdict, final}
 use Rattle.plain.specs.Refusals.{accepted}
@@ -11,37 +11,29 @@ use Rattle.plain.specs.Machine.{answer, load_answer}
 use Rattle.plain.specs.Claims.{Arises}
 use Rattle.plain.proofs.Tables.{Valid, valid}
 use Rattle.plain.proofs.Limits.{small}
-use Rattle.look.specs.Numbers.{no_number, plus}
-use Rattle.search.specs.Core.{Game, Result, Ran, Lengths, Fresh}
+use Rattle.look.specs.Numbers.{plus}
+use Rattle.search.specs.Core.{Game, Result, Ran, Fresh}
 use Rattle.search.proofs.Ended.{rewound_spent}
 use Rattle.search.proofs.Resumed.{begin_fits}
 use Rattle.session.specs.declared.Verdict.{Verdict}
 use Rattle.session.specs.declared.Settled.{Settled}
-use Rattle.resumption.specs.declared.Resumption.{Resumption}
-use Rattle.table.specs.Trials.{Arrays}
+use Rattle.std.specs.Prelude.{Option}
+use Rattle.table.specs.declared.Arrays.{Arrays}
 use Rattle.table.specs.Filing.{Stored}
-use Rattle.session.specs.Model.{Records, records_of, game_in, records_in, back_at, verdict_of, no_verdict, bound, session_of, Settles, fresh_from, SettlesAfresh}
+use Rattle.session.specs.Model.{records_of, game_in, records_in, back_at, verdict_of, no_verdict, bound, session_of, Settles, fresh_from, SettlesAfresh}
+use Rattle.search.specs.declared.Records.{Records}
 use Rattle.session.specs.Promises.{Holds}
 use Rattle.verdict.proofs.Told.{told}
 use Rattle.verdict.specs.Answers.{WalkOf, Answered}
 use Rattle.session.proofs.Sought.{matches, states_are, starts_at, Reached, reached}
 
-pub fresh_lengths : {start : ℕ} {number parent index probes stamp walk : List ℕ} → Fresh start number parent index probes stamp → length walk ≡ 512 → Lengths number parent index probes stamp walk
-fresh_lengths {start = start} f w = record {
-  number_size = ap length f.number_is ∙ length-set (replicate 512 no_number) start 0 ∙ length-replicate 512 no_number;
-  parent_size = ap length f.parent_is ∙ length-replicate 512 start;
-  index_size = ap length f.index_is ∙ length-replicate 512 zero;
-  probes_size = ap length f.probes_is ∙ length-replicate 512 zero;
-  stamp_size = ap length f.stamp_is ∙ length-replicate 512 no_number;
-  walk_size = w;
-}
-
 -- what settling leaves, from fresh records
-pub settles_fresh : {size kinds : ℕ} {g : Game} {start : ℕ} {from : Resumption} {old : Verdict} {number parent index probes stamp walk lent : List ℕ} {r : Settled} {a : Records} {lent' : List ℕ} → Fresh start number parent index probes stamp → old ≡ no_verdict
-    → Settles size kinds g start from old (records_of number parent index probes stamp walk) lent r a lent' → Settles size kinds g start from no_verdict (fresh_from start walk) lent r a lent'
-settles_fresh {size = size} {kinds = kinds} {g = g} {start = start} {from = from} {walk = walk} {lent = lent} {r = r} {a = a} {lent' = lent'} f e w =
+pub settles_fresh : {size kinds : ℕ} {g : Game} {start : ℕ} {from : Option ℕ} {old : Verdict} {b : Records} {walk lent : List ℕ} {r : Settled} {a : Records} {lent' : List ℕ}
+    → Fresh start b.number b.parent b.index b.probes b.stamp → b.walk ≡ walk → old ≡ no_verdict
+    → Settles size kinds g start from old b lent r a lent' → Settles size kinds g start from no_verdict (fresh_from start walk) lent r a lent'
+settles_fresh {size = size} {kinds = kinds} {g = g} {start = start} {from = from} {lent = lent} {r = r} {a = a} {lent' = lent'} f kept e w =
     subst (λ (x : Verdict × Records). Settles size kinds g start from x.0 x.1 lent r a lent')
-    (λ i. (e i, records_of (f.number_is i) (f.parent_is i) (f.index_is i) (f.probes_is i) (f.stamp_is i) walk)) w
+    (λ i. (e i, records_of (f.number_is i) (f.parent_is i) (f.index_is i) (f.probes_is i) (f.stamp_is i) (kept i))) w
 
 module _ (t : Table) (arises : Arises t) (b : Arrays) (stored : Stored t b) (walk lent lent' : List ℕ) (a : Records) (r : Settled) (walk_size : length walk ≡ 512)
     (roomy : t.size * t.kinds ≤ length lent) (settles : SettlesAfresh t.size t.kinds (game_in t.size t.kinds b) t.start walk lent r a lent') where

@@ -6,6 +6,7 @@ use Prim.Native.Nat.{ℕ}
 use native.Mathlib.Omega.{arith}
 use lib.Dec.{eqb, ltb}
 use borrow.Author.Tests.{le-leb}
+use Rattle.std.specs.Prelude.{is_some}
 use Rattle.plain.specs.Table.{Table}
 use Rattle.plain.specs.Refusals.{accepted, refused, first_held, beyond, room_condition}
 use Rattle.plain.specs.Machine.{Change, add, cut, mark, unmark, misnamed, BatchLine as PlainLine, makes, Update as PlainUpdate, single, batch, changes_of, applied, update_trial, position_in}
@@ -14,14 +15,15 @@ use Rattle.plain.proofs.Tables.{Valid}
 use Rattle.plain.proofs.Batches.{batch_made}
 use Rattle.batch.specs.declared.Update.{Update}
 use Rattle.table.specs.declared.Position.TheVariants as Position
-use Rattle.table.specs.Trials.{Arrays, change_of, add_conditions, cut_conditions, mark_conditions, unmark_conditions}
+use Rattle.table.specs.Trials.{change_of, add_conditions, cut_conditions, mark_conditions, unmark_conditions}
+use Rattle.table.specs.declared.Arrays.{Arrays}
 use Rattle.table.specs.Filing.{Stored}
 use Rattle.batch.specs.Batches.{lines_in, numbers_in, line_trial_in, TriedIn, ahead_trial, call_tried_in, position_at}
 use Rattle.table.proofs.Pairs.{outside_from}
 use Rattle.batch.proofs.Batches.{line_makes, tried_stop, call_on_lem, call_stop, batch_same, batch_stored, single_same, single_stored}
 use Rattle.verdict.specs.declared.Answer.TheVariants.{Refused}
 use Rattle.verdict.specs.Answers.{refusing, position_of}
-use Rattle.session.specs.Model.{is_alone, only_line}
+use Rattle.session.specs.Model.{alone_line}
 use Rattle.session.specs.Promises.{update_of, without_game}
 
 -- lines that are tried alone or as a batch, and what is asked of the plain table
@@ -75,7 +77,7 @@ asks_batch xs = record {
     ahead kinds room = held_first (2, eqb 0 0) (room_condition 0 kinds room) refl
 
 -- as the session is asked
-pub asked_so : (asked : Update) (ns : List ℕ) → Asks (update_of asked ns) (is_alone asked) (lines_in (numbers_in (is_alone asked) (only_line asked) ns))
+pub asked_so : (asked : Update) (ns : List ℕ) → Asks (update_of asked ns) (is_some (alone_line asked)) (lines_in (numbers_in (alone_line asked) ns))
 unfolding lines_in
 asked_so (Update.Change op) ns = subst⁻¹ (λ (x : PlainLine). Asks (single (change_of op)) true (x ∷ [])) (line_makes op) (asks_single (change_of op))
 asked_so Update.Batch ns = asks_batch (lines_in ns)

@@ -1,5 +1,5 @@
 -- What a call leaves in the arrays, put together from what trying, filing and settling leave. Assumes nothing.
-use mathlib.Core.Path.{◌≡◌, refl, sym, subst, subst⁻¹, ◌∙◌}
+use mathlib.Core.Path.{◌≡◌, refl, sym, subst, ◌∙◌}
 use mathlib.Core.Bool.{Bool}
 use mathlib.Core.List.{List}
 use Prim.Native.Nat.{ℕ, ◌-◌}
@@ -12,19 +12,20 @@ use Rattle.table.specs.declared.Trial.TheVariants.{Accepted, Refused}
 use Rattle.table.specs.declared.Position.TheVariants.{Alone}
 use Rattle.verdict.specs.declared.Answer.{Answer}
 use Rattle.verdict.specs.Answers.{refusing}
-use Rattle.resumption.specs.declared.Resumption.{Resumption}
+use Rattle.std.specs.Prelude.{Option}
 use Rattle.session.specs.declared.Settled.{Settled}
 use Rattle.session.specs.declared.Verdict.{Verdict}
-use Rattle.rows.specs.Change.{Rows}
+use Rattle.rows.specs.declared.Rows.{Rows}
 use Rattle.layers.specs.Layout.{layered}
 use Rattle.search.specs.Core.{game_of}
-use Rattle.table.specs.Trials.{Arrays, Sized, kinds_trial_in}
+use Rattle.table.specs.Trials.{kinds_trial_in}
+use Rattle.table.specs.declared.Arrays.{Arrays}
 use Rattle.table.specs.Filing.{AttemptedKinds}
 use Rattle.batch.specs.Batches.{lines_in, TriedIn, call_tried_in, AttemptedCall}
 use Rattle.resumption.specs.Model.{resumption_of}
-use Rattle.session.specs.Model.{Records, game_in, Settles, SettlesAfresh, UpdatedIn, KindsSet}
+use Rattle.session.specs.Model.{game_in, Settles, SettlesAfresh, UpdatedIn, KindsSet}
+use Rattle.search.specs.declared.Records.{Records}
 use Rattle.table.proofs.Trying.{tried_accepted, tried_refused}
-use Rattle.batch.proofs.Batches.{tried_sized}
 
 -- refusals with their numbers
 pub same_number : {m n : ℕ} → refused m ≡ refused n → m ≡ n
@@ -48,18 +49,13 @@ module _ (alone : Bool) (ns : List ℕ) (size kinds start : ℕ) (old : Verdict)
         on_acceptance = λ z. absurd (not_both (sym is ∙ z));
       }
 
-  pub updated_accepted : (x : Attempt) (b' : Arrays) (from : Resumption) (r : Settled) (a' : Records) (lent' : List ℕ) → AttemptedCall alone tried b x b' → x.trial ≡ Accepted
+  pub updated_accepted : (x : Attempt) (b' : Arrays) (from : Option ℕ) (r : Settled) (a' : Records) (lent' : List ℕ) → AttemptedCall alone tried b x b' → x.trial ≡ Accepted
       → from ≡ resumption_of size kinds ns b.rows a.number a.index a.walk old.height → Settles size kinds (game_in size kinds b') start from old a lent r a' lent'
       → UpdatedIn alone ns size kinds start old b a lent r b' a' lent'
   updated_accepted x b' from r a' lent' w e g k = record {
     on_refusal = λ n z. absurd (not_both (sym z ∙ tried_accepted tried.trial (sym w.trial_is ∙ e)));
-    on_acceptance = λ z. (w.filed e, subst (λ (x : Resumption). Settles size kinds (game_in size kinds b') start x old a lent r a' lent') g k);
+    on_acceptance = λ z. (w.filed e, subst (λ (x : Option ℕ). Settles size kinds (game_in size kinds b') start x old a lent r a' lent') g k);
   }
-
--- the arrays of an accepted call keep their sizes
-pub accepted_sized : (alone : Bool) (ns : List ℕ) (size kinds room : ℕ) (b : Arrays) (x : Attempt) (b' : Arrays) → AttemptedCall alone (call_tried_in alone (lines_in ns) size kinds b room) b x b'
-    → x.trial ≡ Accepted → Sized b → Sized b'
-accepted_sized alone ns size kinds room b x b' w e l = subst⁻¹ Sized (w.filed e) (tried_sized alone (lines_in ns) size kinds b room l)
 
 -- ---- another count of kinds
 

@@ -1,5 +1,6 @@
 -- A load: the session of an accepted one holds its table, and the answer and the walk are the plain table's. Assumes nothing.
-use mathlib.Core.Path.{◌≡◌, sym, subst⁻¹, ◌∙◌}
+use mathlib.Core.Path.{◌≡◌, sym, ap, subst⁻¹, ◌∙◌}
+use Rattle.session.specs.declared.Verdict.{Verdict}
 use mathlib.Core.List.{List}
 use Prim.Native.Nat.{ℕ}
 use native.Mathlib.Omega.{arith}
@@ -9,16 +10,18 @@ use Rattle.plain.specs.Refusals.{accepted, refused, Load, load_trial, pairs}
 use Rattle.plain.specs.Machine.{table_of, load_answer}
 use Rattle.plain.specs.Claims.{Arises, loaded}
 use Rattle.plain.proofs.Tables.{valid}
-use Rattle.rows.specs.Change.{Rows}
+use Rattle.rows.specs.declared.Rows.{Rows}
 use Rattle.look.specs.Numbers.{plus}
 use Rattle.layers.specs.Packed.{Packed}
 use Rattle.verdict.specs.declared.Answer.{Answer}
 use Rattle.session.specs.declared.Session.{Session}
 use Rattle.table.specs.declared.Trial.TheVariants.{Refused}
 use Rattle.session.specs.declared.Settled.{Settled}
-use Rattle.table.specs.Trials.{Arrays, tried}
+use Rattle.table.specs.Trials.{tried}
+use Rattle.table.specs.declared.Arrays.{Arrays}
 use Rattle.table.specs.Filing.{Filed, FourKinds, Counted, Stored, counted_all}
-use Rattle.session.specs.Model.{Records, game_in, session_of, no_game, SettlesAfresh}
+use Rattle.session.specs.Model.{game_in, session_of, no_game, SettlesAfresh}
+use Rattle.search.specs.declared.Records.{Records}
 use Rattle.session.specs.Promises.{Loads}
 use Rattle.table.proofs.Trying.{tried_refused}
 use Rattle.table.proofs.Counting.{counted_load}
@@ -69,3 +72,11 @@ module _ (l : Load) (lent lent' : List ℕ) (rows : Rows) (words indegree : List
         holds = λ z. w.0;
         empty = λ n z. absurd (let q : accepted ≡ refused n = sym yes-it-is ∙ z in let y : ◌≡◌ {A = ℕ} 0 1 = cc in omega arith);
       })
+
+-- the answer and the session as they are put together
+pub loads_as : (l : Load) (lent lent' : List ℕ) {a a' : Answer} {s s' : Session} → a' ≡ a → s' ≡ s → Loads l lent (record { answer = a; session = s }) lent'
+    → Loads l lent (record { answer = a'; session = s' }) lent'
+loads_as l lent lent' e f w = subst⁻¹ (λ (x : Answer × Session). Loads l lent (record { answer = x.0; session = x.1 }) lent') (λ i. (e i, f i)) w
+
+pub kinds_same : (size start : ℕ) {k k' : ℕ} (v : Verdict) {b : Arrays} {a : Records} {total : ℕ} → k ≡ k' → session_of size start k b a v total ≡ session_of size start k' b a v total
+kinds_same size start v {b = b'} {a = a'} {total = total} e = ap (λ (k : ℕ). session_of size start k b' a' v total) e

@@ -1,6 +1,6 @@
 -- The contract of a call, by what it asks for: changes, or another count of kinds. Assumes nothing.
 use mathlib.Core.Path.{◌≡◌, refl, sym, ap, subst, subst⁻¹, ◌∙◌}
-use mathlib.Core.Bool.{Bool}
+use Rattle.std.specs.Prelude.{Option, is_some}
 use mathlib.Core.List.{List}
 use Prim.Native.Nat.{ℕ, ◌*◌, ◌≤◌, min}
 use lib.Dec.{eqb}
@@ -15,7 +15,8 @@ use Rattle.plain.proofs.Calls.{table_accepted, kinds_answer}
 use Rattle.look.specs.Numbers.{plus}
 use Rattle.layers.specs.Packed.{ClearedFrom}
 use Rattle.table.specs.declared.Position.TheVariants.{Alone}
-use Rattle.table.specs.Trials.{Arrays, kinds_trial_in}
+use Rattle.table.specs.Trials.{kinds_trial_in}
+use Rattle.table.specs.declared.Arrays.{Arrays}
 use Rattle.table.specs.Filing.{with_words}
 use Rattle.table.proofs.NewKinds.{kinds_trial_is, stored_kinds}
 use Rattle.batch.specs.declared.Update.{Update}
@@ -27,7 +28,8 @@ use Rattle.verdict.proofs.Told.{never_refused}
 use Rattle.session.specs.declared.Session.{Session}
 use Rattle.session.specs.declared.Settled.{Settled}
 use Rattle.session.specs.declared.Verdict.{Verdict}
-use Rattle.session.specs.Model.{Records, arrays_held, game_in, session_of, is_alone, only_line, SettlesAfresh, UpdatedIn, KindsSet, Performed}
+use Rattle.session.specs.Model.{arrays_held, game_in, session_of, alone_line, SettlesAfresh, UpdatedIn, KindsSet, Performed}
+use Rattle.search.specs.declared.Records.{Records}
 use Rattle.session.specs.Promises.{Holds, update_of, command_of, call_of, Updates}
 use Rattle.session.proofs.Asking.{asked_so}
 use Rattle.session.proofs.Changing.{same_number, not_both}
@@ -38,11 +40,11 @@ use Rattle.session.proofs.Accepted.{old_of, records_held, refused_right, left_al
 
 module _ (k : ℕ) (s : Session) (lent : List ℕ) where
   abbrev tried : Trial
-  tried = kinds_trial_in k s.size s.starts (length lent)
+  tried = kinds_trial_in k s.size s.arrays.rows.starts (length lent)
 
   -- for a table that the session holds
   trial_is : (t : Table) → Holds s t → kinds_trial k t (length lent) ≡ tried
-  trial_is t h = kinds_trial_is k t (valid t h.arises) (arrays_held s) h.stored (length lent) ∙ ap (λ (n : ℕ). kinds_trial_in k n s.starts (length lent)) (sym h.size_is)
+  trial_is t h = kinds_trial_is k t (valid t h.arises) (arrays_held s) h.stored (length lent) ∙ ap (λ (n : ℕ). kinds_trial_in k n s.arrays.rows.starts (length lent)) (sym h.size_is)
 
   -- without a state
   none_is : s.size ≡ 0 → tried ≡ refused 2
@@ -54,8 +56,8 @@ module _ (k : ℕ) (s : Session) (lent : List ℕ) where
   kinds_refused n e = refused_right (set_kinds k) s lent n Alone (λ t h. trial_is t h ∙ e) (λ t h. refl) (λ z. ap (λ (m : ℕ). refusing m Alone) (same_number (sym e ∙ none_is z)))
 
   -- accepted: the marks that stay, and a search from the start
-  module _ (words : List ℕ) (a : Records) (r : Settled) (lent' : List ℕ) (sized : length s.walk ≡ 512) (e : tried ≡ accepted) (cleared : ClearedFrom (min s.kinds k * s.size) s.words words)
-      (settles : SettlesAfresh s.size k (game_in s.size k (with_words (arrays_held s) words)) s.start s.walk lent r a lent') where
+  module _ (words : List ℕ) (a : Records) (r : Settled) (lent' : List ℕ) (sized : length s.records.walk ≡ 512) (e : tried ≡ accepted) (cleared : ClearedFrom (min s.kinds k * s.size) s.arrays.words words)
+      (settles : SettlesAfresh s.size k (game_in s.size k (with_words (arrays_held s) words)) s.start s.records.walk lent r a lent') where
     abbrev b : Arrays
     b = with_words (arrays_held s) words
 
@@ -67,9 +69,9 @@ module _ (k : ℕ) (s : Session) (lent : List ℕ) where
     held_answered t h =
         let is = trial_is t h ∙ e in
         let stored = stored_kinds k t (valid t h.arises) (arrays_held s) h.stored words (length lent) is
-        (subst (λ (x : ℕ × ℕ). ClearedFrom (min x.0 k * x.1) s.words words) (λ i. (h.kinds_is i, h.size_is i)) cleared) in
-        let w = afresh (to_kinds k t) (kinds_arises k t (length lent) is h.arises) b stored s.walk lent lent' a r sized (kinds_room k t (length lent) is)
-        (subst (λ (x : ℕ × ℕ). SettlesAfresh x.0 k (game_in x.0 k b) x.1 s.walk lent r a lent') (λ i. (h.size_is i, h.start_is i)) settles) in
+        (subst (λ (x : ℕ × ℕ). ClearedFrom (min x.0 k * x.1) s.arrays.words words) (λ i. (h.kinds_is i, h.size_is i)) cleared) in
+        let w = afresh (to_kinds k t) (kinds_arises k t (length lent) is h.arises) b stored s.records.walk lent lent' a r sized (kinds_room k t (length lent) is)
+        (subst (λ (x : ℕ × ℕ). SettlesAfresh x.0 k (game_in x.0 k b) x.1 s.records.walk lent r a lent') (λ i. (h.size_is i, h.start_is i)) settles) in
         (subst⁻¹ (λ (x : ℕ × ℕ). Holds (session_of x.0 x.1 k b a r.verdict (plus r.verdict.kept r.verdict.spent)) (to_kinds k t)) (λ i. (h.size_is i, h.start_is i)) w.0, w.1)
 
     kinds_accepted : Updates (set_kinds k) s lent (record { answer = r.answer; session = next }) lent'
@@ -82,8 +84,8 @@ module _ (k : ℕ) (s : Session) (lent : List ℕ) where
     }
 
   -- the contract, from what it leaves in the arrays
-  kinds_right : (lent' words : List ℕ) (a : Records) (r : Settled) (total : ℕ) → length s.walk ≡ 512 → s.total ≤ 65535 → total ≡ plus r.verdict.kept r.verdict.spent
-      → KindsSet k s.size s.kinds s.start (old_of s) (arrays_held s).rows s.words (records_held s) lent r words a lent'
+  kinds_right : (lent' words : List ℕ) (a : Records) (r : Settled) (total : ℕ) → length s.records.walk ≡ 512 → s.total ≤ 65535 → total ≡ plus r.verdict.kept r.verdict.spent
+      → KindsSet k s.size s.kinds s.start (old_of s) (arrays_held s).rows s.arrays.words (records_held s) lent r words a lent'
       → Updates (set_kinds k) s lent (record { answer = r.answer; session = session_of s.size s.start r.kinds (with_words (arrays_held s) words) a r.verdict total }) lent'
   kinds_right lent' words a r total sized small e w = by_trial tried refl
     where
@@ -99,26 +101,27 @@ module _ (k : ℕ) (s : Session) (lent : List ℕ) where
 
 -- ---- what `perform` leaves
 
-pub performed_update : (command : Command) (u : Update) (alone : Bool) (only : BatchLine) (ns : List ℕ) (size kinds start : ℕ) (old : Verdict) (b : Arrays) (a : Records) (lent : List ℕ) (r : Settled) (b' : Arrays) (a' : Records) (lent' : List ℕ)
-    → command ≡ Command.Update u → alone ≡ is_alone u → only ≡ only_line u → UpdatedIn alone (numbers_in alone only ns) size kinds start old b a lent r b' a' lent'
+pub performed_update : (command : Command) (u : Update) (alone : Option BatchLine) (ns : List ℕ) (size kinds start : ℕ) (old : Verdict) (b : Arrays) (a : Records) (lent : List ℕ) (r : Settled) (b' : Arrays) (a' : Records) (lent' : List ℕ)
+    → command ≡ Command.Update u → alone ≡ alone_line u → UpdatedIn (is_some alone) (numbers_in alone ns) size kinds start old b a lent r b' a' lent'
     → Performed command ns size kinds start old b a lent r b' a' lent'
-performed_update command u alone only ns size kinds start old b a lent r b' a' lent' e f g w =
+performed_update command u alone ns size kinds start old b a lent r b' a' lent' e f w =
     subst⁻¹ (λ (x : Command). Performed x ns size kinds start old b a lent r b' a' lent') e
-    (subst (λ (x : Bool × BatchLine). UpdatedIn x.0 (numbers_in x.0 x.1 ns) size kinds start old b a lent r b' a' lent') (λ i. (f i, g i)) w)
+    (subst (λ (x : Option BatchLine). UpdatedIn (is_some x) (numbers_in x ns) size kinds start old b a lent r b' a' lent') f w)
 
-pub performed_kinds : (command : Command) (k : ℕ) (ns : List ℕ) (size kinds start : ℕ) (old : Verdict) (b : Arrays) (words : List ℕ) (a : Records) (lent : List ℕ) (r : Settled) (a' : Records) (lent' : List ℕ)
-    → command ≡ Command.Kinds k → KindsSet k size kinds start old b.rows b.words a lent r words a' lent' → Performed command ns size kinds start old b a lent r (with_words b words) a' lent'
-performed_kinds command k ns size kinds start old b words a lent r a' lent' e w =
-    subst⁻¹ (λ (x : Command). Performed x ns size kinds start old b a lent r (with_words b words) a' lent') e (w, refl, refl)
+pub performed_kinds : (command : Command) (k : ℕ) (ns : List ℕ) (size kinds start : ℕ) (old : Verdict) (b : Arrays) (a : Records) (lent : List ℕ) (r : Settled) (b' : Arrays) (a' : Records) (lent' : List ℕ)
+    → command ≡ Command.Kinds k → KindsSet k size kinds start old b.rows b.words a lent r b'.words a' lent' → (b'.rows ≡ b.rows) × (b'.indegree ≡ b.indegree)
+    → Performed command ns size kinds start old b a lent r b' a' lent'
+performed_kinds command k ns size kinds start old b a lent r b' a' lent' e w same =
+    subst⁻¹ (λ (x : Command). Performed x ns size kinds start old b a lent r b' a' lent') e (w, same.0, same.1)
 
 -- ---- the contract of `update`
 
 pub update_right : (command : Command) (lines : List ℕ) (s : Session) (lent lent' : List ℕ) (b : Arrays) (a : Records) (r : Settled) (total : ℕ)
-    → length s.walk ≡ 512 → s.total ≤ 65535 → total ≡ plus r.verdict.kept r.verdict.spent
+    → length s.records.walk ≡ 512 → s.total ≤ 65535 → total ≡ plus r.verdict.kept r.verdict.spent
     → Performed command lines s.size s.kinds s.start (old_of s) (arrays_held s) (records_held s) lent r b a lent'
     → Updates (command_of command lines) s lent (record { answer = r.answer; session = session_of s.size s.start r.kinds b a r.verdict total }) lent'
 update_right (Command.Update u) lines s lent lent' b a r total sized small sum w =
-    call_right (update_of u lines) (is_alone u) (numbers_in (is_alone u) (only_line u) lines) (asked_so u lines) s lent lent' b a r total small sum w
+    call_right (update_of u lines) (is_some (alone_line u)) (numbers_in (alone_line u) lines) (asked_so u lines) s lent lent' b a r total small sum w
 update_right (Command.Kinds k) lines s lent lent' b a r total sized small sum w =
     subst⁻¹ (λ (x : Arrays). Updates (set_kinds k) s lent (record { answer = r.answer; session = session_of s.size s.start r.kinds x a r.verdict total }) lent')
     (λ i. record { rows = w.1 i; words = b.words; indegree = w.2 i }) (kinds_right k s lent lent' b.words a r total sized small sum w.0)

@@ -34,21 +34,21 @@ number_of (ways n) = n
 number_of (short n) = n
 
 module _ (s : Session) (topic : Topic) (n : ℕ) (r : Reply) where
-  pub asked_ways : topic ≡ Ways → r ≡ ways_in n s.size s.starts s.indegree → Replies (topic_of topic n) s r
+  pub asked_ways : topic ≡ Ways → r ≡ ways_in n s.size s.arrays.rows.starts s.arrays.indegree → Replies (topic_of topic n) s r
   unfolding is_short number_of
   asked_ways e z = subst⁻¹ (λ (x : Topic). Replies (topic_of x n) s r) e (record {
-    replies = λ t h. z ∙ ap (λ (size : ℕ). ways_in n size s.starts s.indegree) h.size_is ∙ ways_same t (arrays_held s) h.arises h.stored n;
-    outside = λ state f out. z ∙ ap (λ (m : ℕ). ways_in m s.size s.starts s.indegree) (ap number_of f) ∙ ways_outside state s.size s.starts s.indegree out;
+    replies = λ t h. z ∙ ap (λ (size : ℕ). ways_in n size s.arrays.rows.starts s.arrays.indegree) h.size_is ∙ ways_same t (arrays_held s) h.arises h.stored n;
+    outside = λ state f out. z ∙ ap (λ (m : ℕ). ways_in m s.size s.arrays.rows.starts s.arrays.indegree) (ap number_of f) ∙ ways_outside state s.size s.arrays.rows.starts s.arrays.indegree out;
     several_kinds = λ b f k. absurd (contra (ap is_short f) refl);
     no_game = λ b f k empty. absurd (contra (ap is_short f) refl);
   })
 
   pub asked_short : (present : ℕ) → present ≡ s.length - s.stem → topic ≡ Short
-      → ShortIn n s.size s.kinds s.start present s.targets s.starts s.words r → Replies (topic_of topic n) s r
+      → ShortIn n s.size s.kinds s.start present s.arrays.rows.targets s.arrays.rows.starts s.arrays.words r → Replies (topic_of topic n) s r
   unfolding is_short
   asked_short present p e z = subst⁻¹ (λ (x : Topic). Replies (topic_of x n) s r) e (record {
-    replies = λ t h. short_same t (arrays_held s) h.arises h.stored n present r (round_held s.stem s.length present s.walk p (verdict (final t)) h.told)
-        (transport (λ i. ShortIn n (h.size_is i) (h.kinds_is i) (h.start_is i) present s.targets s.starts s.words r) z);
+    replies = λ t h. short_same t (arrays_held s) h.arises h.stored n present r (round_held s.stem s.length present s.records.walk p (verdict (final t)) h.told)
+        (transport (λ i. ShortIn n (h.size_is i) (h.kinds_is i) (h.start_is i) present s.arrays.rows.targets s.arrays.rows.starts s.arrays.words r) z);
     outside = λ state f out. absurd (contra refl (ap is_short f));
     several_kinds = λ b f k. z.several_kinds k;
     no_game = λ b f k empty. z.no_game k empty;

@@ -33,7 +33,7 @@ use Rattle.plain.proofs.Demands.{run_final, target_below}
 use Rattle.plain.proofs.Unexplored.{Alike, rows_once, shared_finished}
 use Rattle.plain.proofs.Explored.{finished_is, looked_known, left_unlooked, front_looked, finished_looked}
 use Rattle.rows.specs.Rows.{entries, row_at, place_of}
-use Rattle.rows.specs.Change.{Rows}
+use Rattle.rows.specs.declared.Rows.{Rows}
 use Rattle.rows.proofs.Entries.{entries_front}
 use Rattle.look.specs.Numbers.{no_number}
 use Rattle.search.specs.Archive.{notes_of}
@@ -258,7 +258,7 @@ all_named (c ∷ cs) = omega (arith, length-append (named c) (named_all cs), ap 
 -- what the session's search had not come to, the plain one had not
 module _ (s : Session) (t : Table) (h : Holds s t) (v : Valid t) where
   abbrev held : Notes
-  held = notes_of (run (searched t) h.steps) s.number s.parent s.index s.probes s.stamp
+  held = notes_of (run (searched t) h.steps) s.records.number s.records.parent s.records.index s.records.probes s.records.stamp
 
   abbrev ran : Config
   ran = run (searched t) h.steps
@@ -267,14 +267,14 @@ module _ (s : Session) (t : Table) (h : Holds s t) (v : Valid t) where
   unfolding final
   ran_final = run_final t v h.steps h.ended
 
-  path_held : PathTold (searched t) held (run (searched t) (budget t)) (s.height - 1) s.walk
+  path_held : PathTold (searched t) held (run (searched t) (budget t)) (s.height - 1) s.records.walk
   unfolding final
-  path_held = path_told (searched t) (run (searched t) (budget t)) held (notes (searched t) h.steps) s.stem s.length s.height s.walk
+  path_held = path_told (searched t) (run (searched t) (budget t)) held (notes (searched t) h.steps) s.stem s.length s.height s.records.walk
       (inv_run (searched t) (budget t)) (rw ran_final at (noted_run (searched t) h.steps).shape) (λ x i. h.archived.holds.notes_right x (rw ran_final i))
       (notes_index (searched t) h.steps) h.told h.height_is
 
   -- a copy was met exactly when it has a number
-  pub numbered_met : (x : ℕ) → In x (discovered_of ran) → get_or s.number x 0 < no_number
+  pub numbered_met : (x : ℕ) → In x (discovered_of ran) → get_or s.records.number x 0 < no_number
   numbered_met x i =
       let n = noted_run (searched t) h.steps in
       omega (
@@ -284,12 +284,12 @@ module _ (s : Session) (t : Table) (h : Holds s t) (v : Valid t) where
         (limits (searched t) (t.kinds * t.size) (small t v) h.steps).few,
       )
 
-  pub numbered_unmet : (x : ℕ) → x < 512 → elem x (discovered_of ran) ≡ false → get_or s.number x 0 ≡ no_number
+  pub numbered_unmet : (x : ℕ) → x < 512 → elem x (discovered_of ran) ≡ false → get_or s.records.number x 0 ≡ no_number
   numbered_unmet x b f = h.archived.undiscovered x b f
 
   -- the session's judgement of a change, in the layer of one copy
   abbrev copy_passed : Change → ℕ → Bool
-  copy_passed b x = copy_passed_over (op_for b) x (arrays_held s).rows s.number s.index s.walk s.height
+  copy_passed b x = copy_passed_over (op_for b) x (arrays_held s).rows s.records.number s.records.index s.records.walk s.height
 
   -- A move that is cut from a table whose rows begin with what the run has taken is one of the moves of every copy that has finished.
   goes_on_lem : (u : Table) (e : Edge) (x : ℕ) → Alike t v u → Taken t v u → outside t.size e ≡ false → Has u.edges e → state_at (game_of t) x ≡ e.0
@@ -309,13 +309,13 @@ module _ (s : Session) (t : Table) (h : Holds s t) (v : Valid t) where
 
   -- of a copy that was met: the plain test
   decided : (b : Change) (u : Table) (room : ℕ) → Alike t v u → Taken t v u → change_trial b u room ≡ accepted → (x : ℕ) → state_at (game_of t) x ≡ named_by (op_for b) → In x (discovered_of ran)
-      → unexplored_in (op_for b) x (arrays_held s).rows s.index s.walk (s.height - 1) ≡ not (came_to t b x)
+      → unexplored_in (op_for b) x (arrays_held s).rows s.records.index s.records.walk (s.height - 1) ≡ not (came_to t b x)
   unfolding change_trial conditions
   decided (add e) u room k a acc x own i =
-      add_decided t v held (arrays_held s).rows s.index s.walk (s.height - 1) x e.0 e.1 own (h.stored.filed.rows_are e.0) (λ y. refl) path_held (rw ran_final at i)
+      add_decided t v held (arrays_held s).rows s.records.index s.records.walk (s.height - 1) x e.0 e.1 own (h.stored.filed.rows_are e.0) (λ y. refl) path_held (rw ran_final at i)
   decided (cut e) u room k a acc x own i =
       let met : In x (discovered_of (run (searched t) (budget t))) = rw ran_final at i in
-      cut_decided t v held (arrays_held s).rows s.index s.walk (s.height - 1) x e.0 e.1 own (h.stored.filed.rows_are e.0) (λ y. refl) path_held met
+      cut_decided t v held (arrays_held s).rows s.records.index s.records.walk (s.height - 1) x e.0 e.1 own (h.stored.filed.rows_are e.0) (λ y. refl) path_held met
       (λ f. goes_on_lem u e x k a (ap (λ (n : ℕ). outside n e) (sym k.0) ∙ change_within (cut e) u room acc) (not-false (present u.edges e) (unheld 10 _ acc)) own met f)
   decided (mark q kind) u room k a acc x own i = sym (ap not (rw ran_final at i))
   decided (unmark q kind) u room k a acc x own i = sym (ap not (rw ran_final at i))
@@ -333,7 +333,7 @@ module _ (s : Session) (t : Table) (h : Holds s t) (v : Valid t) where
   copy_decided b u room k a acc x i = ⊎_elim met unmet (either (elem x (discovered_of ran)))
     where
       unexplored_here : Bool
-      unexplored_here = unexplored_in (op_for b) x (arrays_held s).rows s.index s.walk (s.height - 1)
+      unexplored_here = unexplored_in (op_for b) x (arrays_held s).rows s.records.index s.records.walk (s.height - 1)
 
       below : named_by (op_for b) < t.size
       below = omega (arith, k.0, named_inside b u room acc)
@@ -343,17 +343,17 @@ module _ (s : Session) (t : Table) (h : Holds s t) (v : Valid t) where
 
       met : In x (discovered_of ran) → copy_passed b x ≡ not (came_to t b x)
       met j =
-          ap (λ (c : Bool). c || unexplored_here) (ne_eqb (get_or s.number x 0) no_number (λ z. omega (arith, numbered_met x j)))
+          ap (λ (c : Bool). c || unexplored_here) (ne_eqb (get_or s.records.number x 0) no_number (λ z. omega (arith, numbered_met x j)))
           ∙ decided b u room k a acc x (home t v (named_by (op_for b)) x below here) j
 
       unmet : elem x (discovered_of ran) ≡ false → copy_passed b x ≡ not (came_to t b x)
       unmet f =
-          ap (λ (c : Bool). c || unexplored_here) (eq-eqb (get_or s.number x 0) no_number (numbered_unmet x (copies_few t v (named_by (op_for b) ∷ []) (λ y m. omega (arith, in_one y (named_by (op_for b)) m, below)) x here) f))
+          ap (λ (c : Bool). c || unexplored_here) (eq-eqb (get_or s.records.number x 0) no_number (numbered_unmet x (copies_few t v (named_by (op_for b) ∷ []) (λ y m. omega (arith, in_one y (named_by (op_for b)) m, below)) x here) f))
           ∙ sym (ap not (not_come b x (rw ran_final at f)))
 
   -- .. and so is that of all copies, ..
   passed_decided : (b : Change) (u : Table) (room : ℕ) → Alike t v u → Taken t v u → change_trial b u room ≡ accepted
-      → passed_over_in (makes b) s.size s.kinds (arrays_held s).rows s.number s.index s.walk s.height ≡ passed_over b t
+      → passed_over_in (makes b) s.size s.kinds (arrays_held s).rows s.records.number s.records.index s.records.walk s.height ≡ passed_over b t
   passed_decided b u room k a acc =
       (λ i. all (copy_passed b) (copies_up (h.size_is i) (h.kinds_is i) state)) ∙ all_none (copy_passed b) (came_to t b) (copies_up t.size t.kinds state) (copies_in t (named b)) into back (copy_decided b u room k a acc)
       ∙ sym (passed_by_copies t v b (rw k.0 at (change_within b u room acc)))
@@ -375,17 +375,17 @@ module _ (s : Session) (t : Table) (h : Holds s t) (v : Valid t) where
 
   -- .. and that of a list of changes
   pub all_decided : (room : ℕ) (cs : List Change) (u : Table) → Alike t v u → Taken t v u → AllAccepted room cs u
-      → all_passed_over (map makes cs) s.size s.kinds (arrays_held s).rows s.number s.index s.walk s.height ≡ all (λ b. passed_over b t) cs
+      → all_passed_over (map makes cs) s.size s.kinds (arrays_held s).rows s.records.number s.records.index s.records.walk s.height ≡ all (λ b. passed_over b t) cs
   unfolding all
   all_decided room [] u k a acc = refl
   all_decided room (b ∷ cs) u k a acc = by_first (passed_over b t) refl
       (λ p. all_decided room cs (apply b u) (alike_step t v b u k) (passed_step t v b u k (rw k.0 at (change_within b u room acc.0)) p a) acc.1)
     where
       rest : Bool
-      rest = all_passed_over (map makes cs) s.size s.kinds (arrays_held s).rows s.number s.index s.walk s.height
+      rest = all_passed_over (map makes cs) s.size s.kinds (arrays_held s).rows s.records.number s.records.index s.records.walk s.height
 
       first : Bool
-      first = passed_over_in (makes b) s.size s.kinds (arrays_held s).rows s.number s.index s.walk s.height
+      first = passed_over_in (makes b) s.size s.kinds (arrays_held s).rows s.records.number s.records.index s.records.walk s.height
 
       here : first ≡ passed_over b t
       here = passed_decided b u room k a acc.0

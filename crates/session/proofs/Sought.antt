@@ -17,24 +17,24 @@ use Rattle.plain.proofs.Tables.{Valid, carried_few}
 use Rattle.plain.proofs.Demands.{ended_within, run_final, verdict_right}
 use Rattle.look.specs.Numbers.{plus}
 use Rattle.look.proofs.Counting.{plus_more}
-use Rattle.look.specs.Scan.{Layout, layout_of}
+use Rattle.look.specs.Scan.{layout_of}
+use Rattle.look.specs.declared.Layout.{Layout}
 use Rattle.layers.proofs.Rows.{GameHeld, rows_layered, accepts_layered}
 use Rattle.table.proofs.Holding.{game_held}
 use Rattle.search.specs.declared.Walker.{Walker}
-use Rattle.search.specs.Core.{Game, game_of as searchedGame, accepts_below, Core, Result, result, run_for, Ran, Lengths}
+use Rattle.search.specs.Core.{Game, game_of as searchedGame, accepts_below, Core, Result, result, run_for, Ran}
 use Rattle.search.specs.Archive.{Archived}
 use Rattle.search.proofs.Represents.{Matches, Stands}
-use Rattle.search.proofs.Ways.{run_sized, rewound_sized}
 use Rattle.search.proofs.OneStep.{Fits}
 use Rattle.plain.proofs.Limits.{limits, small, budget_bound}
 use Rattle.search.proofs.Resumed.{at_run, archived}
 use Rattle.search.proofs.Ended.{run_kept}
 use Rattle.session.specs.declared.Verdict.{Verdict}
-use Rattle.resumption.specs.declared.Resumption.{Resumption}
-use Rattle.resumption.specs.declared.Resumption.TheVariants.{Nowhere, At}
-use Rattle.session.specs.Model.{Records, game_in, states_in, records_in, is_found, verdict_of, bound, back_at, Sought}
+use Rattle.std.specs.Prelude.{Option, None, Some}
+use Rattle.session.specs.Model.{game_in, states_in, records_in, is_found, verdict_of, bound, back_at, Sought}
+use Rattle.search.specs.declared.Records.{Records}
 use Rattle.session.specs.Promises.{height_of}
-use Rattle.table.specs.Trials.{Arrays}
+use Rattle.table.specs.declared.Arrays.{Arrays}
 use Rattle.table.specs.Filing.{Stored}
 use Rattle.verdict.specs.Answers.{WalkOf}
 
@@ -130,16 +130,9 @@ ran_laid {targets = targets} {words = words} {size = size} {phases = phases} {s 
 pub ran_states : {g : Game} {r : Result} (start s : ℕ) (a : Records) (n m : ℕ) → n ≡ m → Ran g bound (back_at n start s a) r → Ran g bound (back_at m start s a) r
 ran_states {g = g} {r = r} start s a n m e ran = subst (λ (k : ℕ). Ran g bound (back_at k start s a) r) e ran
 
-pub sought_nowhere : (g : Game) (size start : ℕ) (from : Resumption) (old : Verdict) (a : Records) → from ≡ Nowhere → Sought g size start from old a old a
-sought_nowhere g size start from old a f = subst⁻¹ (λ (x : Resumption). Sought g size start x old a old a) f (refl, refl)
+pub sought_nowhere : (g : Game) (size start : ℕ) (from : Option ℕ) (old : Verdict) (a : Records) → from ≡ None → Sought g size start from old a old a
+sought_nowhere g size start from old a f = subst⁻¹ (λ (x : Option ℕ). Sought g size start x old a old a) f (refl, refl)
 
-pub sought_at : (g : Game) (size start s : ℕ) (from : Resumption) (old : Verdict) (a : Records) (r : Result) (v : Verdict) → from ≡ At s → v ≡ verdict_of r.walker r.spent
+pub sought_at : (g : Game) (size start s : ℕ) (from : Option ℕ) (old : Verdict) (a : Records) (r : Result) (v : Verdict) → from ≡ Some s → v ≡ verdict_of r.walker r.spent
     → Ran g bound (back_at size start s a) r → Sought g size start from old a v (records_in r)
-sought_at g size start s from old a r v f e ran = subst⁻¹ (λ (x : Resumption). Sought g size start x old a v (records_in r)) f (r, ran, e, refl)
-
--- the walk's array keeps its size
-pub walk_sized : (g : Game) (size start s : ℕ) (a : Records) (r : Result) → Lengths a.number a.parent a.index a.probes a.stamp a.walk → Ran g bound (back_at size start s a) r
-    → length r.walk ≡ 512
-walk_sized g size start s a r k ran =
-    ap (λ (x : Result). length x.walk) ran.reached
-    ∙ (run_sized g ran.steps (back_at size start s a) (rewound_sized size start s 0 a.number a.parent a.index a.probes a.stamp a.walk k)).walk_size
+sought_at g size start s from old a r v f e ran = subst⁻¹ (λ (x : Option ℕ). Sought g size start x old a v (records_in r)) f (r, ran, e, refl)

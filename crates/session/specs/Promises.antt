@@ -69,8 +69,8 @@ pub record Holds (s : Session) (t : Table) : Type 0 where
   pub stored : Stored t (arrays_held s)
   pub steps : ℕ
   pub ended : verdict (run (searched t) steps) ≢ unfinished
-  pub archived : Archived (searched t) steps s.number s.parent s.index s.probes s.stamp s.walk
-  pub told : WalkOf s.stem s.length s.walk (verdict (final t))
+  pub archived : Archived (searched t) steps s.records.number s.records.parent s.records.index s.records.probes s.records.stamp s.records.walk
+  pub told : WalkOf s.stem s.length s.records.walk (verdict (final t))
   pub height_is : s.height ≡ height_of (final t)
   pub total_is : s.total ≡ count (final t)
 
@@ -78,11 +78,11 @@ pub record Holds (s : Session) (t : Table) : Type 0 where
 pub record Loads (l : Load) (lent : List ℕ) (r : Outcome) (lent' : List ℕ) : Type 0 where
   pub answers : LoadAnswered l lent r.answer lent'
   pub holds : load_trial l (length lent) ≡ accepted → Holds r.session (table_of l)
-  -- what a refused load hands back in place of a session has no state, so every call on it is refused
+  -- what a refused load leaves in place of a session has no state, so every call on it is refused
   pub empty : (n : ℕ) → load_trial l (length lent) ≡ refused n → r.session ≡ no_game
 
 -- A CALL: one change, a batch, or another count of kinds. For every plain table that the session holds: the answer and the lent list are the plain table's, and the new session holds the
--- table that the call leaves. For every session, forged too: a refusal gives back the session and the list as they were. What a refused load hands back holds no
+-- table that the call leaves. For every session, forged too: a refusal leaves the session and the list as they were. What a refused load leaves holds no
 -- table, and every call on it is refused.
 pub record Updates (c : PlainCommand) (s : Session) (lent : List ℕ) (r : Outcome) (lent' : List ℕ) : Type 0 where
   pub answers : (t : Table) → Holds s t → Answered (answer_to (call_of c lent) t) lent r.answer lent'

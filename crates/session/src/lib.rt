@@ -1,23 +1,18 @@
 // One session: the game's table and the records of its search. It is made by a load and by nothing else.
 #![tactic(auto)]
 
-ghost use Rattle.std.specs.Prelude.{◌≡◌, ◌+◌, ◌-◌, length};
-ghost use Rattle.rows.specs.Rows.{Tabled};
-ghost use Rattle.rows.specs.Change.{rows_of};
-ghost use Rattle.look.specs.Numbers.{plus};
+ghost use Rattle.std.specs.Prelude.{◌≡◌, ◌+◌, ◌-◌, is_some};
 ghost use Rattle.plain.specs.Table.{by_kind};
-ghost use Rattle.layers.specs.Layout.{layered};
-ghost use Rattle.search.specs.Core.{game_of, Lengths};
-ghost use Rattle.table.specs.Trials.{arrays_of};
 ghost use Rattle.question.specs.Replies.{question_of};
 ghost use Rattle.batch.specs.Batches.{numbers_in};
-ghost use Rattle.session.specs.Model.{states_in, is_found, verdict_of, no_verdict, records_of, Sought, is_alone, only_line, no_game, Settles, SettlesAfresh, UpdatedIn, KindsSet, Performed};
+ghost use Rattle.session.specs.Model.{session_of, total_in, states_in, game_in, is_found, verdict_of, no_verdict, no_arrays, no_records, Sought, alone_line, no_game, Settles, SettlesAfresh, UpdatedIn, KindsSet, Performed};
 ghost use Rattle.session.specs.Promises.{command_of, Loads, Updates, Replies};
 
 use batch::{BatchLine, Command, Update};
 use question::{Question, Reply, Topic};
-use resumption::Resumption;
-use table::{Position, Trial};
+use rows::Rows;
+use search::Records;
+use table::{Arrays, Position, Trial};
 use verdict::Answer;
 
 // What a search has come to: the lengths of stem and walk (0: no walk), the height of the open path, and the probes.
@@ -38,33 +33,19 @@ struct Settled {
     kinds: u16,
 }
 
-// stem and length are those of the last walk (0: none), height that of the open path at the search's end, total counts its probes.
-// The numbers stand between the arrays, and the longest array last: so the compiler takes the struct apart, which saves copies and stack (docs/DECISIONS.md, 106).
+// The numbers of the game and its arrays, and what its last search has left: stem and length are those of the walk (0: none), height that of the open path at the search's end, total
+// counts its probes. The records go by state of the layers; the words have one bit for each of these.
 #[derive(Clone, Copy)]
 pub struct Session {
     size: u16,
-    // by state of the layers: discovery number, parent, index of the edge in the parent's row, probes by then
-    number: [u16; 512],
-    parent: [u16; 512],
     start: u16,
-    index: [u16; 512],
-    probes: [u16; 512],
-    // by state of the layers: how many were discovered when it was marked
-    stamp: [u16; 512],
-    stem: u16,
-    // the open path at the search's end, and behind it the rest of the walk
-    walk: [u16; 512],
-    length: u16,
-    // the marks of the kinds of pay: one bit for each state of the layers
-    words: [u64; 8],
-    height: u16,
     kinds: u16,
-    // by state: how many moves enter it
-    indegree: [u16; 512],
-    // the moves as compressed rows
-    starts: [u16; 513],
+    arrays: Arrays,
+    records: Records,
+    stem: u16,
+    length: u16,
+    height: u16,
     total: u16,
-    targets: [u16; 2048],
 }
 
 #[derive(Clone, Copy)]
@@ -80,25 +61,19 @@ const PHASES: u16 = 5634;
 fn is_found(phase: search::Phase) -> bool
     ensures { result ≡ is_found phase }
 {
-    match phase {
-        search::Phase::Outer => false,
-        search::Phase::Nested => false,
-        search::Phase::Exhausted => false,
-        search::Phase::Found => true,
-    }
+    matches!(phase, search::Phase::Found)
 }
 
 // What a search has come to that is over, with so many probes spent.
 fn verdict_of(w: search::Walker, spent: u16) -> Verdict
     ensures { result ≡ verdict_of w spent }
 {
-    let phase = w.phase;
-    if is_found(phase) {
+    if is_found(w.phase) {
         return Verdict {
             stem: w.stem,
             length: w.top,
             height: w.height,
-            spent: spent,
+            spent,
             kept: w.kept,
         };
     }
@@ -106,70 +81,66 @@ fn verdict_of(w: search::Walker, spent: u16) -> Verdict
         stem: 0,
         length: 0,
         height: 0,
-        spent: spent,
+        spent,
         kept: w.kept,
     }
 }
 
 // The search, taken up. The count of probes spent is 0 here, and only the search raises it. Where it is taken up nowhere, all is as it was, and kept.
 fn seek(
-    targets: &[u16; 2048],
-    starts: &[u16; 513],
-    words: &[u64; 8],
-    number: &mut [u16; 512],
-    parent: &mut [u16; 512],
-    index: &mut [u16; 512],
-    probes: &mut [u16; 512],
-    stamp: &mut [u16; 512],
-    walk: &mut [u16; 512],
+    arrays: &Arrays,
+    records: &mut Records,
     size: u16,
     kinds: u16,
     start: u16,
-    from: Resumption,
+    from: Option<u16>,
     old: Verdict,
 ) -> Verdict
-    requires { Tabled targets.now starts.now × Lengths number.old parent.old index.old probes.old stamp.old walk.old }
-    ensures sought { Sought (game_of targets.now (layered size (kinds - 1) starts.now words.now) words.now size) (states_in size kinds) start from old (records_of number.old parent.old index.old probes.old stamp.old walk.old) result (records_of number.new parent.new index.new probes.new stamp.new walk.new) }
-    ensures walk_len { length walk.new ≡ 512 }
+    ensures { Sought (game_in size kinds arrays.now) (states_in size kinds) start from old records.old result records.new }
 {
     match from {
-        Resumption::Nowhere => old,
-        Resumption::At(s) => {
-            let mut begins = *starts;
-            let mut ends: [u16; 512] = [0; 512];
-            let mut bases: [u16; 512] = [0; 512];
-            let above = look::down(kinds);
-            layers::lay(
-                starts,
-                words,
-                size,
-                above,
-                &mut begins,
-                &mut ends,
-                &mut bases,
-            );
+        None => old,
+        Some(s) => {
+            let layout = layers::lay(&arrays.rows, &arrays.words, size, look::down(kinds));
             let mut spent: u16 = 0;
-            let w = search::resume(
-                targets,
-                &begins,
-                &ends,
-                &bases,
-                words,
-                number,
-                parent,
-                index,
-                probes,
-                stamp,
-                walk,
-                &mut spent,
-                look::times_within(size, kinds),
+            let game = look::Game {
+                targets: &arrays.rows.targets,
+                layout: &layout,
+                words: &arrays.words,
                 size,
-                start,
-                s,
-                PHASES,
-            );
+            };
+            let states = look::times_within(size, kinds);
+            let w = search::resume(game, records, &mut spent, states, start, s, PHASES);
             verdict_of(w, spent)
         }
+    }
+}
+
+// The arrays of no game, and of one before its moves are filed.
+fn no_arrays() -> Arrays
+    ensures { result ≡ no_arrays }
+{
+    Arrays {
+        rows: Rows {
+            starts: [0; 513],
+            targets: [0; 2048],
+        },
+        words: [0; 8],
+        indegree: [0; 512],
+    }
+}
+
+// The records of no search.
+fn no_records() -> Records
+    ensures { result ≡ no_records }
+{
+    Records {
+        number: [0; 512],
+        parent: [0; 512],
+        index: [0; 512],
+        probes: [0; 512],
+        stamp: [0; 512],
+        walk: [0; 512],
     }
 }
 
@@ -181,16 +152,8 @@ fn no_game() -> Session
         size: 0,
         start: 0,
         kinds: 0,
-        words: [0; 8],
-        targets: [0; 2048],
-        starts: [0; 513],
-        indegree: [0; 512],
-        number: [0; 512],
-        parent: [0; 512],
-        index: [0; 512],
-        probes: [0; 512],
-        stamp: [0; 512],
-        walk: [0; 512],
+        arrays: no_arrays(),
+        records: no_records(),
         stem: 0,
         length: 0,
         height: 0,
@@ -213,38 +176,36 @@ fn no_verdict() -> Verdict
 
 // The probes of the whole search.
 fn total_of(v: Verdict) -> u16
-    ensures { result ≡ plus v.kept v.spent }
+    ensures { result ≡ total_in v }
 {
     look::plus(v.kept, v.spent)
 }
 
 // Searches and answers: the search is taken up, and the walk is written into the lent list.
 fn settle(
-    targets: &[u16; 2048],
-    starts: &[u16; 513],
-    words: &[u64; 8],
-    number: &mut [u16; 512],
-    parent: &mut [u16; 512],
-    index: &mut [u16; 512],
-    probes: &mut [u16; 512],
-    stamp: &mut [u16; 512],
-    walk: &mut [u16; 512],
+    arrays: &Arrays,
+    records: &mut Records,
     size: u16,
     kinds: u16,
     start: u16,
-    from: Resumption,
+    from: Option<u16>,
     old: Verdict,
     lent: &mut [u16],
 ) -> Settled
-    requires { Tabled targets.now starts.now × Lengths number.old parent.old index.old probes.old stamp.old walk.old }
-    ensures { Settles size kinds (game_of targets.now (layered size (kinds - 1) starts.now words.now) words.now size) start from old (records_of number.old parent.old index.old probes.old stamp.old walk.old) lent.old result (records_of number.new parent.new index.new probes.new stamp.new walk.new) lent.new }
+    ensures { Settles size kinds (game_in size kinds arrays.now) start from old records.old lent.old result records.new lent.new }
 {
-    let v = seek(
-        targets, starts, words, number, parent, index, probes, stamp, walk, size, kinds, start,
-        from, old,
-    );
+    let v = seek(arrays, records, size, kinds, start, from, old);
     let above = look::down(kinds);
-    let answer = verdict::tell(v.spent, v.kept, v.stem, v.length, size, above, walk, lent);
+    let answer = verdict::tell(
+        v.spent,
+        v.kept,
+        v.stem,
+        v.length,
+        size,
+        above,
+        &records.walk,
+        lent,
+    );
     Settled {
         answer,
         verdict: v,
@@ -252,40 +213,25 @@ fn settle(
     }
 }
 
-// Searches from the start and answers. Of what the arrays of a search held before, nothing is used.
+// Searches from the start and answers. Of what the records held before, nothing is used.
 fn search_afresh(
-    targets: &[u16; 2048],
-    starts: &[u16; 513],
-    words: &[u64; 8],
-    number: &mut [u16; 512],
-    parent: &mut [u16; 512],
-    index: &mut [u16; 512],
-    probes: &mut [u16; 512],
-    stamp: &mut [u16; 512],
-    walk: &mut [u16; 512],
+    arrays: &Arrays,
+    records: &mut Records,
     size: u16,
     kinds: u16,
     start: u16,
     lent: &mut [u16],
 ) -> Settled
-    requires { Tabled targets.now starts.now × Lengths number.old parent.old index.old probes.old stamp.old walk.old }
-    ensures { SettlesAfresh size kinds (game_of targets.now (layered size (kinds - 1) starts.now words.now) words.now size) start walk.old lent.old result (records_of number.new parent.new index.new probes.new stamp.new walk.new) lent.new }
+    ensures { SettlesAfresh size kinds (game_in size kinds arrays.now) start records.old.walk lent.old result records.new lent.new }
 {
-    search::begin(number, parent, index, probes, stamp, start);
+    search::begin(records, start);
     settle(
-        targets,
-        starts,
-        words,
-        number,
-        parent,
-        index,
-        probes,
-        stamp,
-        walk,
+        arrays,
+        records,
         size,
         kinds,
         start,
-        Resumption::At(start),
+        Some(start),
         no_verdict(),
         lent,
     )
@@ -303,17 +249,20 @@ pub fn load(
 ) -> Outcome
     ensures { Loads (record { size = size; start = start; kinds = kinds; marks = by_kind marks; numbers = numbers.now }) lent.old result lent.new }
 {
-    let mut targets: [u16; 2048] = [0; 2048];
-    let mut starts: [u16; 513] = [0; 513];
+    let mut out = Outcome {
+        answer: verdict::refused(2, Position::Alone),
+        session: no_game(),
+    };
+    let s = &mut out.session;
+    let entries = lent.len();
     let trial = table::load_trial(
         size,
         start,
         kinds,
         &marks,
         numbers,
-        &mut targets,
-        &mut starts,
-        lent.len(),
+        &mut s.arrays.rows,
+        entries,
     );
     if let Trial::Refused(n) = trial {
         return Outcome {
@@ -321,124 +270,73 @@ pub fn load(
             session: no_game(),
         };
     }
-    let words = layers::pack(&marks, size, kinds);
-    let mut indegree: [u16; 512] = [0; 512];
-    table::count_edges(numbers, &mut indegree);
-    let mut number: [u16; 512] = [0; 512];
-    let mut parent: [u16; 512] = [0; 512];
-    let mut index: [u16; 512] = [0; 512];
-    let mut probes: [u16; 512] = [0; 512];
-    let mut stamp: [u16; 512] = [0; 512];
-    let mut walk: [u16; 512] = [0; 512];
-    let r = search_afresh(
-        &targets,
-        &starts,
-        &words,
-        &mut number,
-        &mut parent,
-        &mut index,
-        &mut probes,
-        &mut stamp,
-        &mut walk,
-        size,
-        kinds,
-        start,
-        lent,
-    );
-    let answer = r.answer;
-    let v = r.verdict;
-    Outcome {
-        answer,
-        session: Session {
-            size,
-            start,
-            kinds,
-            words,
-            targets,
-            starts,
-            indegree,
-            number,
-            parent,
-            index,
-            probes,
-            stamp,
-            walk,
-            stem: v.stem,
-            length: v.length,
-            height: v.height,
-            total: total_of(v),
-        },
-    }
+    s.arrays.words = layers::pack(&marks, size, kinds);
+    table::count_edges(numbers, &mut s.arrays.indegree);
+    let r = search_afresh(&s.arrays, &mut s.records, size, kinds, start, lent);
+    s.size = size;
+    s.start = start;
+    let answer = conclude(s, r);
+    out.answer = answer;
+    out
 }
 
 // A call on the arrays of a session: tried and made in the table's, then searched and answered. Where it is refused, all are as they were.
 fn update_in(
-    alone: bool,
-    only: BatchLine,
+    alone: Option<BatchLine>,
     lines: &[u16],
-    targets: &mut [u16; 2048],
-    starts: &mut [u16; 513],
-    words: &mut [u64; 8],
-    indegree: &mut [u16; 512],
-    number: &mut [u16; 512],
-    parent: &mut [u16; 512],
-    index: &mut [u16; 512],
-    probes: &mut [u16; 512],
-    stamp: &mut [u16; 512],
-    walk: &mut [u16; 512],
+    arrays: &mut Arrays,
+    records: &mut Records,
     size: u16,
     kinds: u16,
     start: u16,
     old: Verdict,
     lent: &mut [u16],
 ) -> Settled
-    requires { Tabled targets.old starts.old × (length indegree.old ≡ 512) × Lengths number.old parent.old index.old probes.old stamp.old walk.old }
-    ensures { UpdatedIn alone (numbers_in alone only lines.now) size kinds start old (arrays_of targets.old starts.old words.old indegree.old) (records_of number.old parent.old index.old probes.old stamp.old walk.old) lent.old result (arrays_of targets.new starts.new words.new indegree.new) (records_of number.new parent.new index.new probes.new stamp.new walk.new) lent.new }
+    ensures { UpdatedIn (is_some alone) (numbers_in alone lines.now) size kinds start old arrays.old records.old lent.old result arrays.new records.new lent.new }
 {
     let from = resumption::where_to_resume(
-        alone, only, lines, size, kinds, targets, starts, number, index, walk, old.height,
+        alone,
+        lines,
+        size,
+        kinds,
+        &arrays.rows,
+        records,
+        old.height,
     );
     let room = lent.len();
-    let attempt = batch::attempt_call(
-        alone, only, lines, size, kinds, targets, starts, words, indegree, room,
-    );
-    let trial = attempt.trial;
-    if let Trial::Refused(n) = trial {
-        let position = attempt.position;
+    let attempt = batch::attempt_call(alone, lines, size, kinds, arrays, room);
+    if let Trial::Refused(n) = attempt.trial {
         return Settled {
-            answer: verdict::refused(n, position),
+            answer: verdict::refused(n, attempt.position),
             verdict: old,
             kinds,
         };
     }
-    settle(
-        targets, starts, words, number, parent, index, probes, stamp, walk, size, kinds, start,
-        from, old, lent,
-    )
+    settle(arrays, records, size, kinds, start, from, old, lent)
 }
 
 // Another count of kinds on the arrays of a session: tried and set in the table's, then searched from the start and answered. Where it is refused, all are as they were.
 fn set_kinds_in(
     new: u16,
-    targets: &[u16; 2048],
-    starts: &[u16; 513],
-    words: &mut [u64; 8],
-    number: &mut [u16; 512],
-    parent: &mut [u16; 512],
-    index: &mut [u16; 512],
-    probes: &mut [u16; 512],
-    stamp: &mut [u16; 512],
-    walk: &mut [u16; 512],
+    arrays: &mut Arrays,
+    records: &mut Records,
     size: u16,
     kinds: u16,
     start: u16,
     old: Verdict,
     lent: &mut [u16],
 ) -> Settled
-    requires { Tabled targets.now starts.now × Lengths number.old parent.old index.old probes.old stamp.old walk.old }
-    ensures { KindsSet new size kinds start old (rows_of targets.now starts.now) words.old (records_of number.old parent.old index.old probes.old stamp.old walk.old) lent.old result words.new (records_of number.new parent.new index.new probes.new stamp.new walk.new) lent.new }
+    ensures set { KindsSet new size kinds start old arrays.old.rows arrays.old.words records.old lent.old result arrays.new.words records.new lent.new }
+    ensures moves_kept { (arrays.new.rows ≡ arrays.old.rows) × (arrays.new.indegree ≡ arrays.old.indegree) }
 {
-    let trial = table::attempt_kinds(new, size, kinds, starts, words, lent.len());
+    let trial = table::attempt_kinds(
+        new,
+        size,
+        kinds,
+        &arrays.rows,
+        &mut arrays.words,
+        lent.len(),
+    );
     if let Trial::Refused(n) = trial {
         return Settled {
             answer: verdict::refused(n, Position::Alone),
@@ -446,32 +344,16 @@ fn set_kinds_in(
             kinds,
         };
     }
-    search_afresh(
-        targets, starts, words, number, parent, index, probes, stamp, walk, size, new, start, lent,
-    )
+    search_afresh(arrays, records, size, new, start, lent)
 }
 
-// Is it one change?
-fn is_alone(asked: Update) -> bool
-    ensures { result ≡ is_alone asked }
+// The line of one change. The lines of a batch are those of the lent list.
+fn alone_line(asked: Update) -> Option<BatchLine>
+    ensures { result ≡ alone_line asked }
 {
     match asked {
-        Update::Change(op) => true,
-        Update::Batch => false,
-    }
-}
-
-// Its line, if it is one change.
-fn only_line(asked: Update) -> BatchLine
-    ensures { result ≡ only_line asked }
-{
-    match asked {
-        Update::Change(op) => batch::line_of(op),
-        Update::Batch => BatchLine {
-            what: 0,
-            first: 0,
-            second: 0,
-        },
+        Update::Change(op) => Some(batch::line_of(op)),
+        Update::Batch => None,
     }
 }
 
@@ -479,68 +361,58 @@ fn only_line(asked: Update) -> BatchLine
 fn perform(
     command: Command,
     lines: &[u16],
-    targets: &mut [u16; 2048],
-    starts: &mut [u16; 513],
-    words: &mut [u64; 8],
-    indegree: &mut [u16; 512],
-    number: &mut [u16; 512],
-    parent: &mut [u16; 512],
-    index: &mut [u16; 512],
-    probes: &mut [u16; 512],
-    stamp: &mut [u16; 512],
-    walk: &mut [u16; 512],
+    arrays: &mut Arrays,
+    records: &mut Records,
     size: u16,
     kinds: u16,
     start: u16,
     old: Verdict,
     lent: &mut [u16],
 ) -> Settled
-    requires { Tabled targets.old starts.old × (length indegree.old ≡ 512) × Lengths number.old parent.old index.old probes.old stamp.old walk.old }
-    ensures { Performed command lines.now size kinds start old (arrays_of targets.old starts.old words.old indegree.old) (records_of number.old parent.old index.old probes.old stamp.old walk.old) lent.old result (arrays_of targets.new starts.new words.new indegree.new) (records_of number.new parent.new index.new probes.new stamp.new walk.new) lent.new }
+    ensures { Performed command lines.now size kinds start old arrays.old records.old lent.old result arrays.new records.new lent.new }
 {
     match command {
         Command::Update(asked) => update_in(
-            is_alone(asked),
-            only_line(asked),
+            alone_line(asked),
             lines,
-            targets,
-            starts,
-            words,
-            indegree,
-            number,
-            parent,
-            index,
-            probes,
-            stamp,
-            walk,
+            arrays,
+            records,
             size,
             kinds,
             start,
             old,
             lent,
         ),
-        Command::Kinds(new) => set_kinds_in(
-            new, targets, starts, words, number, parent, index, probes, stamp, walk, size, kinds,
-            start, old, lent,
-        ),
+        Command::Kinds(new) => { set_kinds_in(new, arrays, records, size, kinds, start, old, lent) }
     }
 }
 
+// What a call has come to is put into the session, and answered.
+fn conclude(s: &mut Session, r: Settled) -> Answer
+    ensures answer { result ≡ r.answer }
+    ensures session { s.new ≡ session_of s.old.size s.old.start r.kinds s.old.arrays s.old.records r.verdict (total_in r.verdict) }
+{
+    let v = r.verdict;
+    s.kinds = r.kinds;
+    s.stem = v.stem;
+    s.length = v.length;
+    s.height = v.height;
+    s.total = total_of(v);
+    r.answer
+}
+
 // A call on a session: one change of the game, a batch of lines, which are all made or none, or another count of kinds. Of a batch, `lines` has three numbers for each line
-// (BatchLine); no other call reads it. The list lent for the walk comes last. There is one exit, so that the session is copied out and in once.
+// (BatchLine); no other call reads it. The list lent for the walk comes last. The session is copied once, into what goes out, and worked on there; until it is answered, nothing is spent.
 pub fn update(s: Session, command: Command, lines: &[u16], lent: &mut [u16]) -> Outcome
     ensures { Updates (command_of command lines.now) s lent.old result lent.new }
 {
-    let mut words = s.words;
-    let mut targets = s.targets;
-    let mut starts = s.starts;
-    let mut indegree = s.indegree;
-    let mut number = s.number;
-    let mut parent = s.parent;
-    let mut index = s.index;
-    let mut probes = s.probes;
-    let mut stamp = s.stamp;
-    let mut walk = s.walk;
+    let mut out = Outcome {
+        answer: Answer::Clear {
+            spent: 0,
+            kept: s.total,
+        },
+        session: s,
+    };
     let old = Verdict {
         stem: s.stem,
         length: s.length,
@@ -551,71 +423,33 @@ pub fn update(s: Session, command: Command, lines: &[u16], lent: &mut [u16]) -> 
     let r = perform(
         command,
         lines,
-        &mut targets,
-        &mut starts,
-        &mut words,
-        &mut indegree,
-        &mut number,
-        &mut parent,
-        &mut index,
-        &mut probes,
-        &mut stamp,
-        &mut walk,
+        &mut out.session.arrays,
+        &mut out.session.records,
         s.size,
         s.kinds,
         s.start,
         old,
         lent,
     );
-    let answer = r.answer;
-    let v = r.verdict;
-    Outcome {
-        answer,
-        session: Session {
-            size: s.size,
-            start: s.start,
-            kinds: r.kinds,
-            words,
-            targets,
-            starts,
-            indegree,
-            number,
-            parent,
-            index,
-            probes,
-            stamp,
-            walk,
-            stem: v.stem,
-            length: v.length,
-            height: v.height,
-            total: total_of(v),
-        },
-    }
+    let answer = conclude(&mut out.session, r);
+    out.answer = answer;
+    out
 }
 
-// A question on a session. It changes nothing and lends no list. Of the session's arrays those are taken out that its topic reads, so that the rest is not copied.
+// A question on a session. It changes nothing and lends no list.
 pub fn ask(s: Session, question: Question) -> Reply
     ensures { Replies (question_of question) s result }
 {
-    let topic = question.topic;
-    let starts = s.starts;
-    match topic {
-        Topic::Ways => {
-            let indegree = s.indegree;
-            question::ways(s.size, &starts, &indegree, question.number)
-        }
+    match question.topic {
+        Topic::Ways => question::ways(s.size, &s.arrays, question.number),
         Topic::Short => {
-            let targets = s.targets;
-            let words = s.words;
             let present = look::minus(s.length, s.stem);
             question::short(
                 s.size,
                 s.kinds,
                 s.start,
                 present,
-                &targets,
-                &starts,
-                &words,
+                &s.arrays,
                 question.number,
             )
         }

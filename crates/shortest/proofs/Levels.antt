@@ -16,7 +16,8 @@ use Rattle.plain.proofs.Walks.{begins_get_or}
 use Rattle.plain.proofs.Sweeps.{sweep_none, then_look, sweep_append, begins_trans, sweep_begins}
 use Rattle.shortest.specs.declared.Sweep.TheVariants.{Through, Back, Stopped}
 use Rattle.shortest.specs.declared.Swept.{Swept}
-use Rattle.shortest.specs.Model.{goes_on, Board, Sized, Stands, Rows, Comes, LooksThrough, LooksLevel}
+use Rattle.shortest.specs.Model.{goes_on, Sized, Stands, Rows, Comes, LooksThrough, LooksLevel}
+use Rattle.shortest.specs.declared.Board.{Board}
 
 -- ---- what has come of looks, by whether it goes on
 

@@ -16,7 +16,8 @@ use Rattle.look.specs.declared.Row.{Row}
 use Rattle.look.specs.Scan.{Spans}
 use Rattle.look.proofs.Scans.{row_places}
 use Rattle.shortest.specs.declared.Sweep.TheVariants.{Through, Back, Stopped}
-use Rattle.shortest.specs.Model.{Board, board_of, Sized, Stands, Rows, Notes, Comes, LooksThrough}
+use Rattle.shortest.specs.Model.{board_of, Sized, Stands, Rows, Notes, Comes, LooksThrough}
+use Rattle.shortest.specs.declared.Board.{Board}
 
 module _ (targets starts : List ℕ) (budget goal v : ℕ) (b₀ : Board) (begin : ℕ) where
   -- Where the looks stand: the arrays stand for some states, from which the rest of the row, from place e up to its end, comes to what the whole row comes to.

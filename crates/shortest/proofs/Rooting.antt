@@ -28,7 +28,8 @@ use Rattle.rows.proofs.Entries.{entries_length, entries_first, entries_front}
 use Rattle.look.proofs.Counting.{further_more}
 use Rattle.shortest.specs.declared.Swept.{Swept}
 use Rattle.shortest.specs.declared.Lengths.{Lengths}
-use Rattle.shortest.specs.Model.{root_in, Board, Rows, Comes, States, Searches, lengths_of, TriesLengths, Holds, FilesRoot, FindsRoots, Shortens}
+use Rattle.shortest.specs.Model.{root_in, Rows, Comes, States, Searches, lengths_of, TriesLengths, Holds, FilesRoot, FindsRoots, Shortens}
+use Rattle.shortest.specs.declared.Board.{Board}
 
 -- two tests that hold together
 both_ways : (a b : Bool) → (a ≡ true → b ≡ true) → (b ≡ true → a ≡ true) → a ≡ b

@@ -11,7 +11,8 @@ use Rattle.plain.proofs.Tests.{out_nil}
 use Rattle.plain.proofs.Sweeps.{noted_new, then_levels, levels_next, levels_over, levels_none}
 use Rattle.shortest.specs.declared.Sweep.TheVariants.{Through}
 use Rattle.shortest.specs.declared.Swept.{Swept}
-use Rattle.shortest.specs.Model.{goes_on, Board, board_of, Sized, Stands, Rows, Notes, Comes, LooksLevel, Searches}
+use Rattle.shortest.specs.Model.{goes_on, board_of, Sized, Stands, Rows, Notes, Comes, LooksLevel, Searches}
+use Rattle.shortest.specs.declared.Board.{Board}
 use Rattle.shortest.proofs.Standing.{stands_none}
 use Rattle.shortest.proofs.Levels.{goes, halts_whole}
 
@@ -26,11 +27,11 @@ module _ (targets starts : List ℕ) (budget goal state l spent₀ : ℕ) where
   Left from depth b tail = (g : Graph) → Rows g targets starts → state < 512 → Goes g from depth b tail
 
   -- the state itself is seen first
-  pub left_begins : (queue queue' : List ℕ) (seen seen' : List Bool) (tail : ℕ) → seen ≡ replicate 512 false → Notes queue seen 0 state queue' seen' tail → Left 0 0 (board_of queue' seen' spent₀) tail
-  left_begins queue queue' seen seen' tail e n g rows low = record {
+  pub left_begins : (queue queue' : List ℕ) (seen seen' : List Bool) (tail spent : ℕ) → spent ≡ spent₀ → seen ≡ replicate 512 false → Notes queue seen 0 state queue' seen' tail → Left 0 0 (board_of queue' seen' spent) tail
+  left_begins queue queue' seen seen' tail spent kept e n g rows low = record {
     xs = state ∷ [];
     stands = subst (Stands queue' seen' tail) (noted_new state [] (out_nil state)) (n.stands [] low (stands_none queue seen e));
-    same = let all : l - 0 ≡ l = omega arith in ap (λ (k : ℕ). levels g budget k goal (state ∷ []) (state ∷ []) spent₀) all;
+    same = let all : l - 0 ≡ l = omega arith in (λ i. levels g budget (all i) goal (state ∷ []) (state ∷ []) (kept i));
   }
 
   module _ (from depth : ℕ) (b : Board) (tail : ℕ) (left : Left from depth b tail) where

@@ -19,7 +19,8 @@ use Rattle.shortest.specs.declared.Sweep.{Sweep}
 use Rattle.shortest.specs.declared.Sweep.TheVariants.{Through}
 use Rattle.shortest.specs.declared.Swept.{Swept}
 use Rattle.shortest.specs.declared.Lengths.{Lengths}
-use Rattle.shortest.specs.Model.{goes_on, Board, Rows, States, Comes, Searches, Ends, TriesLength, lengths_of, lengths_at, TriesLengths}
+use Rattle.shortest.specs.Model.{goes_on, Rows, States, Comes, Searches, Ends, TriesLength, lengths_of, lengths_at, TriesLengths}
+use Rattle.shortest.specs.declared.Board.{Board}
 use Rattle.shortest.proofs.Levels.{goes, halts}
 
 -- ---- the roots of a length

@@ -10,6 +10,7 @@ use Rattle.rows.specs.Rows.{entries}
 use Rattle.look.specs.Numbers.{further}
 use Rattle.look.specs.Scan.{row_in}
 use Rattle.look.specs.Sets.{Members}
+use Rattle.shortest.specs.declared.Board.{Board}
 use Rattle.shortest.specs.declared.Sweep.{Sweep}
 use Rattle.shortest.specs.declared.Sweep.TheVariants.{Through, Back, Stopped}
 use Rattle.shortest.specs.declared.Swept.{Swept}
@@ -24,12 +25,7 @@ goes_on Stopped = false
 abbrev pub root_in : List ℕ → List Bool → ℕ → Bool
 root_in words seen s = accepts words s && get_or seen s true
 
--- what a search writes on: the queue, the set of the states seen, and the count of looks
-pub record Board : Type 0 where
-  pub queue : List ℕ
-  pub seen : List Bool
-  pub spent : ℕ
-
+-- what a search writes on, of lists
 abbrev pub board_of : List ℕ → List Bool → ℕ → Board
 board_of queue seen spent = record { queue = queue; seen = seen; spent = spent }
 

@@ -20,12 +20,14 @@ use Rattle.plain.proofs.Rows.{row_once, row_cut, row_cut_other, without_length, 
 use Rattle.plain.proofs.Trials.{unheld}
 use Rattle.plain.proofs.Tables.{Valid, inside_both}
 use Rattle.rows.specs.Rows.{row_at, degree_at, place_of, Tabled}
-use Rattle.rows.specs.Change.{Rows, removed}
+use Rattle.rows.specs.declared.Rows.{Rows}
+use Rattle.rows.specs.Change.{removed}
 use Rattle.rows.proofs.Entries.{row_length}
 use Rattle.rows.proofs.Change.{removes_edge, inserted_lengths, removed_lengths}
 use Rattle.table.specs.declared.Op.{Op}
 use Rattle.table.specs.declared.Op.TheVariants.{Add, Cut, Mark, Unmark}
-use Rattle.table.specs.Trials.{Arrays, Sized, change_of, there, carries_in, add_conditions, cut_conditions, mark_conditions, unmark_conditions, conditions_in, trial_in}
+use Rattle.table.specs.Trials.{Sized, change_of, there, carries_in, add_conditions, cut_conditions, mark_conditions, unmark_conditions, conditions_in, trial_in}
+use Rattle.table.specs.declared.Arrays.{Arrays}
 use Rattle.table.specs.Filing.{named_by, filed_in, Filed, Counted, FourKinds, Stored}
 use Rattle.layers.specs.Packed.{Packed}
 use Rattle.layers.proofs.Marking.{packed_bit, packed_mark, packed_unmark}

@@ -1,12 +1,12 @@
 -- The counts of the moves that enter each state, as moves come and go. Assumes nothing.
-use mathlib.Core.Path.{◌≡◌, refl, sym, ap, subst⁻¹, ◌∙◌}
+use mathlib.Core.Path.{◌≡◌, sym, ap, subst⁻¹, ◌∙◌}
 use mathlib.Core.Logic.{⊎_elim}
 use mathlib.Core.Bool.{Bool, true, false}
 use mathlib.Core.List.{List, [], ◌∷◌, ◌++◌, append-nil, append_assoc}
 use Prim.Native.Nat.{ℕ, ◌+◌, ◌≤◌, ◌<◌}
 use native.Mathlib.Omega.{arith}
 use lib.Dec.{eqb}
-use lib.ListN.{length, get_or, set, drop, replicate, length-set, length-append, length-replicate}
+use lib.ListN.{length, get_or, set, replicate, length-set, length-append, length-replicate}
 use lib.Seq.{get_or-set_same, get_or-set_other}
 use borrow.Author.Tests.{eqb-true, eqb-false}
 use Rattle.plain.specs.Lists.{any}
@@ -22,7 +22,7 @@ use Rattle.plain.proofs.Degrees.{in_nil, in_short, in_add, in_cut}
 use Rattle.rows.proofs.Empty.{reads_same}
 use Rattle.look.proofs.Counting.{further_more}
 use Rattle.table.specs.Filing.{Counted, recounted, counted_all}
-use Rattle.table.proofs.Pairs.{pairs_more, pairs_end}
+use Rattle.table.proofs.Pairs.{pairs_next, pairs_end}
 
 -- the array keeps its length
 pub recounted_length : (more : Bool) (s : ℕ) (xs : List ℕ) → length (recounted more s xs) ≡ length xs
@@ -70,16 +70,11 @@ counted_on n es (e ∷ fs) xs size within few f =
 pub counted_load : (n : ℕ) (es : List Edge) → n ≤ 512 → any (outside n) es ≡ false → length es ≤ 2048 → Counted es (counted_all es (replicate 512 0))
 counted_load n es size within few = counted_on n [] es (replicate 512 0) size within (omega arith) counted_none
 
-pub counted_length : (es : List Edge) (xs : List ℕ) → length (counted_all es xs) ≡ length xs
-unfolding counted_all
-counted_length [] xs = refl
-counted_length (e ∷ es) xs = counted_length es (recounted true e.1 xs) ∙ recounted_length true e.1 xs
-
 -- as it goes through a list of numbers
-pub counted_next : (ns : List ℕ) (i : ℕ) (xs : List ℕ) → i + 1 < length ns → counted_all (pairs (drop i ns)) xs ≡ counted_all (pairs (drop (i + 2) ns)) (recounted true (get_or ns (i + 1) 0) xs)
+pub counted_next : (ns two rest : List ℕ) (n : ℕ) (xs : List ℕ) → (ns ≡ two ++ rest) × (length two ≡ n) → n ≡ 2 → counted_all (pairs ns) xs ≡ counted_all (pairs rest) (recounted true (get_or two 1 0) xs)
 unfolding counted_all
-counted_next ns i xs h = ap (λ (es : List Edge). counted_all es xs) (pairs_more ns i h)
+counted_next ns two rest n xs parts e = ap (λ (es : List Edge). counted_all es xs) (pairs_next ns two rest n parts e)
 
-pub counted_end : (ns : List ℕ) (i : ℕ) (xs : List ℕ) → length ns ≤ i + 1 → counted_all (pairs (drop i ns)) xs ≡ xs
+pub counted_end : (ns : List ℕ) (n : ℕ) (xs : List ℕ) → length ns < n → n ≡ 2 → counted_all (pairs ns) xs ≡ xs
 unfolding counted_all
-counted_end ns i xs h = ap (λ (es : List Edge). counted_all es xs) (pairs_end ns i h)
+counted_end ns n xs h e = ap (λ (es : List Edge). counted_all es xs) (pairs_end ns n h e)

@@ -3,11 +3,11 @@ use mathlib.Core.Path.{◌≡◌, refl, sym, ap, subst, ◌∙◌}
 use mathlib.Core.Logic.{⊎_elim}
 use mathlib.Core.Bool.{Bool, true, false, true≢false}
 use mathlib.Core.List.{List, [], ◌∷◌, ◌++◌, append-nil, append_assoc}
-use Prim.Native.Nat.{ℕ, ◌+◌, ◌%◌, ◌≤◌, ◌<◌}
+use Prim.Native.Nat.{ℕ, ◌%◌, ◌≤◌, ◌<◌}
 use native.Mathlib.Decide.{ℕ_discrete}
 use native.Mathlib.Omega.{arith}
 use lib.Dec.{eqb, ltb}
-use lib.ListN.{length, drop, replicate, length-append}
+use lib.ListN.{length, replicate, length-append}
 use borrow.Author.Tests.{ltb-false, ne_eqb}
 use Rattle.plain.specs.Lists.{any, elem}
 use Rattle.plain.specs.Search.{Edge}
@@ -18,7 +18,8 @@ use Rattle.plain.proofs.Edges.{Has, has_head, has_tail, has_cases, has_nil}
 use Rattle.plain.proofs.Rows.{row_nil, row_has, has_row, row_add, row_add_other}
 use Rattle.plain.proofs.Tables.{length_pairs, repeated_add, inside_both}
 use Rattle.rows.specs.Rows.{row_at, edge_count, place_of}
-use Rattle.rows.specs.Change.{Rows, rows_of, inserted}
+use Rattle.rows.specs.declared.Rows.{Rows}
+use Rattle.rows.specs.Change.{rows_of, inserted}
 use Rattle.rows.proofs.Entries.{row_length}
 use Rattle.rows.proofs.Empty.{empty_row, empty_count, empty_compressed}
 use Rattle.rows.proofs.Change.{inserts_edge}
@@ -27,7 +28,7 @@ use Rattle.table.specs.declared.Trial.TheVariants.{Accepted, Refused}
 use Rattle.table.specs.Trials.{tried, early_trial, there}
 use Rattle.table.specs.Filing.{Filed, Empty, Limits, FiledAll, Tried}
 use Rattle.table.proofs.Places.{has_place_lem, same_test}
-use Rattle.table.proofs.Pairs.{move_at, pairs_more, pairs_end}
+use Rattle.table.proofs.Pairs.{move_of, pairs_next, pairs_end}
 use Rattle.table.proofs.Trying.{stop, skip, early_held, Early, early_free}
 
 -- ---- an edge is present exactly when its target has a place in its row
@@ -72,16 +73,16 @@ filed_insert size edges e r r' f small free new =
       count_is = s.count ∙ omega (arith, f.count_is, length-append edges (e ∷ []));
     }
 
--- ---- what is filed of a list of numbers, up to place i
+-- ---- what is filed of a list of numbers, with the rest that is left of it
 
 module _ (size : ℕ) where
-  pub record FiledTo (numbers : List ℕ) (i : ℕ) (targets starts : List ℕ) : Type 0 where
+  pub record FiledTo (numbers left : List ℕ) (rows : Rows) : Type 0 where
     pub edges : List Edge
-    pub filed : Filed size edges (rows_of targets starts)
+    pub filed : Filed size edges rows
     pub once : repeated edges ≡ false
-    pub split : pairs numbers ≡ edges ++ pairs (drop i numbers)
+    pub split : pairs numbers ≡ edges ++ pairs left
 
-  none_filed : (numbers : List ℕ) → size ≤ 512 → FiledTo numbers 0 (replicate 2048 0) (replicate 513 0)
+  none_filed : (numbers : List ℕ) → size ≤ 512 → FiledTo numbers numbers (rows_of (replicate 2048 0) (replicate 513 0))
   unfolding repeated
   none_filed numbers h = record {
     edges = [];
@@ -94,77 +95,60 @@ module _ (size : ℕ) where
     split = refl;
   }
 
-  module _ (numbers targets starts : List ℕ) (l : Limits size numbers targets starts) where
-    pub filed_none : FiledTo numbers 0 targets starts
-    filed_none =
-        subst (λ (ts : List ℕ). FiledTo numbers 0 ts starts) (sym l.empty.no_targets)
-        (subst (λ (ss : List ℕ). FiledTo numbers 0 (replicate 2048 0) ss) (sym l.empty.no_starts) (none_filed numbers l.states))
+  pub filed_none : (numbers : List ℕ) (rows : Rows) → Limits size numbers rows.targets rows.starts → (left : List ℕ) → left ≡ numbers → FiledTo numbers left rows
+  filed_none numbers rows l left e =
+      subst (λ (r : Rows). FiledTo numbers left r) (λ i. rows_of (sym l.empty.no_targets i) (sym l.empty.no_starts i))
+      (subst (λ (ns : List ℕ). FiledTo numbers ns (rows_of (replicate 2048 0) (replicate 513 0))) (sym e) (none_filed numbers l.states))
 
-  module _ (numbers : List ℕ) (i : ℕ) (targets starts : List ℕ) (f : FiledTo numbers i targets starts) where
-    filed_all : length numbers ≤ i + 1 → Filed size (pairs numbers) (rows_of targets starts)
-    filed_all h =
-        let whole : f.edges ≡ pairs numbers =
-        sym (f.split ∙ ap (λ (es : List Edge). f.edges ++ es) (pairs_end numbers i h) ∙ append-nil f.edges)
-        in
-        subst (λ (es : List Edge). Filed size es (rows_of targets starts)) whole f.filed
+  module _ (numbers left : List ℕ) (rows : Rows) (f : FiledTo numbers left rows) where
+    -- ---- nothing is left
 
-    filed_once : length numbers ≤ i + 1 → false ≡ repeated (pairs numbers)
-    filed_once h =
-        sym f.once
-        ∙ ap repeated (sym (f.split ∙ ap (λ (es : List Edge). f.edges ++ es) (pairs_end numbers i h) ∙ append-nil f.edges))
+    module _ (n : ℕ) (short : length left < n) (e : n ≡ 2) where
+      whole : f.edges ≡ pairs numbers
+      whole = sym (f.split ∙ ap (λ (es : List Edge). f.edges ++ es) (pairs_end left n short e) ∙ append-nil f.edges)
 
-    -- the next move, and whether it is there
-    module _ (more : i + 1 < length numbers) (b : Bool) (asked : b ≡ there targets starts (move_at numbers i).0 (move_at numbers i).1) where
+      pub ended : FiledAll size numbers false rows.targets rows.starts
+      ended = record {
+        repeats = sym f.once ∙ ap repeated whole;
+        filed = λ z. subst (λ (es : List Edge). Filed size es rows) whole f.filed;
+      }
+
+    -- ---- the next move, and whether it is there
+
+    module _ (two rest : List ℕ) (n : ℕ) (next : (left ≡ two ++ rest) × (length two ≡ n)) (e : n ≡ 2) (b : Bool) (asked : b ≡ there rows.targets rows.starts (move_of two).0 (move_of two).1) where
       abbrev move : Edge
-      move = move_at numbers i
+      move = move_of two
 
-      abbrev later : List Edge
-      later = pairs (drop (i + 2) numbers)
-
-      parts : pairs numbers ≡ f.edges ++ (move ∷ later)
-      parts = f.split ∙ ap (λ (es : List Edge). f.edges ++ es) (pairs_more numbers i more)
+      parts : pairs numbers ≡ f.edges ++ (move ∷ pairs rest)
+      parts = f.split ∙ ap (λ (es : List Edge). f.edges ++ es) (pairs_next left two rest n next e)
 
       test : b ≡ present f.edges move
-      test = asked ∙ there_present targets starts f.edges move.0 move.1 (f.filed.rows_are move.0)
+      test = asked ∙ there_present rows.targets rows.starts f.edges move.0 move.1 (f.filed.rows_are move.0)
 
-      filed_twice : b ≡ true → true ≡ repeated (pairs numbers)
-      filed_twice h = sym (ap repeated parts ∙ twice f.edges move later (sym test ∙ h))
+      pub refused : b ≡ true → FiledAll size numbers true rows.targets rows.starts
+      refused h = record {
+        repeats = sym (ap repeated parts ∙ twice f.edges move (pairs rest) (sym test ∙ h));
+        filed = λ z. absurd (true≢false z);
+      }
 
-      module _ (within : any (outside size) (pairs numbers) ≡ false) (few : length (pairs numbers) ≤ 2048) where
+      module _ (targets₀ starts₀ : List ℕ) (l : Limits size numbers targets₀ starts₀) where
         source : move.0 < size
         source =
-            let o : outside size move ≡ false = none_within (outside size) f.edges move later (ap (any (outside size)) (sym parts) ∙ within) in
+            let o : outside size move ≡ false = none_within (outside size) f.edges move (pairs rest) (ap (any (outside size)) (sym parts) ∙ l.within) in
             (inside_both size move o).0
 
-        room : edge_count starts size < 2048
-        room = omega (arith, ap length parts, length-append f.edges (move ∷ later), f.filed.count_is)
+        room : edge_count rows.starts size < 2048
+        room = omega (arith, l.few, ap length parts, length-append f.edges (move ∷ pairs rest), f.filed.count_is)
 
-        filed_more : b ≡ false → (targets' starts' : List ℕ) → rows_of targets' starts' ≡ inserted size move.0 move.1 (rows_of targets starts) → FiledTo numbers (i + 2) targets' starts'
-        filed_more h targets' starts' new = record {
+        pub went_on : b ≡ false → (rows' : Rows) → rows' ≡ inserted size move.0 move.1 rows → FiledTo numbers rest rows'
+        went_on h rows' new = record {
           edges = f.edges ++ (move ∷ []);
-          filed = filed_insert size f.edges move (rows_of targets starts) (rows_of targets' starts') f.filed source room new;
+          filed = filed_insert size f.edges move rows rows' f.filed source room new;
           once = repeated_add f.edges move f.once (sym test ∙ h);
-          split = parts ∙ sym (append_assoc f.edges (move ∷ []) later);
+          split = parts ∙ sym (append_assoc f.edges (move ∷ []) (pairs rest));
         }
 
-  -- ---- what filing leaves: all is filed, or a move stands twice
-
-  module _ (numbers : List ℕ) (i : ℕ) (targets starts : List ℕ) (f : FiledTo numbers i targets starts) where
-    pub ended : length numbers ≤ i + 1 → FiledAll size numbers false targets starts
-    ended h = record { repeats = filed_once numbers i targets starts f h; filed = λ e. filed_all numbers i targets starts f h }
-
-    module _ (more : i + 1 < length numbers) (b : Bool) (asked : b ≡ there targets starts (move_at numbers i).0 (move_at numbers i).1) where
-      pub refused : b ≡ true → FiledAll size numbers true targets starts
-      refused h = record { repeats = filed_twice numbers i targets starts f more b asked h; filed = λ e. absurd (true≢false e) }
-
-      pub went_on : (targets₀ starts₀ : List ℕ) → Limits size numbers targets₀ starts₀ → b ≡ false → (targets' starts' : List ℕ)
-          → rows_of targets' starts' ≡ inserted size (move_at numbers i).0 (move_at numbers i).1 (rows_of targets starts) → FiledTo numbers (i + 2) targets' starts'
-      went_on targets₀ starts₀ l h targets' starts' new = filed_more numbers i targets starts f more b asked l.within l.few h targets' starts' new
-
 -- ---- the trial of a load
-
-pub not_refused : {n : ℕ} → Accepted ≡ Refused n → ⊥
-not_refused e = let z : ◌≡◌ {A = ℕ} 0 1 = cc in omega arith
 
 pub not_accepted : {n : ℕ} → Refused n ≡ Accepted → ⊥
 not_accepted e = let z : ◌≡◌ {A = ℕ} 0 1 = cc in omega arith

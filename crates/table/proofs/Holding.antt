@@ -15,7 +15,7 @@ use Rattle.plain.proofs.Limits.{size_few}
 use Rattle.plain.proofs.Demands.{target_below, source_below, inside_game}
 use Rattle.look.specs.Scan.{plain_layout, row_laid}
 use Rattle.look.proofs.Scans.{laid_plain}
-use Rattle.rows.specs.Change.{Rows}
+use Rattle.rows.specs.declared.Rows.{Rows}
 use Rattle.layers.specs.Packed.{Packed}
 use Rattle.layers.proofs.Rows.{GameHeld}
 use Rattle.table.specs.Filing.{Filed, FourKinds}

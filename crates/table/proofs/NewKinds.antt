@@ -13,7 +13,8 @@ use Rattle.plain.proofs.NewKinds.{kept_kinds, kept_words, valid_kinds}
 use Rattle.plain.proofs.Demands.{inside_game}
 use Rattle.layers.specs.Packed.{ClearedFrom}
 use Rattle.layers.proofs.Clearing.{packed_kinds}
-use Rattle.table.specs.Trials.{Arrays, kinds_trial_in}
+use Rattle.table.specs.Trials.{kinds_trial_in}
+use Rattle.table.specs.declared.Arrays.{Arrays}
 use Rattle.table.specs.Filing.{Stored, with_words}
 
 module _ (k : ℕ) (t : Table) (ok : Valid t) (a : Arrays) (s : Stored t a) where

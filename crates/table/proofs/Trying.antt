@@ -1,17 +1,18 @@
 -- Trials: the number of the first condition that holds; what the early trial of a load tells of the whole one. Assumes nothing.
 use mathlib.Core.Path.{◌≡◌, refl, sym, ap, ◌∙◌}
-use mathlib.Core.Logic.{⊎_elim}
+use mathlib.Core.Logic.{◌⊎◌, ⊎_elim}
 use mathlib.Core.Bool.{Bool, true, false}
 use mathlib.Core.List.{List, [], ◌∷◌, ◌++◌}
 use Prim.Native.Nat.{ℕ, ◌%◌, ◌≤◌, ◌<◌}
 use native.Mathlib.Omega.{arith}
 use lib.Dec.{eqb, ltb}
 use lib.ListN.{length}
-use borrow.Author.Tests.{eq-eqb, ne_eqb, lt-ltb, le-ltb}
+use borrow.Author.Tests.{ne_eqb, lt-ltb, le-ltb}
+use Rattle.std.proofs.lemmas.Bool.Decides.{nat_tests}
 use Rattle.plain.specs.Lists.{any}
 use Rattle.plain.specs.Table.{by_kind}
 use Rattle.plain.specs.Refusals.{Trial as PlainTrial, accepted, refused, first_held, bad_size, bad_count, outside, short_room, room_condition, pairs, repeated, load_trial}
-use Rattle.plain.proofs.Tests.{either, or_first, or_second, or_neither}
+use Rattle.plain.proofs.Tests.{either, or_neither}
 use Rattle.plain.proofs.Trials.{unheld}
 use Rattle.table.specs.declared.Trial.{Trial}
 use Rattle.table.specs.declared.Trial.TheVariants.{Accepted, Refused}
@@ -75,13 +76,9 @@ free_before (c ∷ cs) ds e =
 -- ---- conditions of a load
 
 module _ (n : ℕ) where
-  pub size_none : n ≡ 0 → bad_size n ≡ true
+  pub size_outside : (n ≡ 0) ⊎ ((n ≡ 0 → ⊥) × (512 < n)) → bad_size n ≡ true
   unfolding bad_size
-  size_none e = or_first (eqb n 0) (ltb 512 n) (eq-eqb n 0 e)
-
-  pub size_large : 512 < n → bad_size n ≡ true
-  unfolding bad_size
-  size_large h = or_second (eqb n 0) (ltb 512 n) (lt-ltb 512 n h)
+  size_outside h = grind (arith, nat_tests)
 
   pub size_fine : (n ≡ 0 → ⊥) → n ≤ 512 → bad_size n ≡ false
   unfolding bad_size
@@ -95,14 +92,9 @@ module _ (n : ℕ) where
   unfolding short_room
   room_enough room h = le-ltb room n h
 
-module _ (ns : List ℕ) where
-  pub count_odd : length ns % 2 ≡ 1 → bad_count ns ≡ true
-  unfolding bad_count
-  count_odd e = or_first (eqb (length ns % 2) 1) (ltb 4096 (length ns)) (eq-eqb (length ns % 2) 1 e)
-
-  pub count_large : 4096 < length ns → bad_count ns ≡ true
-  unfolding bad_count
-  count_large h = or_second (eqb (length ns % 2) 1) (ltb 4096 (length ns)) (lt-ltb 4096 (length ns) h)
+pub count_wrong : (ns : List ℕ) → (length ns % 2 ≡ 1) ⊎ ((length ns % 2 ≡ 1 → ⊥) × (4096 < length ns)) → bad_count ns ≡ true
+unfolding bad_count
+count_wrong ns h = grind (arith, nat_tests)
 
 -- ---- the early trial of a load
 

@@ -7,14 +7,16 @@ use Rattle.plain.specs.Refusals.{outside, pairs, repeated, Load, load_trial}
 use Rattle.plain.specs.Layers.{copy}
 use Rattle.plain.specs.Questions.{in_degree}
 use Rattle.rows.specs.Rows.{row_at, edge_count, place_of, Compressed}
-use Rattle.rows.specs.Change.{Rows, rows_of, inserted, removed}
+use Rattle.rows.specs.declared.Rows.{Rows}
+use Rattle.rows.specs.Change.{rows_of, inserted, removed}
 use Rattle.look.specs.Numbers.{further}
 use Rattle.layers.specs.Packed.{Packed, ClearedFrom}
 use Rattle.table.specs.declared.Op.{Op}
 use Rattle.table.specs.declared.Op.TheVariants.{Add, Cut, Mark, Unmark}
 use Rattle.table.specs.declared.Trial.{Trial}
 use Rattle.table.specs.declared.Trial.TheVariants.{Accepted, Refused}
-use Rattle.table.specs.Trials.{Arrays, tried, trial_in, kinds_trial_in}
+use Rattle.table.specs.Trials.{tried, trial_in, kinds_trial_in}
+use Rattle.table.specs.declared.Arrays.{Arrays}
 
 -- the rows hold these edges: the row of each state has the targets of those that leave it, oldest first
 pub record Filed (size : ℕ) (edges : List Edge) (rows : Rows) : Type 0 where

@@ -6,22 +6,17 @@ use Rattle.plain.specs.Layers.{copy}
 use Rattle.plain.specs.Refusals.{Trial as PlainTrial, accepted, refused, first_held, bad_size, bad_start, bad_marks, bad_count, bad_kinds, outside, beyond, room_condition, pairs}
 use Rattle.plain.specs.Machine.{Change, add, cut, mark, unmark}
 use Rattle.rows.specs.Rows.{row_at, degree_at, edge_count, place_of, Tabled}
-use Rattle.rows.specs.Change.{Rows, rows_of}
+use Rattle.rows.specs.declared.Rows.{Rows}
+use Rattle.rows.specs.Change.{rows_of}
+use Rattle.table.specs.declared.Arrays.{Arrays}
 use Rattle.table.specs.declared.Op.{Op}
 use Rattle.table.specs.declared.Op.TheVariants.{Add, Cut, Mark, Unmark}
 use Rattle.table.specs.declared.Subject.{Subject}
-use Rattle.table.specs.declared.Subject.TheVariants as Subject
 use Rattle.table.specs.declared.Switch.{Switch}
 use Rattle.table.specs.declared.Trial.{Trial}
 use Rattle.table.specs.declared.Trial.TheVariants.{Accepted, Refused}
 
--- the table's arrays: the moves as rows, the words of the paying marks, and for each state the count of moves that enter it
-pub record Arrays : Type 0 where
-  pub rows : Rows
-  pub words : List ℕ
-  pub indegree : List ℕ
-
--- the same of lent arrays
+-- the table's arrays, of lists
 abbrev pub arrays_of : List ℕ → List ℕ → List ℕ → List ℕ → Arrays
 arrays_of targets starts words indegree = record { rows = rows_of targets starts; words = words; indegree = indegree }
 

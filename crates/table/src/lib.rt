@@ -1,18 +1,17 @@
 // The game's table in its arrays: a load and changes are tried on it, and accepted ones are filed in its rows and its marks. No search.
 #![tactic(auto)]
 
-ghost use Rattle.std.specs.Prelude.{◌≡◌, length, ◌<◌};
+ghost use Rattle.std.specs.Prelude.{◌≡◌, ◌<◌};
 ghost use Rattle.plain.specs.Lists.{any, any_below};
 ghost use Rattle.plain.specs.Table.{by_kind};
 ghost use Rattle.plain.specs.Refusals.{first_held, bad_marks, bad_kinds, outside, room_condition, pairs};
-ghost use Rattle.rows.specs.Rows.{Tabled};
-ghost use Rattle.rows.specs.Change.{rows_of};
-ghost use Rattle.table.specs.Trials.{arrays_of, op_of, tried, bad_mark, early_trial, there, carries_in, add_conditions, cut_conditions, mark_conditions, unmark_conditions, conditions_in, trial_in, kinds_trial_in};
+ghost use Rattle.table.specs.Trials.{op_of, tried, bad_mark, early_trial, there, carries_in, add_conditions, cut_conditions, mark_conditions, unmark_conditions, conditions_in, trial_in, kinds_trial_in};
 ghost use Rattle.table.specs.Filing.{recounted, counted_all, filed_in, Attempted, Empty, Limits, FiledAll, Tried, AttemptedKinds};
 
-use rows::wide;
+use rows::{Rows, wide};
 
 // Where a refusal stands: it is that of the call, or that of a line of a batch, with its position.
+// Kept: no `Option<u16>`, which would be no plainer: that of a call stands somewhere too.
 #[derive(Clone, Copy)]
 pub enum Position {
     Alone,
@@ -42,12 +41,19 @@ pub enum Subject {
     Mark { state: u16, kind: u16 },
 }
 
-// A change as it is made: what is switched, and whether it comes or goes. Every test of it has two ways out: a match of the four kinds between the copies of the
-// session out and in would cost a third copy (docs/DECISIONS.md, 68).
+// A change as it is made: what is switched, and whether it comes or goes. Every test of it has two ways out (docs/DECISIONS.md, 68).
 #[derive(Clone, Copy)]
 pub struct Switch {
     pub on: bool,
     pub subject: Subject,
+}
+
+// The table's arrays: the moves as rows, the words of the paying marks, and for each state the count of moves that enter it.
+#[derive(Clone, Copy)]
+pub struct Arrays {
+    pub rows: Rows,
+    pub words: [u64; 8],
+    pub indegree: [u16; 512],
 }
 
 // What trying a call comes to: the number of the first condition that holds.
@@ -74,16 +80,9 @@ fn kind_outside(marks: &[u64; 32], kind: usize, size: u16, kinds: u16) -> bool
     requires { kind < 4 }
     ensures { result ≡ any_below 512 (bad_mark size kinds (by_kind marks.now) kind) }
 {
-    let mut s: usize = BITS;
-    while 0 < s {
-        s -= 1;
-        if marks::accepts_in(marks, BITS * kind + s) {
-            if wide(kinds) <= kind {
-                return true;
-            }
-            if wide(size) <= s {
-                return true;
-            }
+    for s in 0..BITS {
+        if (wide(size) <= s || wide(kinds) <= kind) && marks::accepts_in(marks, BITS * kind + s) {
+            return true;
         }
     }
     false
@@ -93,9 +92,7 @@ fn kind_outside(marks: &[u64; 32], kind: usize, size: u16, kinds: u16) -> bool
 fn marks_outside(marks: &[u64; 32], size: u16, kinds: u16) -> bool
     ensures { result ≡ bad_marks size kinds (by_kind marks.now) }
 {
-    let mut kind: usize = wide(KINDS);
-    while 0 < kind {
-        kind -= 1;
+    for kind in 0..wide(KINDS) {
         if kind_outside(marks, kind, size, kinds) {
             return true;
         }
@@ -103,19 +100,21 @@ fn marks_outside(marks: &[u64; 32], size: u16, kinds: u16) -> bool
     false
 }
 
-// Does a move of the list name a number that is not below the count of states?
+// Does a move name a number that is not below the count of states?
+fn is_outside(size: u16, from: u16, to: u16) -> bool
+    ensures { result ≡ outside size (from, to) }
+{
+    size <= from || size <= to
+}
+
+// Does a move of the list name such a number?
 fn any_outside(numbers: &[u16], size: u16) -> bool
     ensures { result ≡ any (outside size) (pairs numbers.now) }
 {
-    let mut i: usize = 0;
-    while i + 1 < numbers.len() {
-        if size <= numbers[i] {
+    for edge in numbers.chunks_exact(2) {
+        if is_outside(size, edge[0], edge[1]) {
             return true;
         }
-        if size <= numbers[i + 1] {
-            return true;
-        }
-        i += 2;
     }
     false
 }
@@ -125,26 +124,14 @@ fn kinds_outside(kinds: u16, size: u16, moves: usize) -> bool
     requires { moves < 65536 }
     ensures { result ≡ bad_kinds kinds size moves }
 {
-    if kinds == 0 {
-        return true;
-    }
-    if KINDS < kinds {
-        return true;
-    }
-    if COPIES < look::times(size, kinds) {
-        return true;
-    }
-    MOVES < moves * wide(kinds)
+    kinds == 0 || KINDS < kinds || COPIES < look::times(size, kinds) || MOVES < moves * wide(kinds)
 }
 
 // Refusals 2 to 6 of a load, 16 among them.
 fn early_trial(size: u16, start: u16, kinds: u16, marks: &[u64; 32], numbers: &[u16]) -> Trial
     ensures { result ≡ tried (early_trial size start kinds marks.now numbers.now) }
 {
-    if size == 0 {
-        return Trial::Refused(2);
-    }
-    if rows::STATES < size {
+    if size == 0 || rows::STATES < size {
         return Trial::Refused(2);
     }
     if size <= start {
@@ -153,10 +140,7 @@ fn early_trial(size: u16, start: u16, kinds: u16, marks: &[u64; 32], numbers: &[
     if marks_outside(marks, size, kinds) {
         return Trial::Refused(4);
     }
-    if numbers.len() % 2 == 1 {
-        return Trial::Refused(5);
-    }
-    if NUMBERS < numbers.len() {
+    if numbers.len() % 2 == 1 || NUMBERS < numbers.len() {
         return Trial::Refused(5);
     }
     if kinds_outside(kinds, size, numbers.len() / 2) {
@@ -169,27 +153,24 @@ fn early_trial(size: u16, start: u16, kinds: u16, marks: &[u64; 32], numbers: &[
 }
 
 // Is the move there?
-fn is_there(targets: &[u16; 2048], starts: &[u16; 513], from: u16, to: u16) -> bool
-    requires { Tabled targets.now starts.now }
-    ensures { result ≡ there targets.now starts.now from to }
+fn is_there(rows: &Rows, from: u16, to: u16) -> bool
+    ensures { result ≡ there rows.now.targets rows.now.starts from to }
 {
-    rows::place(targets, starts, from, to) < rows::degree(starts, from)
+    rows.place(from, to) < rows.degree(from)
 }
 
 // Files the moves of the list into empty rows, in their order, until one stands twice: was there one?
-fn file_all(numbers: &[u16], size: u16, targets: &mut [u16; 2048], starts: &mut [u16; 513]) -> bool
-    requires { Limits size numbers.now targets.old starts.old }
-    ensures { FiledAll size numbers.now result targets.new starts.new }
+fn file_all(numbers: &[u16], size: u16, rows: &mut Rows) -> bool
+    requires { Limits size numbers.now rows.old.targets rows.old.starts }
+    ensures { FiledAll size numbers.now result rows.new.targets rows.new.starts }
 {
-    let mut i: usize = 0;
-    while i + 1 < numbers.len() {
-        let from = numbers[i];
-        let to = numbers[i + 1];
-        if is_there(targets, starts, from, to) {
+    for edge in numbers.chunks_exact(2) {
+        let from = edge[0];
+        let to = edge[1];
+        if is_there(rows, from, to) {
             return true;
         }
-        rows::insert(targets, starts, size, from, to);
-        i += 2;
+        rows.insert(size, from, to);
     }
     false
 }
@@ -211,52 +192,33 @@ pub fn load_trial(
     kinds: u16,
     marks: &[u64; 32],
     numbers: &[u16],
-    targets: &mut [u16; 2048],
-    starts: &mut [u16; 513],
+    rows: &mut Rows,
     room: usize,
 ) -> Trial
-    requires { Empty targets.old starts.old }
-    ensures { Tried (record { size = size; start = start; kinds = kinds; marks = by_kind marks.now; numbers = numbers.now }) room result targets.new starts.new }
+    requires { Empty rows.old.targets rows.old.starts }
+    ensures { Tried (record { size = size; start = start; kinds = kinds; marks = by_kind marks.now; numbers = numbers.now }) room result rows.new.targets rows.new.starts }
 {
     let early = early_trial(size, start, kinds, marks, numbers);
     if let Trial::Refused(n) = early {
         return Trial::Refused(n);
     }
-    if file_all(numbers, size, targets, starts) {
+    if file_all(numbers, size, rows) {
         return Trial::Refused(8);
     }
     room_trial(size, kinds, room)
 }
 
-// Does a move name a number that is not below the count of states?
-fn is_outside(size: u16, from: u16, to: u16) -> bool
-    ensures { result ≡ outside size (from, to) }
-{
-    if size <= from {
-        return true;
-    }
-    size <= to
-}
-
 // Refusals 6, 8 and 9 of an add.
-fn add_trial(
-    size: u16,
-    kinds: u16,
-    targets: &[u16; 2048],
-    starts: &[u16; 513],
-    from: u16,
-    to: u16,
-) -> Trial
-    requires { Tabled targets.now starts.now }
-    ensures { result ≡ tried (first_held (add_conditions size kinds targets.now starts.now from to)) }
+fn add_trial(size: u16, kinds: u16, rows: &Rows, from: u16, to: u16) -> Trial
+    ensures { result ≡ tried (first_held (add_conditions size kinds rows.now.targets rows.now.starts from to)) }
 {
     if is_outside(size, from, to) {
         return Trial::Refused(6);
     }
-    if is_there(targets, starts, from, to) {
+    if is_there(rows, from, to) {
         return Trial::Refused(8);
     }
-    let present = rows::edge_count(starts, size);
+    let present = rows.edge_count(size);
     if MOVES < look::times(present, kinds) + wide(kinds) {
         return Trial::Refused(9);
     }
@@ -264,14 +226,13 @@ fn add_trial(
 }
 
 // Refusals 6 and 10 of a cut.
-fn cut_trial(size: u16, targets: &[u16; 2048], starts: &[u16; 513], from: u16, to: u16) -> Trial
-    requires { Tabled targets.now starts.now }
-    ensures { result ≡ tried (first_held (cut_conditions size targets.now starts.now from to)) }
+fn cut_trial(size: u16, rows: &Rows, from: u16, to: u16) -> Trial
+    ensures { result ≡ tried (first_held (cut_conditions size rows.now.targets rows.now.starts from to)) }
 {
     if is_outside(size, from, to) {
         return Trial::Refused(6);
     }
-    if !is_there(targets, starts, from, to) {
+    if !is_there(rows, from, to) {
         return Trial::Refused(10);
     }
     Trial::Accepted
@@ -317,48 +278,32 @@ fn unmark_trial(size: u16, kinds: u16, words: &[u64; 8], state: u16, kind: u16) 
 }
 
 // The refusals of a change itself.
-fn own_trial(
-    switch: Switch,
-    size: u16,
-    kinds: u16,
-    targets: &[u16; 2048],
-    starts: &[u16; 513],
-    words: &[u64; 8],
-) -> Trial
-    requires { Tabled targets.now starts.now }
-    ensures { result ≡ tried (first_held (conditions_in (op_of switch) size kinds (rows_of targets.now starts.now) words.now)) }
+fn own_trial(switch: Switch, size: u16, kinds: u16, arrays: &Arrays) -> Trial
+    ensures { result ≡ tried (first_held (conditions_in (op_of switch) size kinds arrays.now.rows arrays.now.words)) }
 {
-    let subject = switch.subject;
-    match subject {
+    match switch.subject {
         Subject::Edge { from, to } => {
             if switch.on {
-                return add_trial(size, kinds, targets, starts, from, to);
+                add_trial(size, kinds, &arrays.rows, from, to)
+            } else {
+                cut_trial(size, &arrays.rows, from, to)
             }
-            cut_trial(size, targets, starts, from, to)
         }
         Subject::Mark { state, kind } => {
             if switch.on {
-                return mark_trial(size, kinds, words, state, kind);
+                mark_trial(size, kinds, &arrays.words, state, kind)
+            } else {
+                unmark_trial(size, kinds, &arrays.words, state, kind)
             }
-            unmark_trial(size, kinds, words, state, kind)
         }
     }
 }
 
 // Tries a change whose kind, if it has one, is 1 to 4: 11 comes behind its own refusals.
-fn change_trial(
-    switch: Switch,
-    size: u16,
-    kinds: u16,
-    targets: &[u16; 2048],
-    starts: &[u16; 513],
-    words: &[u64; 8],
-    room: usize,
-) -> Trial
-    requires { Tabled targets.now starts.now }
-    ensures { result ≡ tried (trial_in (op_of switch) size kinds (rows_of targets.now starts.now) words.now room) }
+fn change_trial(switch: Switch, size: u16, kinds: u16, arrays: &Arrays, room: usize) -> Trial
+    ensures { result ≡ tried (trial_in (op_of switch) size kinds arrays.now.rows arrays.now.words room) }
 {
-    let own = own_trial(switch, size, kinds, targets, starts, words);
+    let own = own_trial(switch, size, kinds, arrays);
     if let Trial::Refused(n) = own {
         return Trial::Refused(n);
     }
@@ -367,59 +312,47 @@ fn change_trial(
 
 // One edge more enters a state, or one fewer.
 fn count_edge(indegree: &mut [u16; 512], to: u16, more: bool)
-    requires { length indegree.old ≡ 512 }
     ensures { indegree.new ≡ recounted more to indegree.old }
 {
     let n = look::get(indegree, to);
-    if more {
-        look::put(indegree, to, look::further(n));
-        return;
-    }
-    look::put(indegree, to, look::down(n));
+    let changed = if more {
+        look::further(n)
+    } else {
+        look::down(n)
+    };
+    look::put(indegree, to, changed);
 }
 
 // Counts the moves of the list, each at the state that it enters.
 pub fn count_edges(numbers: &[u16], indegree: &mut [u16; 512])
-    requires { length indegree.old ≡ 512 }
     ensures { indegree.new ≡ counted_all (pairs numbers.now) indegree.old }
 {
-    let mut i: usize = 0;
-    while i + 1 < numbers.len() {
-        count_edge(indegree, numbers[i + 1], true);
-        i += 2;
+    for edge in numbers.chunks_exact(2) {
+        count_edge(indegree, edge[1], true);
     }
 }
 
 // The change is made in the arrays.
-fn file_one(
-    switch: Switch,
-    size: u16,
-    targets: &mut [u16; 2048],
-    starts: &mut [u16; 513],
-    words: &mut [u64; 8],
-    indegree: &mut [u16; 512],
-)
-    requires { Tabled targets.old starts.old × (length indegree.old ≡ 512) }
-    ensures { arrays_of targets.new starts.new words.new indegree.new ≡ filed_in (op_of switch) size (arrays_of targets.old starts.old words.old indegree.old) }
+fn file_one(switch: Switch, size: u16, arrays: &mut Arrays)
+    ensures { arrays.new ≡ filed_in (op_of switch) size arrays.old }
 {
-    let subject = switch.subject;
-    match subject {
+    match switch.subject {
         Subject::Edge { from, to } => {
-            count_edge(indegree, to, switch.on);
+            count_edge(&mut arrays.indegree, to, switch.on);
             if switch.on {
-                rows::insert(targets, starts, size, from, to);
-                return;
+                arrays.rows.insert(size, from, to);
+            } else {
+                let k = arrays.rows.place(from, to);
+                arrays.rows.remove(size, from, k);
             }
-            let k = rows::place(targets, starts, from, to);
-            rows::remove(targets, starts, size, from, k);
         }
         Subject::Mark { state, kind } => {
             let copy = layers::copy_of(size, look::down(kind), state);
             if switch.on {
-                marks::set_mark(words, copy);
-                return;
+                marks::set_mark(&mut arrays.words, copy);
+            } else {
+                marks::clear_mark(&mut arrays.words, copy);
             }
-            marks::clear_mark(words, copy);
         }
     }
 }
@@ -429,32 +362,27 @@ pub fn attempt_change(
     switch: Switch,
     size: u16,
     kinds: u16,
-    targets: &mut [u16; 2048],
-    starts: &mut [u16; 513],
-    words: &mut [u64; 8],
-    indegree: &mut [u16; 512],
+    arrays: &mut Arrays,
     room: usize,
 ) -> Trial
-    requires { Tabled targets.old starts.old × (length indegree.old ≡ 512) }
-    ensures { Attempted (op_of switch) size kinds room (arrays_of targets.old starts.old words.old indegree.old) result (arrays_of targets.new starts.new words.new indegree.new) }
+    ensures { Attempted (op_of switch) size kinds room arrays.old result arrays.new }
 {
-    let trial = change_trial(switch, size, kinds, targets, starts, words, room);
+    let trial = change_trial(switch, size, kinds, arrays, room);
     if let Trial::Refused(n) = trial {
         return Trial::Refused(n);
     }
-    file_one(switch, size, targets, starts, words, indegree);
+    file_one(switch, size, arrays);
     Trial::Accepted
 }
 
 // Refusals 16 and 11 of another count of kinds, and ahead of them that there is a game.
-fn kinds_trial(new: u16, size: u16, starts: &[u16; 513], room: usize) -> Trial
-    requires { length starts.now ≡ 513 }
-    ensures { result ≡ tried (kinds_trial_in new size starts.now room) }
+fn kinds_trial(new: u16, size: u16, rows: &Rows, room: usize) -> Trial
+    ensures { result ≡ tried (kinds_trial_in new size rows.now.starts room) }
 {
     if size == 0 {
         return Trial::Refused(2);
     }
-    if kinds_outside(new, size, wide(rows::edge_count(starts, size))) {
+    if kinds_outside(new, size, wide(rows.edge_count(size))) {
         return Trial::Refused(16);
     }
     room_trial(size, new, room)
@@ -465,14 +393,13 @@ pub fn attempt_kinds(
     new: u16,
     size: u16,
     kinds: u16,
-    starts: &[u16; 513],
+    rows: &Rows,
     words: &mut [u64; 8],
     room: usize,
 ) -> Trial
-    requires { length starts.now ≡ 513 }
-    ensures { AttemptedKinds new size kinds room starts.now words.old result words.new }
+    ensures { AttemptedKinds new size kinds room rows.now.starts words.old result words.new }
 {
-    let trial = kinds_trial(new, size, starts, room);
+    let trial = kinds_trial(new, size, rows, room);
     if let Trial::Refused(n) = trial {
         return Trial::Refused(n);
     }

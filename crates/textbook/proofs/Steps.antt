@@ -8,6 +8,7 @@ use native.Mathlib.Omega.{arith}
 use lib.Dec.{eqb, ltb}
 use lib.ListN.{length, get_or, set, drop, length-append}
 use borrow.Author.Tests.{lt-ltb, le-ltb}
+use Rattle.std.specs.Prelude.{Option, None, Some}
 use Rattle.plain.specs.Lists.{elem, In, before, from, Begins}
 use Rattle.plain.specs.Search.{Graph, Edge, Frame, frame, on_path, Config, outer, nested, marked_of, discovered_of, count, steps, step, visit, finish, probe, states_of, stem_of, cycle_of}
 use Rattle.plain.specs.Limits.{Limits}
@@ -21,11 +22,11 @@ use Rattle.rows.specs.Rows.{entries, place_of}
 use Rattle.rows.proofs.Entries.{entries_front}
 use Rattle.table.proofs.Places.{place_hit, place_miss, has_place_lem, same_test}
 use Rattle.look.specs.Numbers.{up}
-use Rattle.look.specs.Scan.{Layout}
+use Rattle.look.specs.declared.Layout.{Layout}
 use Rattle.look.proofs.Counting.{up_more}
-use Rattle.textbook.specs.declared.Finding.{Finding}
-use Rattle.textbook.specs.declared.Finding.TheVariants.{Clear, Round}
-use Rattle.textbook.specs.Search.{Board, board_of, Reads, conf, under, Reached, Shows, Going, Stopped, Ends}
+use Rattle.textbook.specs.declared.Walk.{Walk}
+use Rattle.textbook.specs.Search.{board_of, Reads, conf, under, Reached, Shows, Going, Stopped, Ends}
+use Rattle.textbook.specs.declared.Board.{Board}
 use Rattle.look.specs.Sets.{Members}
 use Rattle.look.proofs.Sets.{members_insert}
 
@@ -306,10 +307,10 @@ module _ (g : Graph) where
       }
 
       -- "when the nested search ends without success, the state leaves the open path"
-      pub returns_outer : (r : Finding) → Ends g true v q [] B r → Ends g false s p q B r
+      pub returns_outer : (r : Option Walk) → Ends g true v q [] B r → Ends g false s p q B r
       unfolding step states_of
-      returns_outer (Round stem len) w = w
-      returns_outer Clear w = record {
+      returns_outer (Some walk) w = w
+      returns_outer None w = record {
         d = w.d;
         k = w.k;
         l = w.l;

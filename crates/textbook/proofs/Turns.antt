@@ -2,25 +2,27 @@
 use mathlib.Core.Path.{◌≡◌, refl, sym, ap, subst, subst⁻¹, ◌∙◌}
 use mathlib.Core.Bool.{Bool, true, false, ◌&&◌, cond}
 use mathlib.Core.List.{List, [], ◌∷◌}
-use Prim.Native.Nat.{ℕ, suc, ◌+◌, ◌≤◌, ◌<◌}
+use Prim.Native.Nat.{ℕ, suc, ◌+◌, ◌%◌, ◌≤◌, ◌<◌}
 use native.Mathlib.Numerals.{add-one}
 use native.Mathlib.Omega.{arith}
 use lib.Dec.{ltb}
 use lib.ListN.{length, get_or, set, drop, length-set, drop_of_length-le}
 use lib.Seq.{drop-cons}
 use borrow.Author.Tests.{lt-ltb, le-ltb}
+use Rattle.std.specs.Prelude.{Option, None, Some, is_some}
 use Rattle.plain.specs.Search.{Graph, Edge, Frame, frame}
 use Rattle.plain.proofs.Tests.{contra}
 use Rattle.plain.proofs.Paths.{Off}
 use Rattle.rows.specs.Rows.{entries, place_of}
 use Rattle.look.specs.declared.Stretch.{Stretch}
 use Rattle.look.specs.Numbers.{up}
-use Rattle.look.specs.Scan.{Layout, Stretches, lifted, row_laid}
-use Rattle.look.proofs.Counting.{up_more}
+use Rattle.look.specs.Scan.{Stretches, lifted, row_laid}
+use Rattle.look.specs.declared.Layout.{Layout}
+use Rattle.look.proofs.Counting.{up_is, up_more}
 use Rattle.look.proofs.Scans.{laid_length, laid_at}
-use Rattle.textbook.specs.declared.Finding.{Finding}
-use Rattle.textbook.specs.declared.Finding.TheVariants.{Clear, Round}
-use Rattle.textbook.specs.Search.{is_round, missing, Board, board_of, Kept, Reads, conf, under, Reached, Shows, Going, Stopped, Ends, Visits, Leads, Explores}
+use Rattle.textbook.specs.declared.Walk.{Walk}
+use Rattle.textbook.specs.Search.{missing, Kept, Reads, conf, under, Reached, Shows, Going, Stopped, Ends, Visits, Leads, Explores}
+use Rattle.textbook.specs.declared.Board.{Board}
 use Rattle.textbook.proofs.Sets.{missing_insert}
 use Rattle.textbook.proofs.Steps.{own, looked_at, Entered, top_below, enter_room, entered, passes, enters, apart, closes, leaves_nested, leaves_outer, starts_nested, returns_outer}
 
@@ -67,16 +69,21 @@ kept_entered {B} {C} {v} {place} false y = record {
 drop_next : (xs : List ℕ) (e : ℕ) → e < length xs → drop e xs ≡ get_or xs e 0 ∷ drop (e + 1) xs
 drop_next xs e h = drop-cons xs e 0 h ∙ ap (λ (i : ℕ). get_or xs e 0 ∷ drop i xs) (sym (add-one e))
 
--- an edge of the row of v, by its place
-module _ (targets : List ℕ) {layout : Layout} {v : ℕ} {r : Stretch} (z : Stretches layout v r) {e : ℕ} (more : e < r.count) where
-  -- the row has it
-  pub edge_there : e < length (row_laid targets layout v)
-  edge_there = omega (arith, laid_length targets layout v r z)
+-- an edge of a row is taken: by its place, its target is handed out, and the look is counted
+pub record Taken (row : List ℕ) (e spent t spent' : ℕ) : Type 0 where
+  pub there : e < length row
+  pub target : t ≡ get_or row e 0
+  pub counted : spent' ≡ up spent
 
-  -- what a look hands out, raised, is its target
-  pub edge_target : {x t : ℕ} → x ≡ get_or targets (r.from + e) 0 → t ≡ lifted r.base x → t ≡ get_or (row_laid targets layout v) e 0
-  unfolding lifted
-  edge_target {x} {t} a b = b ∙ laid_at targets layout v r z e more x a
+-- what a look hands out, raised, is the target of an edge of the row of v
+pub taken : (targets : List ℕ) {layout : Layout} {v : ℕ} {r : Stretch} → Stretches layout v r → {e spent x t spent' : ℕ} → e < r.count
+    → (x ≡ get_or targets (r.from + e) 0) × (spent' ≡ (spent + 1) % 65536) → t ≡ lifted r.base x → Taken (row_laid targets layout v) e spent t spent'
+unfolding lifted
+taken targets {layout} {v} {r} z {e} {spent} {x} more look lift = record {
+  there = omega (arith, laid_length targets layout v r z);
+  target = lift ∙ laid_at targets layout v r z e more x look.0;
+  counted = look.1 ∙ sym (up_is spent);
+}
 
 -- ---- a turn of the loop: the edges of the row up to a place are taken
 
@@ -88,21 +95,14 @@ pub record Turns (row : List ℕ) (P : Graph → Type 0) (nesting : Bool) (v hei
 going : {g : Graph} {nesting : Bool} {s : ℕ} {p q : List Frame} {v : ℕ} {B : Board} {ts us : List ℕ} → ts ≡ us → Going g nesting s p (frame v ts ∷ q) B → Going g nesting s p (frame v us ∷ q) B
 going {g} {nesting} {s} {p} {q} {v} {B} e w = subst (λ (ys : List ℕ). Going g nesting s p (frame v ys ∷ q) B) e w
 
--- the same with the board under another name
-pub renamed : {row : List ℕ} {P : Graph → Type 0} {nesting : Bool} {v height place : ℕ} {B : Board} {met marked met' marked' : List Bool} {walk walk' : List ℕ} {spent spent' e : ℕ}
-    → met' ≡ met → marked' ≡ marked → walk' ≡ walk → spent' ≡ spent → Turns row P nesting v height place B (board_of met marked walk spent) e
-    → Turns row P nesting v height place B (board_of met' marked' walk' spent') e
-renamed {row} {P} {nesting} {v} {height} {place} {B} {e = e} e₁ e₂ e₃ e₄ w =
-    subst⁻¹ (λ (C : Board). Turns row P nesting v height place B C e) (λ i. board_of (e₁ i) (e₂ i) (e₃ i) (e₄ i)) w
-
 -- where a round was found, everything stops, whatever path is worked on; where none was, the search goes on
-round_stays : (r : Finding) → is_round r ≡ true → (g : Graph) (nesting : Bool) (s : ℕ) (p q q' : List Frame) (B : Board) → Ends g nesting s p q B r → Ends g nesting s p q' B r
-round_stays Clear e g nesting s p q q' B w = absurd (contra e refl)
-round_stays (Round stem len) e g nesting s p q q' B w = w
+round_stays : (r : Option Walk) → is_some r ≡ true → (g : Graph) (nesting : Bool) (s : ℕ) (p q q' : List Frame) (B : Board) → Ends g nesting s p q B r → Ends g nesting s p q' B r
+round_stays None e g nesting s p q q' B w = absurd (contra e refl)
+round_stays (Some walk) e g nesting s p q q' B w = w
 
-clear_goes : (r : Finding) → is_round r ≡ false → (g : Graph) (nesting : Bool) (s : ℕ) (p q : List Frame) (B : Board) → Ends g nesting s p q B r → Going g nesting s p q B
-clear_goes Clear e g nesting s p q B w = w
-clear_goes (Round stem len) e g nesting s p q B w = absurd (contra refl e)
+clear_goes : (r : Option Walk) → is_some r ≡ false → (g : Graph) (nesting : Bool) (s : ℕ) (p q : List Frame) (B : Board) → Ends g nesting s p q B r → Going g nesting s p q B
+clear_goes None e g nesting s p q B w = w
+clear_goes (Some walk) e g nesting s p q B w = absurd (contra refl e)
 
 -- the nested search looks whether the target is on the open path: it is not
 abbrev pub OffPath : Bool → ℕ → ℕ → Board → Type 0
@@ -116,15 +116,14 @@ module _ {targets : List ℕ} {layout : Layout} {P : Graph → Type 0} (reads : 
     leads = λ g f s p q d k l i h high topped. going ((reads g f).rows v (top_below g (reads g f) nesting s p v (g.successors v) q d k l i)) (record { d = d; k = k; l = l; reached = i; shows = h });
   }
 
-  pub ends : {B C : Board} (e : ℕ) → length (row_laid targets layout v) ≤ e → Turns (row_laid targets layout v) P nesting v height place B C e → Explores P nesting v height place B C Clear
+  pub ends : {B C : Board} (e : ℕ) → length (row_laid targets layout v) ≤ e → Turns (row_laid targets layout v) P nesting v height place B C e → Explores P nesting v height place B C None
   ends e h w = record {
     kept = w.kept;
     leads = λ g f s p q d k l r i high topped. going (drop_of_length-le (row_laid targets layout v) h) (w.leads g f s p q d k l r i high topped);
   }
 
   -- a look at the edge at a place
-  module _ {B C : Board} {e : ℕ} (w : Turns (row_laid targets layout v) P nesting v height place B C e) (more : e < length (row_laid targets layout v)) {t : ℕ} (target : t ≡ get_or (row_laid targets layout v) e 0)
-      {spent' : ℕ} (raises : spent' ≡ up C.spent) where
+  module _ {B C : Board} {e : ℕ} (w : Turns (row_laid targets layout v) P nesting v height place B C e) {t spent' : ℕ} (edge : Taken (row_laid targets layout v) e C.spent t spent') where
     abbrev E : Board
     E = looked_at C spent'
 
@@ -133,7 +132,7 @@ module _ {targets : List ℕ} {layout : Layout} {P : Graph → Type 0} (reads : 
 
     looks : Leads P nesting v height place B (λ g s p q. Going g nesting s p (frame v (t ∷ rest) ∷ q) C)
     looks g y s p q d k l r h high topped =
-        going (drop_next (row_laid targets layout v) e more ∙ ap (λ (x : ℕ). x ∷ rest) (sym target)) (w.leads g y s p q d k l r h high topped)
+        going (drop_next (row_laid targets layout v) e edge.there ∙ ap (λ (x : ℕ). x ∷ rest) (sym edge.target)) (w.leads g y s p q d k l r h high topped)
 
     kept_here : Kept B E
     kept_here = record {
@@ -146,11 +145,11 @@ module _ {targets : List ℕ} {layout : Layout} {P : Graph → Type 0} (reads : 
 
     off_path : (g : Graph) → Reads targets layout g → (s : ℕ) (p q : List Frame) (d k : List ℕ) (l : List Edge) (b : Bool) → OffPath b height t C → (b ≡ true → height ≡ suc (length p))
         → Reached g (conf b s p (frame v (t ∷ rest) ∷ q) d k l) → Shows b C p (frame v (t ∷ rest) ∷ q) d k l → b ≡ true → Off t (frame s [] ∷ p)
-    off_path g f s p q d k l true o high r h e = apart g f C s p v t rest q d k l spent' raises height _ (high refl) refl r h (o refl)
+    off_path g f s p q d k l true o high r h e = apart g f C s p v t rest q d k l spent' edge.counted height _ (high refl) refl r h (o refl)
     off_path g f s p q d k l false o high r h e = absurd (contra e refl)
 
     -- a round is found
-    pub closed : nesting ≡ true → (stem : ℕ) → stem ≡ place_of t (entries height 0 C.walk) → stem < height → Explores P nesting v height place B E (Round stem place)
+    pub closed : nesting ≡ true → (stem : ℕ) → stem ≡ place_of t (entries height 0 C.walk) → stem < height → Explores P nesting v height place B E (Some (record { stem = stem; length = place }))
     closed is stem at low = record {
       kept = kept_here;
       leads = λ g y s p q d k l r h high topped. let z = looks g y s p q d k l r h high topped in by_search g (reads g y) s p q z nesting is high topped z.reached z.shows;
@@ -159,7 +158,7 @@ module _ {targets : List ℕ} {layout : Layout} {P : Graph → Type 0} (reads : 
         by_search : (g : Graph) → Reads targets layout g → (s : ℕ) (p q : List Frame) (z : Going g nesting s p (frame v (t ∷ rest) ∷ q) C) (b : Bool) → b ≡ true → (b ≡ true → height ≡ suc (length p))
             → place ≡ length (under b p) + suc (length q) → Reached g (conf b s p (frame v (t ∷ rest) ∷ q) z.d z.k z.l)
             → Shows b C p (frame v (t ∷ rest) ∷ q) z.d z.k z.l → Stopped g E stem place
-        by_search g f s p q z true i high topped r h = closes g f C s p v t rest q z.d z.k z.l spent' raises height stem (high refl) at r h place topped low
+        by_search g f s p q z true i high topped r h = closes g f C s p v t rest q z.d z.k z.l spent' edge.counted height stem (high refl) at r h place topped low
         by_search g f s p q z false i high topped r h = absurd (contra i refl)
 
     module _ (o : OffPath nesting height t C) where
@@ -169,24 +168,24 @@ module _ {targets : List ℕ} {layout : Layout} {P : Graph → Type 0} (reads : 
         kept = kept_here;
         leads = λ g y s p q d k l r h high topped.
             let z = looks g y s p q d k l r h high topped in
-            passes g (reads g y) C s p v t rest q z.d z.k z.l spent' raises nesting (off_path g (reads g y) s p q z.d z.k z.l nesting o high z.reached z.shows) z.reached z.shows e;
+            passes g (reads g y) C s p v t rest q z.d z.k z.l spent' edge.counted nesting (off_path g (reads g y) s p q z.d z.k z.l nesting o high z.reached z.shows) z.reached z.shows e;
       }
 
       -- it was not, and was visited
-      module _ (n : get_or (own nesting C) t true ≡ false) {F : Board} {r : Finding} (visited : Visits P nesting t height place E F r) where
+      module _ (n : get_or (own nesting C) t true ≡ false) {F : Board} {r : Option Walk} (visited : Visits P nesting t height place E F r) where
         leads_on : Leads P nesting v height place B (λ g s p q. Ends g nesting s p (frame v rest ∷ q) F r)
         leads_on g y s p q d k l i h high topped =
             let z = looks g y s p q d k l i h high topped in
-            let x = enters g (reads g y) C s p v t rest q z.d z.k z.l spent' raises nesting (off_path g (reads g y) s p q z.d z.k z.l nesting o high z.reached z.shows) z.reached z.shows n in
+            let x = enters g (reads g y) C s p v t rest q z.d z.k z.l spent' edge.counted nesting (off_path g (reads g y) s p q z.d z.k z.l nesting o high z.reached z.shows) z.reached z.shows n in
             visited.leads g y s p (frame v rest ∷ q) z.d z.k ((v, t) ∷ z.l) x.0 x.1 high topped
 
-        pub went_on : is_round r ≡ false → Turns (row_laid targets layout v) P nesting v height place B F (e + 1)
+        pub went_on : is_some r ≡ false → Turns (row_laid targets layout v) P nesting v height place B F (e + 1)
         went_on e = record {
           kept = kept_join kept_here visited.kept;
           leads = λ g y s p q d k l i h high topped. clear_goes r e g nesting s p (frame v rest ∷ q) F (leads_on g y s p q d k l i h high topped);
         }
 
-        pub stopped : is_round r ≡ true → Explores P nesting v height place B F r
+        pub stopped : is_some r ≡ true → Explores P nesting v height place B F r
         stopped e = record {
           kept = kept_join kept_here visited.kept;
           leads = λ g y s p q d k l i h high topped. round_stays r e g nesting s p (frame v rest ∷ q) (frame v [] ∷ q) F (leads_on g y s p q d k l i h high topped);
@@ -204,7 +203,7 @@ pays_beyond v size bit h = ap (λ (low : Bool). low && bit) (le-ltb v size h)
 
 module _ {targets : List ℕ} {layout : Layout} {P : Graph → Type 0} (reads : (g : Graph) → P g → Reads targets layout g) {nesting : Bool} {v height place : ℕ} {B C : Board}
     (y : Entered nesting v place B C) (own-size : length (own nesting B) ≡ 512) (walk_size : length B.walk ≡ 512) {place' : ℕ} (higher : place' ≡ up place)
-    {F : Board} {r : Finding} (moved : Explores P nesting v height place' C F r) where
+    {F : Board} {r : Option Walk} (moved : Explores P nesting v height place' C F r) where
   kept_moved : Kept B F
   kept_moved = kept_join (kept_entered nesting y) moved.kept
 
@@ -222,33 +221,33 @@ module _ {targets : List ℕ} {layout : Layout} {P : Graph → Type 0} (reads : 
   pub visits : ((g : Graph) → P g → (s : ℕ) (p q : List Frame) → Going g nesting s p (frame v [] ∷ q) F → Going g nesting s p q F) → Visits P nesting v height place B F r
   visits leaves = record { kept = kept_moved; leads = λ g f s p q d k l i h high topped. by_result r g f s p q (moved_on g f s p q d k l i h high topped) }
     where
-      by_result : (x : Finding) (g : Graph) → P g → (s : ℕ) (p q : List Frame) → Ends g nesting s p (frame v [] ∷ q) F x → Ends g nesting s p q F x
-      by_result Clear g f s p q w = leaves g f s p q w
-      by_result (Round stem len) g f s p q w = w
+      by_result : (x : Option Walk) (g : Graph) → P g → (s : ℕ) (p q : List Frame) → Ends g nesting s p (frame v [] ∷ q) F x → Ends g nesting s p q F x
+      by_result None g f s p q w = leaves g f s p q w
+      by_result (Some walk) g f s p q w = w
 
 module _ {targets : List ℕ} {layout : Layout} {P : Graph → Type 0} (reads : (g : Graph) → P g → Reads targets layout g) {v height place : ℕ} {B C : Board} where
   -- the nested search
   module _ (y : Entered true v place B C) (marked_size : length B.marked ≡ 512) (walk_size : length B.walk ≡ 512) {place' : ℕ} (higher : place' ≡ up place)
-      {F : Board} {r : Finding} (moved : Explores P true v height place' C F r) where
+      {F : Board} {r : Option Walk} (moved : Explores P true v height place' C F r) where
     pub visits_nested : Visits P true v height place B F r
     visits_nested = visits reads y marked_size walk_size higher moved (λ g f s p q w. leaves_nested g (reads g f) F s v p q w)
 
   -- the outer search
   module _ (y : Entered false v place B C) (met_size : length B.met ≡ 512) (walk_size : length B.walk ≡ 512) {place' : ℕ} (higher : place' ≡ up place)
-      {F : Board} {r : Finding} (moved : Explores P false v height place' C F r) where
+      {F : Board} {r : Option Walk} (moved : Explores P false v height place' C F r) where
     -- v does not pay
     pub visits_outer : ((g : Graph) → P g → v < 512 → g.accepting v ≡ false) → Visits P false v height place B F r
     visits_outer pays = visits reads y met_size walk_size higher moved (λ g f s p q w. leaves_outer g (reads g f) F s v p q (pays g f (top_below g (reads g f) false s p v [] q w.d w.k w.l w.reached)) w)
 
     -- a round was found
-    pub visits_round : is_round r ≡ true → Visits P false v height place B F r
+    pub visits_round : is_some r ≡ true → Visits P false v height place B F r
     visits_round e = record {
       kept = kept_moved reads y met_size walk_size higher moved;
       leads = λ g f s p q d k l i h high topped. round_stays r e g false s p (frame v [] ∷ q) q F (moved_on reads y met_size walk_size higher moved g f s p q d k l i h high topped);
     }
 
     -- v pays, and a nested search was made from it
-    pub visits_paying : is_round r ≡ false → ((g : Graph) → P g → v < 512 → g.accepting v ≡ true) → {G : Board} {r' : Finding} → Visits (Reads targets layout) true v place' place F G r'
+    pub visits_paying : is_some r ≡ false → ((g : Graph) → P g → v < 512 → g.accepting v ≡ true) → {G : Board} {r' : Option Walk} → Visits (Reads targets layout) true v place' place F G r'
         → Visits P false v height place B G r'
     visits_paying e pays {G} {r'} nested = record {
       kept = kept_join (kept_moved reads y met_size walk_size higher moved) nested.kept;

@@ -6,6 +6,7 @@ use mathlib.Core.List.{List, [], ◌∷◌}
 use Prim.Native.Nat.{ℕ, suc, ◌*◌, ◌-◌, ◌<◌}
 use native.Mathlib.Omega.{arith}
 use lib.ListN.{length}
+use Rattle.std.specs.Prelude.{Option, None, Some, unwrap_or}
 use Rattle.plain.specs.Search.{Graph, Config, outer, frame, exhausted, found, run, steps, step, states_of, cycle_of, none, lasso, unfinished, verdict, count}
 use Rattle.plain.specs.Table.{Table, game_of, searched, printed_verdict, final}
 use Rattle.plain.specs.Refusals.{accepted, Load, load_trial, pairs}
@@ -17,7 +18,7 @@ use Rattle.plain.proofs.Copies.{copy_first}
 use Rattle.plain.proofs.Tables.{Valid, valid, carried_few}
 use Rattle.plain.proofs.Demands.{run_final}
 use Rattle.plain.proofs.Limits.{limits, small}
-use Rattle.rows.specs.Change.{Rows}
+use Rattle.rows.specs.declared.Rows.{Rows}
 use Rattle.table.specs.Filing.{Filed}
 use Rattle.table.proofs.Holding.{game_held}
 use Rattle.layers.specs.Layout.{layered}
@@ -27,18 +28,23 @@ use Rattle.verdict.specs.declared.Answer.{Answer}
 use Rattle.verdict.specs.Answers.{lowered, WalkOf, Tells, Answered, LoadAnswered}
 use Rattle.verdict.proofs.Told.{told}
 use Rattle.verdict.proofs.Loads.{room_enough, load_accepted}
-use Rattle.textbook.specs.declared.Finding.{Finding}
-use Rattle.textbook.specs.declared.Finding.TheVariants.{Clear, Round}
-use Rattle.textbook.specs.Search.{stem_in, length_in, Board, board_of, ReadsAll, Reached, Ends, Begun}
+use Rattle.textbook.specs.declared.Walk.{Walk}
+use Rattle.textbook.specs.Search.{stem_in, length_in, board_of, ReadsAll, Reached, Ends, Begun}
+use Rattle.textbook.specs.declared.Board.{Board}
 use Rattle.look.proofs.Sets.{members_none}
+
+-- the lengths that are told: 0 where there is no walk
+pub told_lengths : (r : Option Walk) {told : Walk} → told ≡ unwrap_or r (record { stem = 0; length = 0 }) → (told.stem ≡ stem_in r) × (told.length ≡ length_in r)
+told_lengths None e = (ap (λ (w : Walk). w.stem) e, ap (λ (w : Walk). w.length) e)
+told_lengths (Some walk) e = (ap (λ (w : Walk). w.stem) e, ap (λ (w : Walk). w.length) e)
 
 -- ---- the end of the plain search
 
 module _ (t : Table) (ok : Valid t) where
   -- the walk of a verdict that is none or a lasso
-  at_end : (B : Board) (r : Finding) → Ends (searched t) false 0 [] [] B r → WalkOf (stem_in r) (length_in r) B.walk (verdict (final t)) × (B.spent ≡ count (final t))
+  at_end : (B : Board) (r : Option Walk) → Ends (searched t) false 0 [] [] B r → WalkOf (stem_in r) (length_in r) B.walk (verdict (final t)) × (B.spent ≡ count (final t))
   unfolding steps step verdict
-  at_end B Clear w =
+  at_end B None w =
       let n = w.reached.0 in
       let e : run (searched t) (suc n) ≡ exhausted w.d w.k w.l = ap (step (searched t)) w.reached.1 in
       let z : exhausted w.d w.k w.l ≡ final t = sym e ∙ run_final t ok (suc n) (λ y. decided (sym (ap verdict e) ∙ y)) in
@@ -46,12 +52,12 @@ module _ (t : Table) (ok : Valid t) where
     where
       decided : none ≡ unfinished → ⊥
       decided y = let k : ◌≡◌ {A = ℕ} 0 1 = cc in omega arith
-  at_end B (Round stem len) w =
+  at_end B (Some walk) w =
       let n = w.reached.0 in
       let e : run (searched t) n ≡ found w.h w.p w.q w.d w.k w.l = w.reached.1 in
       let z : found w.h w.p w.q w.d w.k w.l ≡ final t = sym e ∙ run_final t ok n (λ y. decided (sym (ap verdict e) ∙ y)) in
       let some : 0 < length (cycle_of w.h w.p w.q) = omega (arith, ap length (sound (searched t) n _ _ (ap verdict e)).cycle_is) in
-      (subst (λ (c : Config). WalkOf stem len B.walk (verdict c)) z (w.stem_is, w.length_is, w.walk_is, some), w.spent_is ∙ ap count z)
+      (subst (λ (c : Config). WalkOf walk.stem walk.length B.walk (verdict c)) z (w.stem_is, w.length_is, w.walk_is, some), w.spent_is ∙ ap count z)
     where
       decided : {first round : List ℕ} → lasso first round ≡ unfinished → ⊥
       decided y = let k : ◌≡◌ {A = ℕ} 0 1 = cc in omega arith
@@ -91,7 +97,7 @@ module _ (l : Load) (lent lent' : List ℕ) (rows : Rows) (words : List ℕ) (ye
   unfolding table_of steps
   starts_at = (0, λ i. let s = copy_first l.size l.start i in outer (frame s ((searched t).successors s) ∷ []) (s ∷ []) [] [])
 
-  pub searched_right : {walk walk' : List ℕ} {spent : ℕ} {r : Finding} {above stem len : ℕ} {a : Answer} → above ≡ l.kinds - 1 → Begun (Shown above) l.start walk 0 walk' spent r
+  pub searched_right : {walk walk' : List ℕ} {spent : ℕ} {r : Option Walk} {above stem len : ℕ} {a : Answer} → above ≡ l.kinds - 1 → Begun (Shown above) l.start walk 0 walk' spent r
       → stem ≡ stem_in r → len ≡ length_in r → Tells spent 0 stem len (lowered l.size above walk') lent a lent' → LoadAnswered l lent a lent'
   unfolding table_of states_of
   searched_right {walk} {walk'} {spent} {r} {above} {stem} {len} {a} k begun f g w =

@@ -1,48 +1,32 @@
 -- What the functions of the textbook search promise: when its sets, its walk and its count of looks show where the plain search stands, and what a visit, and going through
 -- the edges of a state, then come to. The outer and the nested search are said at once. Assumes nothing.
-use Rattle.std.specs.Prelude.{ℕ, suc, ◌+◌, ◌≤◌, ◌<◌, ◌≡◌, Bool, true, false, ◌&&◌, cond, List, [], ◌∷◌, ◌++◌, ltb, length, replicate}
+use Rattle.std.specs.Prelude.{ℕ, suc, ◌+◌, ◌≤◌, ◌<◌, ◌≡◌, Bool, true, false, ◌&&◌, cond, Option, None, Some, List, [], ◌∷◌, ◌++◌, ltb, length, replicate}
 use Rattle.plain.specs.Lists.{Begins}
 use Rattle.plain.specs.Search.{Graph, Edge, Frame, frame, Config, outer, nested, found, run, states_of, stem_of, cycle_of}
 use Rattle.plain.specs.Limits.{Limits}
 use Rattle.plain.specs.Table.{accepts}
-use Rattle.look.specs.Scan.{Layout, row_laid}
+use Rattle.look.specs.Scan.{row_laid}
+use Rattle.look.specs.declared.Layout.{Layout}
 use Rattle.look.specs.Sets.{Members}
-use Rattle.textbook.specs.declared.Finding.{Finding}
-use Rattle.textbook.specs.declared.Finding.TheVariants.{Clear, Round}
+use Rattle.textbook.specs.declared.Board.{Board}
+use Rattle.look.specs.declared.Game.{Game}
+use Rattle.textbook.specs.declared.Walk.{Walk}
 
--- ---- what the small functions compute
-
-abbrev pub is_round : Finding → Bool
-is_round Clear = false
-is_round (Round stem len) = true
+-- ---- what a search has come to: a walk, or none
 
 -- the lengths of the stem and of the walk, 0 where there is none
-abbrev pub stem_in : Finding → ℕ
-stem_in Clear = 0
-stem_in (Round stem len) = stem
+abbrev pub stem_in : Option Walk → ℕ
+stem_in None = 0
+stem_in (Some w) = w.stem
 
-abbrev pub length_in : Finding → ℕ
-length_in Clear = 0
-length_in (Round stem len) = len
+abbrev pub length_in : Option Walk → ℕ
+length_in None = 0
+length_in (Some w) = w.length
 
 -- ---- the board: what the search writes on
 
-pub record Board : Type 0 where
-  -- the sets of the states that are discovered, and marked
-  pub met : List Bool
-  pub marked : List Bool
-  -- the open path, and behind it the path of the nested search
-  pub walk : List ℕ
-  -- the looks
-  pub spent : ℕ
-
 abbrev pub board_of : List Bool → List Bool → List ℕ → ℕ → Board
 board_of met marked walk spent = record { met = met; marked = marked; walk = walk; spent = spent }
-
--- lengths that the arrays have by their types
-pub record Sized (marked : List Bool) (walk : List ℕ) : Type 0 where
-  pub marked_size : length marked ≡ 512
-  pub walk_size : length walk ≡ 512
 
 -- HOW MANY STATES are not in a set: what falls from a visit to the visits that it makes
 unfoldable pub missing : List Bool → ℕ
@@ -68,6 +52,10 @@ pub record Reads (targets : List ℕ) (y : Layout) (g : Graph) : Type 0 where
 pub record ReadsAll (targets : List ℕ) (y : Layout) (size : ℕ) (words : List ℕ) (g : Graph) : Type 0 where
   pub reads : Reads targets y g
   pub acceptance : (v : ℕ) → v < 512 → g.accepting v ≡ (ltb v size && accepts words v)
+
+-- the same of a game as the search is lent it
+abbrev pub ReadsGame : Game → Graph → Type 0
+ReadsGame a g = ReadsAll a.targets.now a.layout.now a.size a.words.now g
 
 -- ---- where the plain search stands, in the outer and in the nested search alike. q: the path that is worked on. In the nested search, s: the state from which it was started;
 -- p: the open path below s.
@@ -116,13 +104,13 @@ pub record Stopped (g : Graph) (B : Board) (stem len : ℕ) : Type 0 where
   pub walk_is : Begins (stem_of h p ++ cycle_of h p q) B.walk
   pub spent_is : B.spent ≡ length l
 
-abbrev pub Ends : Graph → Bool → ℕ → List Frame → List Frame → Board → Finding → Type 0
-Ends g nesting s p q B Clear = Going g nesting s p q B
-Ends g nesting s p q B (Round stem len) = Stopped g B stem len
+abbrev pub Ends : Graph → Bool → ℕ → List Frame → List Frame → Board → Option Walk → Type 0
+Ends g nesting s p q B None = Going g nesting s p q B
+Ends g nesting s p q B (Some w) = Stopped g B w.stem w.length
 
 -- A VISIT of v, where the plain search has just put v on its path and the board shows the rest: it comes to where v has left the path again, or to a round. height: in the
 -- nested search, how many states the open path has; place: where v is put on the walk.
-pub record Visits (P : Graph → Type 0) (nesting : Bool) (v height place : ℕ) (B B' : Board) (r : Finding) : Type 0 where
+pub record Visits (P : Graph → Type 0) (nesting : Bool) (v height place : ℕ) (B B' : Board) (r : Option Walk) : Type 0 where
   pub kept : Kept B B'
   pub leads : (g : Graph) → P g → (s : ℕ) (p q : List Frame) (d k : List ℕ) (l : List Edge)
       → Reached g (conf nesting s p (frame v (g.successors v) ∷ q) (cond nesting d (v ∷ d)) (cond nesting (v ∷ k) k) l)
@@ -137,12 +125,12 @@ Leads P nesting v height place B Goal = (g : Graph) → P g → (s : ℕ) (p q :
     → Goal g s p q
 
 -- THE EDGES of v are explored: it comes to where they are all taken, or to a round.
-pub record Explores (P : Graph → Type 0) (nesting : Bool) (v height place : ℕ) (B B' : Board) (r : Finding) : Type 0 where
+pub record Explores (P : Graph → Type 0) (nesting : Bool) (v height place : ℕ) (B B' : Board) (r : Option Walk) : Type 0 where
   pub kept : Kept B B'
   pub leads : Leads P nesting v height place B (λ g s p q. Ends g nesting s p (frame v [] ∷ q) B' r)
 
 -- A SEARCH that is begun at v, with no state in a set: what the visit of v comes to.
-pub record Begun (P : Graph → Type 0) (v : ℕ) (walk : List ℕ) (spent : ℕ) (walk' : List ℕ) (spent' : ℕ) (r : Finding) : Type 0 where
+pub record Begun (P : Graph → Type 0) (v : ℕ) (walk : List ℕ) (spent : ℕ) (walk' : List ℕ) (spent' : ℕ) (r : Option Walk) : Type 0 where
   pub met : List Bool
   pub marked : List Bool
   pub visits : Visits P false v 0 0 (board_of (replicate 512 false) (replicate 512 false) walk spent) (board_of met marked walk' spent') r

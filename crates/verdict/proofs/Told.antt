@@ -1,19 +1,16 @@
 -- The answer and the written walk are those of the verdict; an answer that is told is the only one told so. Assumes nothing.
 use mathlib.Core.Path.{◌≡◌, refl, sym, ap, ◌∙◌}
-use mathlib.Core.Bool.{Bool, true, false, cond}
 use mathlib.Core.List.{List, [], ◌∷◌, ◌++◌, append_assoc, map, map-append}
 use Prim.Native.Nat.{ℕ, ◌+◌, ◌*◌, ◌-◌, ◌≤◌, ◌<◌}
 use native.Mathlib.Nat.{mul_comm}
 use native.Mathlib.Omega.{arith}
-use lib.Dec.{eqb}
 use lib.ListN.{length, take, drop, length-append, length-map}
 use lib.Seq.{take_at, take-append_seam}
-use borrow.Author.Tests.{eq-eqb, ne_eqb}
+use Rattle.std.proofs.lemmas.Grind.{common_steps}
 use Rattle.plain.specs.Search.{Verdict, none, lasso, unfinished, verdict}
 use Rattle.plain.specs.Table.{Table, printed, printed_verdict, final}
 use Rattle.plain.specs.Layers.{state_of}
-use Rattle.plain.specs.Machine.{alone, Refusal as PlainRefusal, Answer as PlainAnswer, answer, numbered, written, Line, game_line, round_line, none_line, no_line, ways_line, short_line, no_round_line, answer_line}
-use Rattle.plain.proofs.Answers.{first_line}
+use Rattle.plain.specs.Machine.{Refusal as PlainRefusal, Answer as PlainAnswer, answer, numbered, written, round_line, no_line, answer_line}
 use Rattle.plain.proofs.Tables.{Valid}
 use Rattle.plain.proofs.Demands.{verdict_right}
 use Rattle.table.specs.declared.Refusal.{Refusal}
@@ -49,11 +46,11 @@ walk_printed t stem len walk unfinished k = k
 module _ (spent kept stem len : ℕ) where
   answer_clear : len ≡ 0 → answer_is spent kept stem len ≡ Clear spent kept
   unfolding answer_is
-  answer_clear e = ap (λ (b : Bool). cond b (Clear spent kept) (Round spent kept stem (len - stem))) (eq-eqb len 0 e)
+  answer_clear e = grind (arith, common_steps)
 
   answer_round : 0 < len → answer_is spent kept stem len ≡ Round spent kept stem (len - stem)
   unfolding answer_is
-  answer_round h = ap (λ (b : Bool). cond b (Clear spent kept) (Round spent kept stem (len - stem))) (ne_eqb len 0 (λ e. omega arith))
+  answer_round h = grind (arith, common_steps)
 
   -- the answer, with the list as it was written
   tells_answer : (w : Verdict) (walk lent : List ℕ) → WalkOf stem len walk w → answer_line (answer w spent kept) ≡ shown (answer_is spent kept stem len) (written (answer w spent kept) lent) ∷ []
@@ -94,72 +91,42 @@ module _ (spent kept stem len : ℕ) where
   -- an answer that tells what a search has come to is no refusal
   pub never_refused : (n : Refusal) → answer_is spent kept stem len ≡ Refused n → ⊥
   unfolding answer_is
-  never_refused n e = by_test (eqb len 0) e
-    where
-      by_test : (b : Bool) → cond b (Clear spent kept) (Round spent kept stem (len - stem)) ≡ Refused n → ⊥
-      by_test true e = let z : ◌≡◌ {A = ℕ} 0 1 = cc in omega arith
-      by_test false e = let z : ◌≡◌ {A = ℕ} 0 1 = cc in omega arith
-
--- an answer that is told as the refusal of a call is that refusal
-told_refusal : Line → PlainRefusal
-told_refusal (game_line size moves paying) = numbered 0
-told_refusal (round_line spent kept stem cycle walk) = numbered 0
-told_refusal (none_line spent kept) = numbered 0
-told_refusal (no_line r) = r
-told_refusal (ways_line s leaving entering) = numbered 0
-told_refusal (short_line best least) = numbered 0
-told_refusal no_round_line = numbered 0
-
-position_alone : (p : Position) → position_of p ≡ alone → p ≡ Position.Alone
-position_alone Position.Alone e = refl
-position_alone (Position.Line i) e = let z : ◌≡◌ {A = ℕ} 0 1 = cc in absurd (omega arith)
-
-pub shown_refused : (a : Answer) (list : List ℕ) (n : ℕ) → no_line (numbered n) ∷ [] ≡ shown a list ∷ [] → a ≡ refusing n Position.Alone
-unfolding shown told_refusal first_line
-shown_refused (Refused r) list n e =
-    let z : numbered n ≡ refusal_of r = ap told_refusal (ap first_line e) in
-    let p = position_alone r.position (sym (ap (λ (x : PlainRefusal). x.position) z)) in
-    λ i. Refused (record { number = sym (ap (λ (x : PlainRefusal). x.number) z) i; position = p i })
-shown_refused (Clear spent kept) list n e = let z : ◌≡◌ {A = ℕ} 0 1 = cc in absurd (omega arith)
-shown_refused (Round spent kept stem cycle) list n e = let z : ◌≡◌ {A = ℕ} 0 1 = cc in absurd (omega arith)
+  never_refused n e = grind (arith, common_steps)
 
 -- an answer that is told by a `no` line is a refusal
 pub told_refused : (a : Answer) (list : List ℕ) (r : PlainRefusal) → no_line r ∷ [] ≡ shown a list ∷ [] → NoRefusal a → ⊥
 unfolding shown
 told_refused (Refused n) list r e y = y
-told_refused (Clear spent kept) list r e y = let z : ◌≡◌ {A = ℕ} 0 1 = cc in omega arith
-told_refused (Round spent kept stem cycle) list r e y = let z : ◌≡◌ {A = ℕ} 0 1 = cc in omega arith
+told_refused (Clear spent kept) list r e y = cc
+told_refused (Round spent kept stem cycle) list r e y = cc
 
 -- ---- one answer alone is told by a line
 
 same_position : (p q : Position) → position_of p ≡ position_of q → p ≡ q
 same_position Position.Alone Position.Alone e = refl
-same_position Position.Alone (Position.Line j) e = let z : ◌≡◌ {A = ℕ} 0 1 = cc in absurd (omega arith)
-same_position (Position.Line i) Position.Alone e = let z : ◌≡◌ {A = ℕ} 0 1 = cc in absurd (omega arith)
-same_position (Position.Line i) (Position.Line j) e = let z : i ≡ j = cc in ap (λ (n : ℕ). Position.Line n) z
+same_position Position.Alone (Position.Line j) e = cc
+same_position (Position.Line i) Position.Alone e = cc
+same_position (Position.Line i) (Position.Line j) e = cc
 
 same_told : (a b : Answer) (list : List ℕ) → shown a list ∷ [] ≡ shown b list ∷ [] → a ≡ b
-unfolding shown told_refusal first_line
+unfolding shown
 same_told (Refused r) (Refused q) list e =
-    let z : refusal_of r ≡ refusal_of q = ap told_refusal (ap first_line e) in
+    let z : refusal_of r ≡ refusal_of q = cc in
     let p = same_position r.position q.position (ap (λ (x : PlainRefusal). x.position) z) in
     λ i. Refused (record { number = ap (λ (x : PlainRefusal). x.number) z i; position = p i })
-same_told (Refused r) (Clear spent kept) list e = let z : ◌≡◌ {A = ℕ} 0 1 = cc in absurd (omega arith)
-same_told (Refused r) (Round spent kept stem cycle) list e = let z : ◌≡◌ {A = ℕ} 0 1 = cc in absurd (omega arith)
-same_told (Clear spent kept) (Refused r) list e = let z : ◌≡◌ {A = ℕ} 0 1 = cc in absurd (omega arith)
-same_told (Clear s k) (Clear spent kept) list e =
-    let y : s ≡ spent = cc in
-    let z : k ≡ kept = cc in
-    λ i. Clear (y i) (z i)
-same_told (Clear s k) (Round spent kept stem cycle) list e = let z : ◌≡◌ {A = ℕ} 0 1 = cc in absurd (omega arith)
-same_told (Round s k t c) (Refused r) list e = let z : ◌≡◌ {A = ℕ} 0 1 = cc in absurd (omega arith)
-same_told (Round s k t c) (Clear spent kept) list e = let z : ◌≡◌ {A = ℕ} 0 1 = cc in absurd (omega arith)
-same_told (Round s k t c) (Round spent kept stem cycle) list e =
-    let w : s ≡ spent = cc in
-    let x : k ≡ kept = cc in
-    let y : t ≡ stem = cc in
-    let z : c ≡ cycle = cc in
-    λ i. Round (w i) (x i) (y i) (z i)
+same_told (Refused r) (Clear spent kept) list e = cc
+same_told (Refused r) (Round spent kept stem cycle) list e = cc
+same_told (Clear spent kept) (Refused r) list e = cc
+same_told (Clear s k) (Clear spent kept) list e = cc
+same_told (Clear s k) (Round spent kept stem cycle) list e = cc
+same_told (Round s k t c) (Refused r) list e = cc
+same_told (Round s k t c) (Clear spent kept) list e = cc
+same_told (Round s k t c) (Round spent kept stem cycle) list e = cc
+
+-- an answer that is told as the refusal of a call is that refusal
+pub shown_refused : (a : Answer) (list : List ℕ) (n : ℕ) → no_line (numbered n) ∷ [] ≡ shown a list ∷ [] → a ≡ refusing n Position.Alone
+unfolding shown
+shown_refused a list n e = same_told a (refusing n Position.Alone) list (sym e)
 
 -- what is answered as the plain table answers is fixed: the answer and the list
 pub answered_once : (a : PlainAnswer) (lent : List ℕ) (r q : Answer) (lent' lent₂ : List ℕ) → Answered a lent r lent' → Answered a lent q lent₂ → (r ≡ q) × (lent' ≡ lent₂)

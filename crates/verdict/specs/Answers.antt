@@ -7,7 +7,6 @@ use Rattle.plain.specs.Refusals.{Load, load_trial}
 use Rattle.plain.specs.Machine.{Position as PlainPosition, alone, at_line, Refusal as PlainRefusal, Answer as PlainAnswer, load_answer, table_of, written, Line, round_line, none_line, no_line, answer_line}
 use Rattle.table.specs.declared.Refusal.{Refusal}
 use Rattle.table.specs.declared.Position.{Position}
-use Rattle.table.specs.declared.Position.TheVariants as Position
 use Rattle.verdict.specs.declared.Answer.{Answer}
 use Rattle.verdict.specs.declared.Answer.TheVariants.{Refused, Clear, Round}
 

@@ -17,15 +17,15 @@ use Rattle.watch.specs.Model.{fits, first_of, Laid}
 -- ---- how much of two lines fits
 
 module _ (space first len : ℕ) where
-  pub fits_both : len ≤ space → len ≡ fits space first len
+  fits_both : len ≤ space → len ≡ fits space first len
   unfolding fits
   fits_both h = rw (le-leb len space h)
 
-  pub fits_first : space < len → first ≤ space → first ≡ fits space first len
+  fits_first : space < len → first ≤ space → first ≡ fits space first len
   unfolding fits
   fits_first h k = rw (lt-leb len space h, le-leb first space k)
 
-  pub fits_none : space < len → space < first → 0 ≡ fits space first len
+  fits_none : space < len → space < first → 0 ≡ fits space first len
   unfolding fits
   fits_none h k = rw (lt-leb len space h, lt-leb first space k)
 

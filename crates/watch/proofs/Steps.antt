@@ -2,7 +2,7 @@
 use Prim.Native.Nat.{ℕ, zero, suc, ◌+◌, ◌*◌, ◌-◌, ◌/◌, ◌≤◌, ◌<◌}
 use mathlib.Core.Path.{◌≡◌, refl, sym, ap, subst, subst⁻¹, ◌∙◌}
 use mathlib.Core.Logic.{⊎_elim}
-use mathlib.Core.Bool.{Bool, true, false, ◌&&◌, not, cond, and_comm}
+use mathlib.Core.Bool.{Bool, true, false, ◌&&◌, not, cond, and_comm, true≢false}
 use mathlib.Core.List.{List, [], ◌∷◌, ◌++◌}
 use native.Mathlib.Omega.{arith}
 use native.Mathlib.Decide.{dec_le}
@@ -135,7 +135,7 @@ refused_as a b walk e = shown_no b walk ∙ ap tells_no (sym e)
 
 no_moves : (moves : List Edge) → empty moves ≡ true → moves ≡ []
 no_moves [] e = refl
-no_moves (m ∷ ms) e = let z : ◌≡◌ {A = ℕ} 0 1 = cc in absurd (omega arith)
+no_moves (m ∷ ms) e = absurd (true≢false (sym e))
 
 -- the tests of the code on the count of numbers are those on the moves
 pub count_empty : (n : ℕ) (moves : List Edge) → n ≡ 2 * length moves → eqb n 0 ≡ empty moves
@@ -209,8 +209,8 @@ requested (R.Kinds k) = setting_kinds k
 requested (R.Question q) = questioning (question_of q)
 requested R.Unknown = unknown
 
-no_word : {A : Type 0} → false ≡ true → A
-no_word e = let z : ◌≡◌ {A = ℕ} 0 1 = cc in absurd (omega arith)
+pub false_true : {A : Type 0} → false ≡ true → A
+false_true e = absurd (true≢false (sym e))
 
 -- the line of a batch that a request makes; `end` is none
 abbrev batch_line : Request → BatchLine
@@ -261,20 +261,20 @@ record Inside (r : Record) : Type 0 where
 
 inside : (w : Word) (a b : ℕ) → Inside (record { word = w; first = a; second = b })
 unfolding is_word request_of
-inside W.Game a b = record { ends = λ e. no_word e; stays = λ e p xs. refl }
-inside W.Pay a b = record { ends = λ e. no_word e; stays = λ e p xs. refl }
-inside W.Move a b = record { ends = λ e. no_word e; stays = λ e p xs. refl }
-inside W.Go a b = record { ends = λ e. no_word e; stays = λ e p xs. refl }
-inside W.Add a b = record { ends = λ e. no_word e; stays = λ e p xs. refl }
-inside W.Cut a b = record { ends = λ e. no_word e; stays = λ e p xs. refl }
-inside W.Mark a b = record { ends = λ e. no_word e; stays = λ e p xs. refl }
-inside W.Unmark a b = record { ends = λ e. no_word e; stays = λ e p xs. refl }
-inside W.Begin a b = record { ends = λ e. no_word e; stays = λ e p xs. refl }
-inside W.End a b = record { ends = λ e. refl; stays = λ e. no_word (sym e) }
-inside W.Kinds a b = record { ends = λ e. no_word e; stays = λ e p xs. refl }
-inside W.Ways a b = record { ends = λ e. no_word e; stays = λ e p xs. refl }
-inside W.Short a b = record { ends = λ e. no_word e; stays = λ e p xs. refl }
-inside W.Unreadable a b = record { ends = λ e. no_word e; stays = λ e p xs. refl }
+inside W.Game a b = record { ends = λ e. false_true e; stays = λ e p xs. refl }
+inside W.Pay a b = record { ends = λ e. false_true e; stays = λ e p xs. refl }
+inside W.Move a b = record { ends = λ e. false_true e; stays = λ e p xs. refl }
+inside W.Go a b = record { ends = λ e. false_true e; stays = λ e p xs. refl }
+inside W.Add a b = record { ends = λ e. false_true e; stays = λ e p xs. refl }
+inside W.Cut a b = record { ends = λ e. false_true e; stays = λ e p xs. refl }
+inside W.Mark a b = record { ends = λ e. false_true e; stays = λ e p xs. refl }
+inside W.Unmark a b = record { ends = λ e. false_true e; stays = λ e p xs. refl }
+inside W.Begin a b = record { ends = λ e. false_true e; stays = λ e p xs. refl }
+inside W.End a b = record { ends = λ e. refl; stays = λ e. false_true (sym e) }
+inside W.Kinds a b = record { ends = λ e. false_true e; stays = λ e p xs. refl }
+inside W.Ways a b = record { ends = λ e. false_true e; stays = λ e p xs. refl }
+inside W.Short a b = record { ends = λ e. false_true e; stays = λ e p xs. refl }
+inside W.Unreadable a b = record { ends = λ e. false_true e; stays = λ e p xs. refl }
 
 -- three numbers more are a line more
 lines_append : (n : ℕ) (ns : List ℕ) (l : CodedLine) → length ns ≡ 3 * n → lines_in (ns ++ numbers_of l) ≡ lines_in ns ++ (line_in l ∷ [])

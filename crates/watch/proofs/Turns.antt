@@ -2,11 +2,8 @@
 use Prim.Native.Nat.{ℕ, ◌+◌, ◌*◌, ◌-◌, ◌≤◌, ◌<◌}
 use mathlib.Core.Path.{◌≡◌, refl, sym, ap, subst, subst⁻¹, ◌∙◌}
 use mathlib.Core.Bool.{Bool, true, false, cond}
-use mathlib.Core.Logic.{⊎_elim}
 use mathlib.Core.List.{List, [], ◌∷◌, ◌++◌, map, map-append}
 use native.Mathlib.Omega.{arith}
-use denote.Enum.Declared.{tag_of}
-use types.Run.{OneOf}
 use lib.ListN.{length, take, drop}
 use Rattle.plain.specs.Machine.{Line}
 use Rattle.line.specs.Fields.{up_to, lines_of}
@@ -28,12 +25,11 @@ use Rattle.lead.specs.declared.Ask.TheVariants.{Load as AskLoad, Call as AskCall
 use Rattle.lead.specs.declared.Task.TheVariants.{Nothing, Refuse, Ask as Asks, Question as Questions}
 use Rattle.lead.specs.declared.Plan.{Plan}
 use Rattle.lead.specs.Asked.{numbers_most, asked, is_over}
-use Rattle.lead.specs.contracts.Task.{the_type}
 use Rattle.watch.specs.Text.{Held, waiting, opened, gathering, playing, batching, ended, room, Step, step, printed, output_of, Fitted}
 use Rattle.watch.specs.declared.Written.{Written}
 use Rattle.watch.specs.Model.{Serves, Replied, lines_most, lines_for, lines_told, fits, Laid, Writes}
 use Rattle.watch.proofs.Output.{Rest, rest_end, AtMostTwo, all_put, not_put, fits_within, laid_within, laid_first}
-use Rattle.watch.proofs.Steps.{Lent, filed_in, Tracks, Follows, stepped}
+use Rattle.watch.proofs.Steps.{Lent, filed_in, Tracks, Follows, stepped, false_true}
 use Rattle.watch.proofs.Writing.{told_lines}
 
 -- what is still to be written, where the text is read up to a place
@@ -60,9 +56,6 @@ none_printed : (rs : List Record) → printed ended rs ≡ []
 unfolding printed step
 none_printed [] = refl
 none_printed (r ∷ rs) = none_printed rs
-
-false_true : {A : Type 0} → false ≡ true → A
-false_true e = let z : ◌≡◌ {A = ℕ} 0 1 = cc in absurd (omega arith)
 
 pub over_told : (p : Held) (l : Lead) (y : Lent) (s : Session) (text : List ℕ) (from : ℕ) → is_over l.stage ≡ true → Tracks l y s p → to_tell p text from ≡ []
 over_told waiting l y s text from o h = false_true (sym (ap is_over h.0) ∙ o)
@@ -102,13 +95,6 @@ module _ (l : Lead) (y : Lent) (walk : List ℕ) (k : length walk ≡ room) (c :
   done_else (Refuse n) c₀ o f g = record { follows = ap (λ (x : Outcome). x.session) g; size = ap length f ∙ k }
   done_else (Asks ask) c₀ o f g = absurd (o ask refl)
   done_else (Questions q) c₀ o f g = record { follows = ap (λ (x : Outcome). x.session) g; size = ap length f ∙ k }
-
-  -- the same, by the tags of such tasks
-  pub done_not : (task : Task) (c₀ : Outcome) → OneOf (0 ∷ 1 ∷ 3 ∷ []) (tag_of the_type task) → walk' ≡ walk → c ≡ c₀ → Done task l y c₀.session walk c walk'
-  done_not Nothing c₀ o f g = record { follows = ap (λ (x : Outcome). x.session) g; size = ap length f ∙ k }
-  done_not (Refuse n) c₀ o f g = record { follows = ap (λ (x : Outcome). x.session) g; size = ap length f ∙ k }
-  done_not (Asks ask) c₀ o f g = absurd (⊎_elim (λ z. omega arith) (⊎_elim (λ z. omega arith) (λ z. omega arith)) o)
-  done_not (Questions q) c₀ o f g = record { follows = ap (λ (x : Outcome). x.session) g; size = ap length f ∙ k }
 
 -- ---- behind one line
 

@@ -2,50 +2,26 @@
 use mathlib.Core.Path.{◌≡◌, refl, sym, ap, ◌∙◌}
 use mathlib.Core.Bool.{and-false}
 use mathlib.Core.List.{List, [], ◌∷◌, ◌++◌, append-nil}
-use Prim.Native.Nat.{ℕ, zero, suc, ◌+◌, ◌≤◌, ◌<◌, min}
-use native.Mathlib.Nat.{min-le_right, min-eq_left, min-eq_right}
-use native.Mathlib.Decide.{dec_le}
+use Prim.Native.Nat.{ℕ, zero, suc, ◌≤◌, ◌<◌}
+use native.Mathlib.Nat.{min-le_right}
 use native.Mathlib.Omega.{arith}
 use borrow.Author.Tests.{le-leb, lt-leb}
 use lib.Dec.{leb}
-use lib.ListN.{length, get_or, take}
-use lib.Seq.{length-take-le, take_all}
+use lib.ListN.{length, get_or, take, length-take}
 use Rattle.plain.specs.Lists.{any}
 use Rattle.plain.specs.Table.{accepts, accepting_count}
-use Rattle.plain.specs.Machine.{at_line, numbered, Line as OutputLine, round_line, none_line, no_line}
+use Rattle.plain.specs.Machine.{Line as OutputLine, round_line}
 use Rattle.marks.proofs.Counts.{count_le}
 use Rattle.answer.specs.Bytes.{overwritten, Put}
 use Rattle.answer.specs.Rendering.{render, rendered}
-use Rattle.answer.proofs.Laws.{put_then, put_none, length_round}
+use Rattle.answer.proofs.Laws.{put_then, put_none, length_round, length_game, length_none, length_no, length_no_at, length_ways, length_short, length_no_round}
 use Rattle.verdict.specs.declared.Answer.{Answer}
-use Rattle.verdict.specs.declared.Answer.TheVariants.{Refused, Clear, Round}
-use Rattle.verdict.specs.Answers.{position_of, refusal_of, shown}
 use Rattle.question.specs.declared.Reply.{Reply}
-use Rattle.question.specs.declared.Reply.TheVariants as Reply
-use Rattle.question.specs.Replies.{reply_shown}
-use Rattle.table.specs.declared.Refusal.{Refusal}
-use Rattle.table.specs.declared.Position.{Position}
-use Rattle.table.specs.declared.Position.TheVariants.{Alone, Line}
 use Rattle.lead.specs.declared.Plan.{Plan}
-use Rattle.watch.specs.declared.LineLengths.{LineLengths}
 use Rattle.watch.specs.Text.{room}
 use Rattle.watch.specs.Model.{lines_most, lines_for, lines_told, Laid}
 
 -- ---- the walk, as far as it goes
-
--- a number that is at most the length, as the least of it and another
-pub least_length : (n m : ℕ) (l : List ℕ) → n ≡ min m (length l) → n ≡ length (take n l)
-least_length n m l e = sym (length-take-le n l (omega (arith, e, min-le_right m (length l))))
-
--- the least of a number and the length takes as much as the number
-pub take_least : (m : ℕ) (l : List ℕ) → take (min m (length l)) l ≡ take m l
-take_least m l = elim (dec_le m (length l)) [
-  | yes h ↦ ap (λ (k : ℕ). take k l) (min-eq_left h)
-  | no h ↦
-      let less : length l ≤ m = omega arith in
-      let most : length l ≤ length l = omega arith in
-      ap (λ (k : ℕ). take k l) (min-eq_right less) ∙ take_all (length l) l most ∙ sym (take_all m l less)
-]
 
 -- what is taken of numbers of 16 bits are such numbers
 below_take : (n : ℕ) (l : List ℕ) → ((i : ℕ) → get_or l i 0 < 65536) → (i : ℕ) → get_or (take n l) i 0 < 65536
@@ -56,48 +32,24 @@ below_take (suc n) (x ∷ l) h (suc i) = below_take n l (λ j. h (suc j)) i
 
 -- ---- how long a line is
 
-pub round_short : (s k st c n m : ℕ) (walk : List ℕ) → s < 65536 → k < 65536 → st < 65536 → c < 65536
-    → ((i : ℕ) → get_or walk i 0 < 65536) → length walk ≤ 512 → n ≡ min m (length walk)
-    → length (render (round_line s k st c (take n walk))) ≤ 3102
-round_short s k st c n m walk p q r t h w e =
-    omega (
-      arith,
-      length_round s k st c (take n walk) p q r t (below_take n walk h),
-      least_length n m walk e,
-      e,
-      min-le_right m (length walk),
-    )
+pub round_short : (s k st c n : ℕ) (walk : List ℕ) → s < 65536 → k < 65536 → st < 65536 → c < 65536
+    → ((i : ℕ) → get_or walk i 0 < 65536) → length walk ≤ 512 → length (render (round_line s k st c (take n walk))) ≤ 3102
+round_short s k st c n walk p q r t h w = omega (arith, length_round s k st c (take n walk) p q r t (below_take n walk h), length-take n walk, min-le_right n (length walk), w)
+
+-- ---- the paying states are at most 512
+
+pub few_paying : (marks : List (List ℕ)) → accepting_count marks ≤ 512
+unfolding accepting_count
+few_paying marks = count_le 512 (λ s. any (λ words. accepts words s) marks)
+
+-- how long each line is, at most
+pub ruleset line_lengths = (length_game, length_none, length_no, length_no_at, length_ways, length_short, length_no_round, round_short, few_paying)
 
 -- ---- the line of an answer
 
 -- the same line by another name
 pub put_as : (d : List ℕ) (at : ℕ) (l l' : OutputLine) (d' : List ℕ) (r : ℕ) → l ≡ l' → Put d at (render l) d' r → Put d at (render l') d' r
 put_as d at l l' d' r e p = rw e at p
-
-pub said_no : (answer : Answer) (r : Refusal) (walk : List ℕ) → answer ≡ Refused r → no_line (refusal_of r) ≡ shown answer walk
-unfolding shown
-said_no answer r walk e = rw e
-
--- a refusal, by where it stands
-pub said_alone : (r : Refusal) → r.position ≡ Alone → no_line (numbered r.number) ≡ no_line (refusal_of r)
-said_alone r e = ap (λ (p : Position). no_line (record { number = r.number; position = position_of p })) (sym e)
-
-pub said_line : (r : Refusal) (i : ℕ) → r.position ≡ Line i → no_line (record { number = r.number; position = at_line i }) ≡ no_line (refusal_of r)
-said_line r i e = ap (λ (p : Position). no_line (record { number = r.number; position = position_of p })) (sym e)
-
-pub said_none : (answer : Answer) (s k : ℕ) (walk : List ℕ) → answer ≡ Clear s k → none_line s k ≡ shown answer walk
-unfolding shown
-said_none answer s k walk e = rw e
-
-pub said_round : (answer : Answer) (s k st c n m : ℕ) (walk : List ℕ) → answer ≡ Round s k st c → n ≡ min m (length walk) → m ≡ st + c
-    → round_line s k st c (take n walk) ≡ shown answer walk
-unfolding shown
-said_round answer s k st c n m walk e f g =
-    rw (e, f) (ap (round_line s k st c) (take_least m walk ∙ ap (λ (j : ℕ). take j walk) g))
-
--- the line of a reply, by its case
-pub replied_as : (reply x : Reply) → reply ≡ x → reply_shown x ≡ reply_shown reply
-replied_as reply x e = ap reply_shown (sym e)
 
 -- ---- where the lines lie
 
@@ -117,16 +69,6 @@ two_lines l m d d1 d2 r s p q =
     let both = put_then d 0 (render l) d1 r (render m) d2 s (omega arith) p q in
     let e : rendered (l ∷ m ∷ []) ≡ render l ++ render m = ap (λ (bs : List ℕ). render l ++ bs) (append-nil (render m)) in
     record { made = both.made ∙ ap (overwritten d 0) (sym e); split = omega (arith, p.next); ends = omega (arith, both.next, ap length e) }
-
--- the same lines, buffer and lengths by other names
-pub laid_as : (ls ms : List OutputLine) (d d' d'' : List ℕ) (n m : LineLengths) → ls ≡ ms → d'' ≡ d' → m ≡ n → Laid ls d d' n.first n.len → Laid ms d d'' m.first m.len
-laid_as ls ms d d' d'' n m e f g h = rw (← e, f, g) h
-
--- ---- the paying states are at most 512
-
-pub few_paying : (marks : List (List ℕ)) → accepting_count marks ≤ 512
-unfolding accepting_count
-few_paying marks = count_le 512 (λ s. any (λ words. accepts words s) marks)
 
 -- ---- by whether there is room
 

@@ -10,7 +10,6 @@ use Rattle.verdict.specs.declared.Answer.{Answer}
 use Rattle.verdict.specs.declared.Answer.TheVariants.{Refused}
 use Rattle.verdict.specs.Answers.{is_refused, shown}
 use Rattle.question.specs.declared.Reply.{Reply}
-use Rattle.question.specs.declared.Reply.TheVariants as Reply
 use Rattle.question.specs.Replies.{question_of, reply_shown}
 use Rattle.session.specs.declared.Session.{Session}
 use Rattle.session.specs.declared.Outcome.{Outcome}

@@ -9,11 +9,10 @@ ghost use Rattle.verdict.specs.Answers.{shown, refusal_of};
 ghost use Rattle.session.specs.Model.{no_game};
 ghost use Rattle.question.specs.Replies.{reply_shown};
 ghost use Rattle.watch.specs.Model.{Serves, Replied, game_most, lines_most, lines_for, lines_of_load, lead_loaded, lead_for, Laid, Writes, fits};
-ghost use Rattle.watch.specs.Text.{room, counted, output_of, output_most, Fitted, Watched};
+ghost use Rattle.watch.specs.Text.{room, whole_lines, counted, output_of, output_most, Fitted, Watched};
 
-use lead::{Ask, Lead, Plan, Stage, Task, staged};
+use lead::{Ask, Lead, Plan, Stage, Task};
 use question::Reply;
-use rows::wide;
 use session::{Outcome, Session};
 use table::{Position, Refusal};
 use verdict::Answer;
@@ -38,6 +37,7 @@ struct LineLengths {
 }
 
 // What is held behind a line, and the lengths of its first output line and of all.
+// Kept: callers above read the two lengths, and a LineLengths inside would only lengthen their names.
 #[derive(Clone, Copy)]
 pub struct Written {
     pub lead: Lead,
@@ -49,15 +49,7 @@ pub struct Written {
 pub fn no_session() -> Outcome
     ensures { (result.answer ≡ Answer.Refused (record { number = 2; position = Position.Alone })) × (result.session ≡ no_game) }
 {
-    let numbers: [u16; 1] = [0; 1];
-    let mut lent: [u16; 1] = [0; 1];
-    session::load(0, 0, 1, [0; 32], &numbers, &mut lent)
-}
-
-pub fn least(a: usize, b: usize) -> usize
-    ensures { result ≡ min a b }
-{
-    if a < b { a } else { b }
+    session::load(0, 0, 1, [0; 32], &[], &mut [])
 }
 
 // What the session answers to what is asked of it.
@@ -71,7 +63,7 @@ pub fn serve(
 ) -> Outcome
     ensures { Serves ask lead marks.now numbers.now s walk.old result walk.new }
 {
-    let n = least(wide(lead.count), numbers.len());
+    let n = usize::from(lead.count).min(numbers.len());
     match ask {
         Ask::Load => session::load(
             lead.size,
@@ -86,28 +78,30 @@ pub fn serve(
 }
 
 // What the session replies, where a question is asked of it.
+// Kept: with an Option, `write` would have to say what it tells of a question without a reply, which no caller can make.
 pub fn reply_to(s: Session, task: Task) -> Reply
     ensures { Replied task s result }
 {
-    if let Task::Question(question) = task {
-        return session::ask(s, question);
+    match task {
+        Task::Question(question) => session::ask(s, question),
+        _ => Reply::Refused(0),
     }
-    Reply::Refused(0)
 }
 
 // Puts the line of a refusal at a place.
+#[tactic(auto, using(crate::proofs::Writing::line_lengths))]
 fn put_refusal(out: &mut [u8], at: usize, refusal: Refusal) -> usize
     requires { (at ≤ game_most) × (lines_most ≤ length out.old) }
     ensures { Put out.old at (render (no_line (refusal_of refusal))) out.new result }
 {
-    let position = refusal.position;
-    match position {
+    match refusal.position {
         Position::Alone => answer::put_no(out, at, refusal.number),
         Position::Line(i) => answer::put_no_at(out, at, refusal.number, i),
     }
 }
 
 // Puts the line of an answer at a place.
+#[tactic(auto, using(crate::proofs::Writing::line_lengths), unfolding(verdict::specs::Answers::shown))]
 fn put_answer(out: &mut [u8], at: usize, answer: Answer, walk: &[u16]) -> usize
     requires { (length walk.now ≤ room) × (at ≤ game_most) × (lines_most ≤ length out.old) }
     ensures { Put out.old at (render (shown answer walk.now)) out.new result }
@@ -121,7 +115,7 @@ fn put_answer(out: &mut [u8], at: usize, answer: Answer, walk: &[u16]) -> usize
             stem,
             cycle,
         } => {
-            let n = least(wide(stem) + wide(cycle), walk.len());
+            let n = (usize::from(stem) + usize::from(cycle)).min(walk.len());
             answer::put_round(out, at, spent, kept, stem, cycle, &walk[..n])
         }
     }
@@ -137,6 +131,7 @@ fn put_one(answer: Answer, walk: &[u16], out: &mut [u8]) -> LineLengths
 }
 
 // Puts the line of a reply at the head of a buffer.
+#[tactic(auto, using(crate::proofs::Writing::line_lengths))]
 fn put_reply(out: &mut [u8], reply: Reply) -> usize
     requires { lines_most ≤ length out.old }
     ensures { Put out.old 0 (render (reply_shown reply)) out.new result }
@@ -154,6 +149,7 @@ fn put_reply(out: &mut [u8], reply: Reply) -> usize
 }
 
 // The lines of a load: `game` and the answer, or the refusal.
+#[tactic(auto, using(crate::proofs::Writing::line_lengths))]
 fn put_load(
     lead: Lead,
     marks: &[u64; 32],
@@ -174,6 +170,7 @@ fn put_load(
 }
 
 // The lines that tell what came of a line.
+// Kept: a clause on the buffer and no `&mut [u8; LINES]`, here and in what it calls: in `write` no fact gives the array's length behind the call.
 fn put_lines(
     plan: Plan,
     marks: &[u64; 32],
@@ -185,16 +182,12 @@ fn put_lines(
     requires { (length walk.now ≤ room) × (lines_most ≤ length out.old) }
     ensures { Laid (lines_for plan.task plan.lead marks.now answer reply walk.now) out.old out.new result.first result.len }
 {
-    let lead = plan.lead;
-    let task = plan.task;
-    match task {
+    match plan.task {
         Task::Nothing => LineLengths { first: 0, len: 0 },
         Task::Refuse(refusal) => put_one(Answer::Refused(refusal), walk, out),
-        Task::Ask(ask) => match ask {
-            Ask::Load => put_load(lead, marks, answer, walk, out),
-            Ask::Call(command) => put_one(answer, walk, out),
-        },
-        Task::Question(question) => {
+        Task::Ask(Ask::Load) => put_load(plan.lead, marks, answer, walk, out),
+        Task::Ask(Ask::Call(_)) => put_one(answer, walk, out),
+        Task::Question(_) => {
             let n = put_reply(out, reply);
             LineLengths { first: n, len: n }
         }
@@ -205,26 +198,21 @@ fn put_lines(
 fn lead_loaded(lead: Lead, answer: Answer) -> Lead
     ensures { result ≡ lead_loaded lead answer }
 {
-    if verdict::is_refused(answer) {
-        return staged(Stage::Over, lead);
-    }
-    staged(Stage::Playing, lead)
+    let stage = if verdict::is_refused(answer) {
+        Stage::Over
+    } else {
+        Stage::Playing
+    };
+    Lead { stage, ..lead }
 }
 
 // What is held behind a line.
 fn lead_behind(plan: Plan, answer: Answer) -> Lead
     ensures { result ≡ lead_for plan.task plan.lead answer }
 {
-    let lead = plan.lead;
-    let task = plan.task;
-    match task {
-        Task::Nothing => lead,
-        Task::Refuse(refusal) => lead,
-        Task::Ask(ask) => match ask {
-            Ask::Load => lead_loaded(lead, answer),
-            Ask::Call(command) => lead,
-        },
-        Task::Question(question) => lead,
+    match plan.task {
+        Task::Ask(Ask::Load) => lead_loaded(plan.lead, answer),
+        _ => plan.lead,
     }
 }
 
@@ -240,33 +228,35 @@ pub fn write(
 ) -> Written
     ensures { Writes plan marks.now answer reply walk.now out.old out.new result }
 {
-    let mut n = LineLengths { first: 0, len: 0 };
-    if walk.len() <= WALK {
-        if LINES <= out.len() {
-            n = put_lines(plan, marks, answer, reply, walk, out);
+    let lead = lead_behind(plan, answer);
+    if walk.len() <= WALK && LINES <= out.len() {
+        let LineLengths { first, len } = put_lines(plan, marks, answer, reply, walk, out);
+        Written { lead, first, len }
+    } else {
+        Written {
+            lead,
+            first: 0,
+            len: 0,
         }
-    }
-    Written {
-        lead: lead_behind(plan, answer),
-        first: n.first,
-        len: n.len,
     }
 }
 
 // How many bytes of at most two lines fit whole into the space.
+#[tactic(auto, unfolding(crate::specs::Model::fits))]
 fn fitting(space: usize, first: usize, len: usize) -> usize
     ensures { result ≡ fits space first len }
 {
     if len <= space {
-        return len;
+        len
+    } else if first <= space {
+        first
+    } else {
+        0
     }
-    if first <= space {
-        return first;
-    }
-    0
 }
 
 // All lines of a text that is within the limit, and their answers in the output as far as they fit.
+// Kept: `split` gives an empty line behind a last newline, where the text has none, and `split_inclusive` each line with its newline: neither loop is plainer.
 fn watch_text(text: &[u8], out: &mut [u8], space: usize) -> u64
     requires { (space ≤ length out.old) × (space ≤ output_most) }
     ensures { Fitted (output_of text.now) space out.old out.new result }
@@ -282,17 +272,15 @@ fn watch_text(text: &[u8], out: &mut [u8], space: usize) -> u64
     while from < text.len() {
         let end = line::end_of(text, from, line::NEWLINE);
         let plan = lead::read(lead, &mut marks, &mut numbers, &text[from..end]);
-        let task = plan.task;
-        if let Task::Ask(ask) = task {
+        if let Task::Ask(ask) = plan.task {
             c = serve(c.session, lead, ask, &marks, &numbers, &mut walk);
         }
-        let answer = c.answer;
-        let reply = reply_to(c.session, task);
-        let w = write(plan, &marks, answer, reply, &walk, &mut lines);
-        let len = w.len;
-        let n = fitting(space - at, w.first, len);
+        let reply = reply_to(c.session, plan.task);
+        let w = write(plan, &marks, c.answer, reply, &walk, &mut lines);
+        let n = fitting(space - at, w.first, w.len);
         at = answer::put(out, at, &lines[..n]);
-        if n < len {
+        if n < w.len {
+            // Kept: the C interface: one number tells the bytes and whether a line did not fit.
             return 2 * (at as u64) + 1;
         }
         lead = w.lead;
@@ -304,30 +292,33 @@ fn watch_text(text: &[u8], out: &mut [u8], space: usize) -> u64
     2 * (at as u64)
 }
 
+// How much of a text its whole lines take: up to and with its last newline.
+fn whole_end(text: &[u8]) -> usize
+    ensures { (result ≤ length text.now) × (take result text.now ≡ whole_lines text.now) }
+{
+    match text.iter().rposition(|&b| b == line::NEWLINE) {
+        Some(last) => last + 1,
+        None => 0,
+    }
+}
+
 // How much of a text counts: all of it, or, above the limit, up to and with the last newline within it.
 fn counted_end(text: &[u8]) -> usize
     ensures { (result ≤ length text.now) × (take result text.now ≡ counted text.now) }
 {
     if text.len() <= LIMIT {
-        return text.len();
+        text.len()
+    } else {
+        whole_end(&text[..LIMIT])
     }
-    let mut i: usize = LIMIT;
-    while 0 < i {
-        let last = i - 1;
-        if text[last] == line::NEWLINE {
-            return i;
-        }
-        i = last;
-    }
-    0
 }
 
 // The whole watch on a text: its output lines as far as they fit whole into the first 65,536 bytes of out. It returns twice the bytes
 // written, and 1 more where a line did not fit.
+#[tactic(auto, unfolding(crate::specs::Text::output))]
 pub fn free_round_watch(text: &[u8], out: &mut [u8]) -> u64
     ensures { Watched text.now out.old out.new result }
 {
     let end = counted_end(text);
-    let space = least(out.len(), OUTPUT);
-    watch_text(&text[..end], out, space)
+    watch_text(&text[..end], out, out.len().min(OUTPUT))
 }

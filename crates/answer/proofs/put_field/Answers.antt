@@ -2,14 +2,8 @@
 use native.Mathlib.Omega.{arith}
 use Rattle.line.specs.Fields.{tab}
 use Rattle.answer.specs.Rendering.{field_of}
-use Rattle.answer.proofs.Laws.{put_then, length_field}
+use Rattle.answer.proofs.Laws.{put_then}
 use Rattle.answer.proofs.put_field.Goals as goal
-
-pub put_byte-next-requires : goal.put_byte-next-requires
-put_byte-next-requires c = omega (arith, c.requires, length_field c.args.n)
-
-pub put_decimal-requires : goal.put_decimal-requires
-put_decimal-requires c = omega (arith, c.requires, length_field c.args.n, c.put_byte-next.ensures.next, c.put_byte-next.auto.out)
 
 pub returns : goal.returns
 unfolding field_of tab

@@ -1,10 +1,17 @@
 -- `is_change` meets its contract. Assumes nothing.
-use mathlib.Core.Path.{sym}
-use Rattle.batch.proofs.Batches.{is_none, is_small}
+use native.Mathlib.Omega.{arith}
+use Rattle.std.proofs.lemmas.Bool.Decides.{nat_tests}
+use Rattle.batch.specs.Batches.{is_change}
 use Rattle.batch.proofs.is_change.Goals as goal
 
-pub returns-then-line-eq0 : goal.returns-then-line-eq0
-returns-then-line-eq0 c = sym (is_none c.args.line c.if-line-eq0.true)
+pub returns-in-1-to-4 : goal.returns-in-1-to-4
+unfolding is_change
+returns-in-1-to-4 c = grind (arith, nat_tests)
 
-pub returns : goal.returns
-returns c = sym (is_small c.args.line c.if-line-eq0.false)
+pub returns-in_default : goal.returns-in_default
+unfolding is_change
+returns-in_default c = grind (arith, nat_tests)
+
+pub returns-in_default-2 : goal.returns-in_default-2
+unfolding is_change
+returns-in_default-2 c = grind (arith, nat_tests)

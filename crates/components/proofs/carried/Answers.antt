@@ -1,36 +1,17 @@
--- `carried` meets its contract: the test of the states that are left comes to that of all. Assumes nothing.
-use mathlib.Core.Path.{refl, sym, ◌∙◌}
-use mathlib.Core.Bool.{true, false}
-use native.Mathlib.Omega.{arith}
-use Rattle.components.proofs.Laws.{test_ends, test_next}
+-- `carried` meets its contract: a test at each place is one of the entries there. Assumes nothing.
+use mathlib.Core.Path.{refl, ◌∙◌}
+use Prim.Native.Nat.{◌+◌}
+use borrow.Author.Rules.{rules}
+use borrow.Author.Tests.{tests}
+use lib.ListN.{get_or}
+use Rattle.std.proofs.lemmas.Iterator.{YieldsList-from_range}
+use Rattle.std.proofs.lemmas.Iterator.Search.{any_from_yields_List}
+use Rattle.plain.specs.Table.{accepts}
+use Rattle.components.proofs.Laws.{any_places}
 use Rattle.components.proofs.carried.Goals as goal
 
-pub loop-i-init : goal.loop-i-init
-loop-i-init c = refl
-
-pub get-requires : goal.get-requires
-get-requires c = c.requires.0
-
-pub wide-requires : goal.wide-requires
-wide-requires c = tt
-
-pub overflow_add-base : goal.overflow_add-base
-overflow_add-base c = omega (arith, c.wide.ensures.1, c.requires.1)
-
-pub accepts_in-requires : goal.accepts_in-requires
-accepts_in-requires c = tt
-
-pub returns-then-accepts_in : goal.returns-then-accepts_in
-returns-then-accepts_in c = test_next _ _ _ _ c.loop-i-test.true _ (c.wide.ensures.0 ∙ c.get.ensures) true (sym c.accepts_in.ensures ∙ c.if-accepts_in.true) ∙ c.loop-i.invariant
-
-pub overflow_add-i : goal.overflow_add-i
-overflow_add-i c = omega (arith, c.loop-i-test.true, c.ranges.stop)
-
-pub loop-i-smaller : goal.loop-i-smaller
-loop-i-smaller c = omega (arith, c.loop-i-test.true)
-
-pub loop-i-preserved : goal.loop-i-preserved
-loop-i-preserved c = test_next _ _ _ _ c.loop-i-test.true _ (c.wide.ensures.0 ∙ c.get.ensures) false (sym c.accepts_in.ensures ∙ c.if-accepts_in.false) ∙ c.loop-i.invariant
-
 pub returns : goal.returns
-returns c = test_ends _ _ _ _ c.loop-i-test.false ∙ c.loop-i.invariant
+returns c =
+    let a = c.args in
+    any_from_yields_List (λ i. accepts a.words.now (a.base + get_or a.stack.now i 0)) _ _ c.any.result c.any.ensures.ran (YieldsList-from_range _ _ _ refl refl) (λ x b q k. search (rules, tests))
+    ∙ any_places (λ s. accepts a.words.now (a.base + s)) a.stack.now _ a.from

@@ -1,34 +1,15 @@
 -- `has_loop` meets its contract: the test of the edges that are left comes to that of the row. Assumes nothing.
 use mathlib.Core.Path.{sym, ◌∙◌}
 use mathlib.Core.Bool.{true, false}
-use Prim.Native.Nat.{◌≤◌}
-use native.Mathlib.Omega.{arith}
 use borrow.Author.Tests.{eq-eqb, ne_eqb}
 use Rattle.components.proofs.Laws.{test_ends, test_next, row_test}
 use Rattle.components.proofs.has_loop.Goals as goal
-use Rattle.components.proofs.has_loop.Goals.{At-loop-e}
-
-pub row_of-row-requires : goal.row_of-row-requires
-row_of-row-requires c = c.requires.starts_size
 
 pub loop-e-init : goal.loop-e-init
 loop-e-init c = row_test _ _ _ c.row_of-row.result c.row_of-row.ensures
 
--- the row ends within the array of targets
-short : (h : At-loop-e) → h.row_of-row.result.stop ≤ 2048
-short h = h.row_of-row.ensures.stop_small
-
-pub look-requires : goal.look-requires
-look-requires c = (c.requires.targets_size, omega (arith, c.loop-e-test.true, short c.before.before))
-
 pub returns-then-look-v : goal.returns-then-look-v
 returns-then-look-v c = test_next _ _ _ _ c.loop-e-test.true _ c.look.ensures.0 true (eq-eqb _ _ (sym c.if-look-v.true)) ∙ c.loop-e.invariant
-
-pub overflow_add-e : goal.overflow_add-e
-overflow_add-e c = omega (arith, c.loop-e-test.true, short c.before.before.before.before)
-
-pub loop-e-smaller : goal.loop-e-smaller
-loop-e-smaller c = omega (arith, c.loop-e-test.true)
 
 pub loop-e-preserved : goal.loop-e-preserved
 loop-e-preserved c = test_next _ _ _ _ c.loop-e-test.true _ c.look.ensures.0 false (ne_eqb _ _ (λ z. c.if-look-v.false (sym z))) ∙ c.loop-e.invariant

@@ -8,7 +8,4 @@ use Rattle.components.specs.Model.{within, row_of}
 use Rattle.components.proofs.has_loop.Given as goal
 
 abbrev pub invariant-loop-e : goal.invariant-loop-e
-invariant-loop-e l = any (λ t. eqb l.v (within t)) (entries (l.stop - l.e) l.e l.targets) ≡ elem l.v (row_of l.targets l.starts l.v)
-
-abbrev pub decreases-loop-e : goal.decreases-loop-e
-decreases-loop-e l = l.stop - l.e
+invariant-loop-e l = any (λ t. eqb l.v (within t)) (entries (l.e-end - l.e) l.e l.rows.targets) ≡ elem l.v (row_of l.rows.targets l.rows.starts l.v)

@@ -1,28 +1,12 @@
 -- `join` meets its contract: the groups that are left join to what all do. Assumes nothing.
-use mathlib.Core.Path.{refl, ◌∙◌}
+use mathlib.Core.Path.{◌∙◌}
 use mathlib.Core.Bool.{true, false}
-use native.Mathlib.Omega.{arith}
 use borrow.Author.Tests.{lt-ltb, le-ltb}
 use Rattle.components.proofs.Laws.{join_last, join_next}
 use Rattle.components.proofs.join.Goals as goal
 
-pub loop-n-init : goal.loop-n-init
-loop-n-init c = refl
-
-pub overflow_sub-n : goal.overflow_sub-n
-overflow_sub-n c = omega arith
-
-pub get-requires : goal.get-requires
-get-requires c = c.requires
-
 pub returns-then-get-x : goal.returns-then-get-x
 returns-then-get-x c = join_next _ _ _ _ c.loop-n-test.true c.get.ensures false (le-ltb _ _ c.if-get-x.true) ∙ c.loop-n.invariant
-
-pub overflow_sub-n-in-loop-n : goal.overflow_sub-n-in-loop-n
-overflow_sub-n-in-loop-n c = omega arith
-
-pub loop-n-smaller : goal.loop-n-smaller
-loop-n-smaller c = omega arith
 
 pub loop-n-preserved : goal.loop-n-preserved
 loop-n-preserved c = join_next _ _ _ _ c.loop-n-test.true c.get.ensures true (lt-ltb _ _ c.if-get-x.false) ∙ c.loop-n.invariant

@@ -2,38 +2,28 @@
 -- because each read takes off what may still come or ends the line. Assumes nothing.
 use mathlib.Core.Path.{sym, ◌∙◌}
 use native.Mathlib.Omega.{arith}
-use Rattle.console.proofs.Reading.{reached_first, reached_again, took_fewer, within_buf, within_same, afresh, took_afresh, next_found, next_end}
+use Rattle.console.proofs.Reading.{reached_first, reached_again, took_fewer, next_found, next_end}
 use Rattle.console.proofs.next_line.Goals as goal
-
-pub take_bytes-s-requires : goal.take_bytes-s-requires
-take_bytes-s-requires c = (within_buf _ _ c.requires.1 c.requires.0, c.requires.2)
-
-pub loop-input-init : goal.loop-input-init
-loop-input-init c = λ r h b x. x
 
 -- in each answer x says what led to the turn, from the function's start on
 
 pub returns-then-end-eq0 : goal.returns-then-end-eq0
 returns-then-end-eq0 c = let x = c.loop-input.invariant _ _ _ (reached_first _ _ _ _ _ c.requires.1 c.take_bytes-s.ensures) in
-    next_end _ _ _ _ _ _ _ x (sym c.is_more.ensures ∙ c.loop-input-test.true) c.read_once-end.array_long _ c.at_end.ensures
+    next_end _ _ _ _ _ _ _ x (sym c.is_more.ensures ∙ c.loop-input-test.true) (c.read_once-end.ensures.size ∙ x.space) _ c.at_end.ensures
 
 pub take_bytes-s-requires-in-loop-input : goal.take_bytes-s-requires-in-loop-input
 take_bytes-s-requires-in-loop-input c = let x = c.loop-input.invariant _ _ _ (reached_first _ _ _ _ _ c.requires.1 c.take_bytes-s.ensures) in (
-  within_same _ (afresh c.loop-input.s c.read_once-end.result) _ c.standing.ensures
-      (record { at = omega arith; end = c.read_once-end.ensures; len = x.within.len }),
+  record { at = omega arith; end = c.read_once-end.ensures.within; len = x.within.len },
   x.size,
 )
 
 pub loop-input-smaller : goal.loop-input-smaller
 loop-input-smaller c =
-    took_fewer c.loop-input.s _ _ _ _ _ (sym c.is_more.ensures ∙ c.loop-input-test.true) c.if-end-eq0.false
-    (took_afresh c.standing.result c.loop-input.s _ _ _ _ _ c.standing.ensures c.take_bytes-s-in-loop-input.ensures)
+    took_fewer c.loop-input.s _ _ _ _ _ (sym c.is_more.ensures ∙ c.loop-input-test.true) c.if-end-eq0.false c.take_bytes-s-in-loop-input.ensures
 
 pub loop-input-preserved : goal.loop-input-preserved
-loop-input-preserved c = λ r h b x.
-    reached_again r h b _ _ _ _ _ _ _ (c.loop-input.invariant r h b x) (sym c.is_more.ensures ∙ c.loop-input-test.true)
-    c.read_once-end.array_long
-    (took_afresh c.standing.result c.loop-input.s _ _ _ _ _ c.standing.ensures c.take_bytes-s-in-loop-input.ensures)
+loop-input-preserved c = λ r h b x. let y = c.loop-input.invariant r h b x in
+    reached_again r h b _ _ _ _ _ _ _ y (sym c.is_more.ensures ∙ c.loop-input-test.true) (c.read_once-end.ensures.size ∙ y.space) c.take_bytes-s-in-loop-input.ensures
 
 pub returns : goal.returns
 returns c = next_found c.args.r c.args.held.now c.args.buf.now c.loop-input.s c.loop-input.held c.loop-input.buf c.loop-input.buf (c.loop-input.invariant _ _ _ (reached_first _ _ _ _ _ c.requires.1 c.take_bytes-s.ensures)) (sym c.is_more.ensures ∙ c.loop-input-test.false)

@@ -2,9 +2,9 @@
 use mathlib.Core.Path.{sym, ◌∙◌}
 use Prim.Native.Nat.{◌+◌, ◌*◌, ◌<◌}
 use native.Mathlib.Omega.{arith}
-use Rattle.layers.proofs.Packing.{copied_first, copied_on, copied_up, layer_low, mark_read, PackedBelow, packed_none, packed_set, packed_kept, packed_all}
+use Rattle.layers.proofs.Packing.{Copied, copied_first, copied_on, copied_up, layer_low, mark_read, PackedBelow, packed_none, packed_set, packed_kept, packed_all}
 use Rattle.layers.proofs.pack.Goals as goal
-use Rattle.layers.proofs.pack.Goals.{In-loop-v, Joined-accepts_in, then-accepts_in, else-accepts_in}
+use Rattle.layers.proofs.pack.Goals.{In-loop-v, Joined-accepts_in, then-accepts_in, else-accepts_in, Joined-s-wide, then-s-wide, else-s-wide}
 
 pub loop-v-init : goal.loop-v-init
 loop-v-init c = let a = c.args in (packed_none a.size a.kinds a.marks.now, copied_first a.size c.requires.2)
@@ -35,21 +35,19 @@ packed c =
       | else-accepts_in w ↦ rw w.words-is (packed_kept n k marks l.words l.v l.invariant.0 low (read ∙ w.if-accepts_in.false))
     ]
 
-pub overflow_add-v : goal.overflow_add-v
-overflow_add-v c = omega arith
-
 pub overflow_add-first-then-s-wide : goal.overflow_add-first-then-s-wide
 overflow_add-first-then-s-wide c = omega (arith, first_small c.before.before.before.before.before)
 
-pub loop-v-preserved-then-s-wide : goal.loop-v-preserved-then-s-wide
-loop-v-preserved-then-s-wide c =
-    let l = c.loop-v in
-    (packed c.before.before, copied_up c.args.size l.v l.s l.first l.invariant.1 (c.if-s-wide.true ∙ c.wide.ensures.0))
+-- where the next turn stands
+next : (c : Joined-s-wide) → Copied c.args.size (c.loop-v.v + 1) c.if-s-wide.s c.if-s-wide.first
+next c = let l = c.loop-v in
+    elim c.if-s-wide.branch [
+      | then-s-wide w ↦ rw w.s-is (rw w.first-is (copied_up c.args.size l.v l.s l.first l.invariant.1 (w.if-s-wide.true ∙ c.wide.ensures.0)))
+      | else-s-wide w ↦ rw w.s-is (rw w.first-is (copied_on c.args.size l.v l.s l.first l.invariant.1 (λ e. w.if-s-wide.false (e ∙ sym c.wide.ensures.0))))
+    ]
 
 pub loop-v-preserved : goal.loop-v-preserved
-loop-v-preserved c =
-    let l = c.loop-v in
-    (packed c.before.before, copied_on c.args.size l.v l.s l.first l.invariant.1 (λ e. c.if-s-wide.false (e ∙ sym c.wide.ensures.0)))
+loop-v-preserved c = (packed c.before.before, next c)
 
 pub returns : goal.returns
 returns c =

@@ -1,26 +1,21 @@
--- `end_of` meets its contract: counted from i, what is left to pass ends at the same place as counted from `from`. Assumes nothing.
-use mathlib.Core.Path.{refl}
-use native.Mathlib.Omega.{arith}
-use Rattle.line.proofs.Fields.{up_to_stop, up_to_more, up_to_end}
+-- `end_of` meets its contract: what stands before the first stop behind the place. Assumes nothing.
+use mathlib.Core.Path.{◌≡◌, ap, ◌∙◌}
+use Prim.Native.Nat.{ℕ, ◌+◌, ◌-◌}
+use mathlib.Core.List.{List}
+use lib.Dec.{eqb}
+use lib.ListN.{length, drop, take}
+use Rattle.std.proofs.Common.{rules, tests}
+use Rattle.std.proofs.lemmas.Iterator.{YieldsList-from_slice}
+use Rattle.std.proofs.lemmas.Iterator.Search.{position_from_yields_List}
+use Rattle.std.proofs.lemmas.List.{take_rest}
+use Rattle.std.specs.Prelude.{position}
+use Rattle.line.specs.Fields.{up_to}
+use Rattle.line.proofs.Fields.{first_stop}
 use Rattle.line.proofs.end_of.Goals as goal
 
-pub loop-i-init : goal.loop-i-init
-loop-i-init c = (c.requires, refl)
-
-pub bounds-s-i : goal.bounds-s-i
-bounds-s-i c = omega arith
-
-pub returns-then-s-i : goal.returns-then-s-i
-returns-then-s-i c = omega (arith, up_to_stop c.args.stop c.args.s.now c.loop-i.i c.loop-i-test.true c.if-s-i.true)
-
-pub overflow_add-i : goal.overflow_add-i
-overflow_add-i c = omega arith
-
-pub loop-i-smaller : goal.loop-i-smaller
-loop-i-smaller c = omega arith
-
-pub loop-i-preserved : goal.loop-i-preserved
-loop-i-preserved c = omega (arith, up_to_more c.args.stop c.args.s.now c.loop-i.i c.loop-i-test.true c.if-s-i.false)
-
 pub returns : goal.returns
-returns c = omega (arith, up_to_end c.args.stop c.args.s.now c.loop-i.i c.loop-i-test.false)
+returns c =
+    let rest : List ℕ = take (length c.args.s.now - c.args.from) (drop c.args.from c.args.s.now) in
+    let found : c.position.result ≡ position (λ x. eqb x c.args.stop) rest =
+    position_from_yields_List (λ x. eqb x c.args.stop) _ _ _ c.position.ensures.ran (YieldsList-from_slice rest cc) (λ x b q k. search (rules, tests)) in
+    ap (λ (n : ℕ). c.args.from + n) (c.unwrap_or.ensures ∙ first_stop _ rest _ found ∙ ap (up_to c.args.stop) (take_rest c.args.s.now c.args.from))

@@ -1,81 +1,50 @@
--- `read_number` meets its contract: the digits from i on, read behind v, give what the whole field gives; v has at most i digits. Assumes nothing.
-use Prim.Native.Nat.{ℕ, ◌≤◌, ◌+◌, ◌*◌, ◌^◌}
+-- `read_number` meets its contract: the digits from the index on, read behind v, give what the whole field gives; v has at most so many digits. Assumes nothing.
+use Prim.Native.Nat.{ℕ, ◌+◌, ◌*◌, ◌^◌}
 use mathlib.Core.Path.{◌≡◌, sym, ◌∙◌}
 use native.Mathlib.Omega.{arith}
 use native.Mathlib.Numerals.{add-one}
-use native.Mathlib.Nat.{pow-suc, pow-le-pow_right}
-use lib.Dec.{lit<}
-use Rattle.line.proofs.Numbers.{number_empty, number_long, number_zero, read_one, read_more, read_low, read_high, read_digit, read_end, read_above}
+use native.Mathlib.Nat.{pow-suc}
+use borrow.Author.Tests.{eqb-true, eqb-false}
+use lib.ListN.{get_or}
+use Rattle.line.specs.Numbers.{is_digit}
+use Rattle.line.proofs.Numbers.{number_empty, number_long, number_zero, read_whole, read_other, read_digit, digit_most, read_end, read_above}
 use Rattle.line.proofs.read_number.Goals as goal
-use Rattle.line.proofs.read_number.Goals.{then-s-gt1+else-s-eq48, else-s-gt1}
-
--- a number of at most 5 digits is below 100,000
-at-most-five : (i : ℕ) → i ≤ 5 → 10 ^ i ≤ 100000
-at-most-five i h = pow-le-pow_right (lit< tt) h
+use Rattle.line.proofs.read_number.Goals.{then-is_empty-via-then-is_empty, then-is_empty-via-else-is_empty+then-s-gt5, then-is_empty-via-else-is_empty+else-s-gt5+then-has_leading_zero}
 
 one_digit_more : (i : ℕ) → 10 ^ (i + 1) ≡ 10 ^ i * 10
 one_digit_more i = rw (add-one) (pow-suc 10 i)
 
-pub returns-then-s-eq0 : goal.returns-then-s-eq0
-returns-then-s-eq0 c = number_empty _ _ c.if-s-eq0.true
+pub returns-then-is_empty : goal.returns-then-is_empty
+returns-then-is_empty c = elim c.then-is_empty.branch [
+  | then-is_empty-via-then-is_empty w ↦ number_empty _ _ (eqb-true _ 0 (sym c.is_empty.ensures ∙ w.if-is_empty.true))
+  | then-is_empty-via-else-is_empty+then-s-gt5 w ↦ number_long _ _ w.if-s-gt5.true
+  | then-is_empty-via-else-is_empty+else-s-gt5+then-has_leading_zero w ↦ number_zero _ _ (sym w.has_leading_zero.ensures ∙ w.if-has_leading_zero.true)
+]
 
-pub returns-then-s-gt5 : goal.returns-then-s-gt5
-returns-then-s-gt5 c = number_long _ _ c.if-s-gt5.true
+pub loop-b-init : goal.loop-b-init
+loop-b-init c = record {
+  short = omega arith;
+  below = omega arith;
+  rest = read_whole _ _ (omega (arith, eqb-false _ 0 (sym c.is_empty.ensures ∙ c.if-is_empty.false))) (omega arith) (sym c.has_leading_zero.ensures ∙ c.if-has_leading_zero.false);
+}
 
-pub bounds-s-0 : goal.bounds-s-0
-bounds-s-0 c = omega arith
+pub returns-then-not-is_ascii_digit : goal.returns-then-not-is_ascii_digit
+unfolding is_digit
+returns-then-not-is_ascii_digit c =
+    sym (read_other _ _ _ c.loop-b.b-index (omega arith) (sym c.is_ascii_digit.ensures.value ∙ c.if-not-is_ascii_digit.true)) ∙ c.loop-b.invariant.rest
 
-pub returns-then-s-eq48 : goal.returns-then-s-eq48
-returns-then-s-eq48 c = number_zero _ _ (omega arith) (omega arith) (omega arith)
+pub loop-b-preserved : goal.loop-b-preserved
+unfolding is_digit
+loop-b-preserved c = record {
+  short = omega arith;
+  below = omega (arith, one_digit_more c.loop-b.b-index, digit_most (get_or c.args.s.now c.loop-b.b-index 0) (sym c.is_ascii_digit.ensures.value ∙ c.if-not-is_ascii_digit.false));
+  rest =
+      rw c.from.ensures
+      (sym (read_digit _ _ _ c.loop-b.b-index (omega arith) (sym c.is_ascii_digit.ensures.value ∙ c.if-not-is_ascii_digit.false)) ∙ c.loop-b.invariant.rest);
+}
 
-pub loop-i-init : goal.loop-i-init
-loop-i-init c = let s = c.args.s.now in (
-  omega arith,
-  omega arith,
-  omega arith,
-  elim c.if-s-gt1.branch [
-    | then-s-gt1+else-s-eq48 w ↦ read_more _ s w.if-s-gt1.true (omega arith) w.if-s-eq48.false
-    | else-s-gt1 w ↦ read_one _ s (omega arith) w.if-s-gt1.false
-  ],
-)
+pub returns-then-v-from : goal.returns-then-v-from
+returns-then-v-from c = sym (read_end _ _ _ c.loop-b.b-index c.loop-b-test.false (omega arith)) ∙ c.loop-b.invariant.rest
 
-pub bounds-s-i : goal.bounds-s-i
-bounds-s-i c = omega arith
-
-pub returns-then-b-lt48 : goal.returns-then-b-lt48
-returns-then-b-lt48 c = sym (read_low _ _ _ c.loop-i.i (omega arith) c.if-b-lt48.true) ∙ c.loop-i.invariant.3
-
-pub returns-then-b-gt57 : goal.returns-then-b-gt57
-returns-then-b-gt57 c = sym (read_high _ _ _ c.loop-i.i (omega arith) c.if-b-gt57.true) ∙ c.loop-i.invariant.3
-
-pub overflow_mul-v : goal.overflow_mul-v
-overflow_mul-v c = omega (arith, at-most-five c.loop-i.i (omega arith))
-
-pub overflow_cast-v : goal.overflow_cast-v
-overflow_cast-v c = omega arith
-
-pub overflow_add-v : goal.overflow_add-v
-overflow_add-v c = omega (arith, at-most-five c.loop-i.i (omega arith))
-
-pub overflow_add-i : goal.overflow_add-i
-overflow_add-i c = omega arith
-
-pub loop-i-smaller : goal.loop-i-smaller
-loop-i-smaller c = omega arith
-
-pub loop-i-preserved : goal.loop-i-preserved
-loop-i-preserved c = (
-  omega arith,
-  omega arith,
-  omega (arith, one_digit_more c.loop-i.i),
-  sym (read_digit _ _ _ c.loop-i.i (omega arith) c.if-b-lt48.false c.if-b-gt57.false) ∙ c.loop-i.invariant.3,
-)
-
-pub overflow_cast-result : goal.overflow_cast-result
-overflow_cast-result c = omega arith
-
-pub returns-then-v-limit : goal.returns-then-v-limit
-returns-then-v-limit c = sym (read_end _ _ _ c.loop-i.i c.loop-i-test.false c.if-v-limit.true) ∙ c.loop-i.invariant.3
-
-pub returns : goal.returns
-returns c = sym (read_above _ _ _ c.loop-i.i c.loop-i-test.false c.if-v-limit.false) ∙ c.loop-i.invariant.3
+pub returns-else-v-from : goal.returns-else-v-from
+returns-else-v-from c = sym (read_above _ _ _ c.loop-b.b-index c.loop-b-test.false (omega arith)) ∙ c.loop-b.invariant.rest

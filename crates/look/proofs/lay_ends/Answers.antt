@@ -1,5 +1,5 @@
 -- `lay_ends` meets its contract: the first i entries are the starts behind. Assumes nothing.
-use Rattle.std.proofs.Common.{◌≡◌, ℕ, ◌+◌, ◌<◌, ◌≤◌, eqb, List, get_or, set, sym, ◌∙◌, ⊎_elim, arith, length-set, get_or-set_other, get_or-set_same, ext_get_or, eqb-true}
+use Rattle.std.proofs.Common.{◌≡◌, ℕ, ◌+◌, ◌<◌, ◌≤◌, eqb, List, get_or, set, sym, ◌∙◌, ⊎_elim, arith, rules, length-set, get_or-set_other, get_or-set_same, ext_get_or, eqb-true}
 use borrow.Author.Tests.{eqb-false}
 use Rattle.plain.proofs.Tests.{either}
 use Rattle.rows.proofs.Paste.{same_place}
@@ -25,7 +25,7 @@ laid_all starts ends i h r =
     (λ j l. r.laid j (omega (arith, r.size)) ∙ sym (entries_at 512 1 starts j (omega (arith, r.size))))
 
 pub loop-v-init : goal.loop-v-init
-loop-v-init c = record { within = omega arith; size = c.requires.1; laid = λ j l. absurd (omega arith) }
+loop-v-init c = record { within = omega arith; size = search rules; laid = λ j l. absurd (omega arith) }
 
 pub loop-v-preserved : goal.loop-v-preserved
 loop-v-preserved c = laid_more c.args.starts.now c.loop-v.ends c.loop-v.v c.loop-v-test.true c.loop-v.invariant

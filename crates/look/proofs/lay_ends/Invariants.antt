@@ -1,5 +1,5 @@
 -- `lay_ends` meets its contract: the first i entries are the starts behind. Assumes nothing.
-use Rattle.std.proofs.Common.{◌≡◌, ℕ, ◌+◌, ◌-◌, ◌<◌, ◌≤◌, List, length, get_or}
+use Rattle.std.proofs.Common.{◌≡◌, ℕ, ◌+◌, ◌<◌, ◌≤◌, List, length, get_or}
 use Rattle.look.proofs.lay_ends.Given as goal
 
 -- the first i entries are the starts behind
@@ -10,6 +10,3 @@ pub record Laid (starts ends : List ℕ) (i : ℕ) : Type 0 where
 
 abbrev pub invariant-loop-v : goal.invariant-loop-v
 invariant-loop-v l = Laid l.starts l.ends l.v
-
-abbrev pub decreases-loop-v : goal.decreases-loop-v
-decreases-loop-v l = 512 - l.v

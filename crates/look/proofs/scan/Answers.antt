@@ -1,21 +1,18 @@
 -- `scan` meets its contract: each turn passes over one edge of the row. Assumes nothing.
 use Rattle.std.proofs.Common.{sym, ◌∙◌, arith}
-use Rattle.look.specs.Scan.{layout_of, row_laid}
+use Rattle.look.specs.Scan.{row_laid}
 use Rattle.look.proofs.Counting.{up_is}
 use Rattle.look.proofs.Scans.{laid_length, laid_within, laid_at, scan_begins, scan_goes_on, scan_finds, scan_ends}
 use Rattle.look.proofs.scan.Goals as goal
 
-pub stretch_of-row-requires : goal.stretch_of-row-requires
-stretch_of-row-requires c = (c.requires.0.begins_size, c.requires.0.ends_size, c.requires.0.bases_size)
-
 pub loop-e-init : goal.loop-e-init
-loop-e-init c = let a = c.args in scan_begins (row_laid a.targets.now (layout_of a.begins.now a.ends.now a.bases.now) a.v) a.array.now a.k a.spent.now
+loop-e-init c = let a = c.args in scan_begins (row_laid a.targets.now a.layout.now a.v) a.array.now a.k a.spent.now
 
-pub overflow_add-from : goal.overflow_add-from
-overflow_add-from c = omega (arith, laid_within c.args.targets.now _ _ _ c.stretch_of-row.ensures c.loop-e.e c.loop-e-test.true)
+pub overflow_add-row : goal.overflow_add-row
+overflow_add-row c = omega (arith, laid_within c.args.targets.now _ _ _ c.stretch_of-row.ensures c.loop-e.e c.loop-e-test.true)
 
 pub look-requires : goal.look-requires
-look-requires c = (c.requires.0.targets_size, laid_within c.args.targets.now _ _ _ c.stretch_of-row.ensures c.loop-e.e c.loop-e-test.true)
+look-requires c = laid_within c.args.targets.now _ _ _ c.stretch_of-row.ensures c.loop-e.e c.loop-e-test.true
 
 pub overflow_add-t : goal.overflow_add-t
 overflow_add-t c = omega (arith, c.wide.ensures.1, c.stretch_of-row.ensures.base_small)
@@ -32,9 +29,6 @@ returns-then-array-t c =
     (laid_at c.args.targets.now _ _ _ z c.loop-e.e c.loop-e-test.true c.wide.result (c.wide.ensures.0 ∙ c.look.ensures.0))
     (c.look.ensures.1 ∙ sym (up_is c.loop-e.spent))
     _ _ c.narrow.ensures c.narrow-then-array-t.ensures c.if-array-t.true
-
-pub overflow_add-e : goal.overflow_add-e
-overflow_add-e c = omega (arith, laid_within c.args.targets.now _ _ _ c.stretch_of-row.ensures c.loop-e.e c.loop-e-test.true)
 
 pub loop-e-preserved : goal.loop-e-preserved
 loop-e-preserved c =

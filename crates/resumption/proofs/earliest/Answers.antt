@@ -1,5 +1,5 @@
 -- `earliest` meets its contract: the first so far, and the copies of the states that are left, give that of all. Assumes nothing.
-use mathlib.Core.Path.{◌≡◌, refl, sym, ap, ◌∙◌}
+use mathlib.Core.Path.{◌≡◌, sym, ap, ◌∙◌}
 use mathlib.Core.List.{List, ◌∷◌}
 use Prim.Native.Nat.{ℕ, suc, ◌+◌, ◌≤◌}
 use native.Mathlib.Omega.{arith}
@@ -11,15 +11,6 @@ use Rattle.resumption.proofs.FirstMet.{first_append, taken_none, taken_at}
 use Rattle.resumption.proofs.earliest.Invariants.{among}
 use Rattle.resumption.proofs.earliest.Goals as goal
 
-pub loop-i-init : goal.loop-i-init
-loop-i-init c = (omega arith, refl)
-
-pub overflow_add-i : goal.overflow_add-i
-overflow_add-i c = omega (arith, c.loop-i-test.true)
-
-pub loop-i-smaller : goal.loop-i-smaller
-loop-i-smaller c = omega (arith, c.loop-i-test.true)
-
 -- one state more
 next : (size kinds : ℕ) (number states : List ℕ) (first : First) (i : ℕ) → suc i ≤ length states
     → among size kinds number (first_of first (copies_up size kinds (get_or states i 0)) number) (drop (i + 1) states) ≡ among size kinds number first (drop i states)
@@ -29,15 +20,12 @@ next size kinds number states first i h =
     sym (ap (among size kinds number first) (drop-cons states i 0 h ∙ ap (λ (k : ℕ). get_or states i 0 ∷ drop k states) up)
     ∙ first_append number first (copies_up size kinds (get_or states i 0)) (copies_up_all size kinds (drop (i + 1) states)))
 
-pub loop-i-preserved : goal.loop-i-preserved
-loop-i-preserved c = let t = c in
-    let w = t.loop-i in
-    let a = t.args in (
-      omega (arith, t.loop-i-test.true),
-      ap (λ (f : First). among a.size a.kinds a.number.now f (drop (w.i + 1) a.states.now)) c.earlier-first.ensures
-          ∙ next a.size a.kinds a.number.now a.states.now w.first w.i t.loop-i-test.true
-          ∙ w.invariant.1,
-    )
+pub loop-state-preserved : goal.loop-state-preserved
+loop-state-preserved c = let w = c.loop-state in
+    let a = c.args in
+    ap (λ (f : First). among a.size a.kinds a.number.now f (drop (w.state-index + 1) a.states.now)) c.earlier-first.ensures
+    ∙ next a.size a.kinds a.number.now a.states.now w.first w.state-index c.loop-state-test.true
+    ∙ w.invariant
 
 -- no state is left
 last : (size kinds : ℕ) (number states : List ℕ) (first : First) (i : ℕ) → length states ≤ i → first ≡ among size kinds number first (drop i states)
@@ -45,13 +33,11 @@ unfolding copies_up_all first_of
 last size kinds number states first i h = sym (ap (among size kinds number first) (drop_of_length-le states h))
 
 pub returns-then-first : goal.returns-then-first
-returns-then-first c = let e = c in
-    let w = e.loop-i in
-    let a = e.args in
-    sym (taken_none a.number.now w.first c.if-first.true) ∙ ap taken_up_at (last a.size a.kinds a.number.now a.states.now w.first w.i e.loop-i-test.false ∙ w.invariant.1)
+returns-then-first c = let w = c.loop-state in
+    let a = c.args in
+    sym (taken_none a.number.now w.first c.if-first.true) ∙ ap taken_up_at (last a.size a.kinds a.number.now a.states.now w.first w.state-index c.loop-state-test.false ∙ w.invariant)
 
 pub returns : goal.returns
-returns c = let e = c in
-    let w = e.loop-i in
-    let a = e.args in
-    sym (taken_at a.number.now w.first c.if-first.false) ∙ ap taken_up_at (last a.size a.kinds a.number.now a.states.now w.first w.i e.loop-i-test.false ∙ w.invariant.1)
+returns c = let w = c.loop-state in
+    let a = c.args in
+    sym (taken_at a.number.now w.first c.if-first.false) ∙ ap taken_up_at (last a.size a.kinds a.number.now a.states.now w.first w.state-index c.loop-state-test.false ∙ w.invariant)

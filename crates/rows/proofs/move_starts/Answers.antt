@@ -29,8 +29,8 @@ loop-j-preserved c = let a = c.args in
     in (
       omega arith,
       omega arith,
-      copy_stores xs a.from src j (omega arith) (omega arith) more c.loop-j.starts c.loop-j.invariant.2 c.moved_one-x.result
-          (c.moved_one-x.ensures ∙ ap (moved_one a.up) read ∙ sym (get_d_map (moved_one a.up) old (j - a.from) (omega arith))),
+      copy_stores xs a.from src j (omega arith) (omega arith) more c.loop-j.starts c.loop-j.invariant.2 c.moved_one.result
+          (c.moved_one.ensures ∙ ap (moved_one a.up) read ∙ sym (get_d_map (moved_one a.up) old (j - a.from) (omega arith))),
     )
 
 pub returns : goal.returns

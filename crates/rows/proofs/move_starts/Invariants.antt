@@ -9,6 +9,3 @@ use Rattle.rows.proofs.move_starts.Given as goal
 
 abbrev pub invariant-loop-j : goal.invariant-loop-j
 invariant-loop-j l = (l.from ≤ l.j) × (l.j ≤ suc l.last) × (l.starts ≡ paste l.initial.starts l.from (map (moved_one l.up) (drop l.from l.initial.starts)) (l.j - l.from))
-
-abbrev pub decreases-loop-j : goal.decreases-loop-j
-decreases-loop-j l = suc l.last - l.j

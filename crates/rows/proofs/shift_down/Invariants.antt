@@ -7,6 +7,3 @@ use Rattle.rows.proofs.shift_down.Given as goal
 
 abbrev pub invariant-loop-j : goal.invariant-loop-j
 invariant-loop-j l = (l.at ≤ l.j) × (l.j + 1 ≤ l.count) × (l.targets ≡ paste l.initial.targets l.at (drop (suc l.at) l.initial.targets) (l.j - l.at))
-
-abbrev pub decreases-loop-j : goal.decreases-loop-j
-decreases-loop-j l = l.count - l.j

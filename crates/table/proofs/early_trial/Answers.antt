@@ -3,7 +3,6 @@ use mathlib.Core.Path.{◌≡◌, sym, ap, ◌∙◌}
 use mathlib.Core.Bool.{Bool, false}
 use mathlib.Core.List.{List, [], ◌∷◌}
 use Prim.Native.Nat.{ℕ, ◌/◌, ◌%◌, ◌≤◌, ◌<◌}
-use native.Mathlib.Omega.{arith}
 use lib.ListN.{length}
 use borrow.Author.Tests.{le-leb, lt-leb}
 use Rattle.plain.specs.Lists.{any}
@@ -13,7 +12,7 @@ use Rattle.plain.proofs.Tables.{count_fine}
 use Rattle.table.specs.declared.Trial.{Trial}
 use Rattle.table.specs.declared.Trial.TheVariants.{Accepted, Refused}
 use Rattle.table.specs.Trials.{tried, early_trial}
-use Rattle.table.proofs.Trying.{stop, skip, none_held, size_none, size_large, size_fine, count_odd, count_large}
+use Rattle.table.proofs.Trying.{stop, skip, none_held, size_outside, size_fine, count_wrong}
 use Rattle.table.proofs.Pairs.{pairs_half}
 use Rattle.table.proofs.early_trial.Goals as goal
 
@@ -23,11 +22,7 @@ start_ok size start h = lt-leb _ _ h
 
 pub returns-then-size-eq0 : goal.returns-then-size-eq0
 unfolding early_trial
-returns-then-size-eq0 c = stop 2 _ _ (size_none _ c.if-size-eq0.true)
-
-pub returns-then-size-gt-STATES : goal.returns-then-size-gt-STATES
-unfolding early_trial
-returns-then-size-gt-STATES c = stop 2 _ _ (size_large _ c.if-size-gt-STATES.true)
+returns-then-size-eq0 c = stop 2 _ _ (size_outside _ c.then-size-eq0.either)
 
 pub returns-then-size-start : goal.returns-then-size-start
 unfolding early_trial bad_start
@@ -64,15 +59,7 @@ module _ (size start kinds : ℕ) (marks numbers : List ℕ) (some : size ≡ 0 
 pub returns-then-numbers-eq1 : goal.returns-then-numbers-eq1
 returns-then-numbers-eq1 c = let a = c.args in
     behind a.size a.start a.kinds a.marks.now a.numbers.now c.if-size-eq0.false c.if-size-gt-STATES.false c.if-size-start.false _ c.marks_outside.ensures c.if-marks_outside.false (Refused 5)
-    (stop 5 _ _ (count_odd _ c.if-numbers-eq1.true))
-
-pub returns-then-numbers-gt-NUMBERS : goal.returns-then-numbers-gt-NUMBERS
-returns-then-numbers-gt-NUMBERS c = let a = c.args in
-    behind a.size a.start a.kinds a.marks.now a.numbers.now c.if-size-eq0.false c.if-size-gt-STATES.false c.if-size-start.false _ c.marks_outside.ensures c.if-marks_outside.false (Refused 5)
-    (stop 5 _ _ (count_large _ c.if-numbers-gt-NUMBERS.true))
-
-pub kinds_outside-requires : goal.kinds_outside-requires
-kinds_outside-requires c = omega arith
+    (stop 5 _ _ (count_wrong _ c.then-numbers-eq1.either))
 
 pub returns-then-kinds_outside : goal.returns-then-kinds_outside
 returns-then-kinds_outside c = let a = c.args in

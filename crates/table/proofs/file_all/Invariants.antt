@@ -1,11 +1,8 @@
--- `file_all` meets its contract: the moves before place i are filed, none of them twice. Assumes nothing.
-use Prim.Native.Nat.{◌-◌, ◌≤◌}
-use lib.ListN.{length}
+-- `file_all` meets its contract: the moves ahead of the rest of the list are filed, none of them twice. Assumes nothing.
+use mathlib.Core.Path.{◌≡◌}
+use Rattle.std.specs.Slice.Iter.{chunks_exact_rest, chunks_exact_size}
 use Rattle.table.proofs.Filing.{FiledTo}
 use Rattle.table.proofs.file_all.Given as goal
 
-abbrev pub invariant-loop-i : goal.invariant-loop-i
-invariant-loop-i l = (l.i ≤ length l.numbers) × FiledTo l.size l.numbers l.i l.targets l.starts
-
-abbrev pub decreases-loop-i : goal.decreases-loop-i
-decreases-loop-i l = length l.numbers - l.i
+abbrev pub invariant-loop-edge : goal.invariant-loop-edge
+invariant-loop-edge l = (chunks_exact_size l.edge-iterator ≡ 2) × FiledTo l.size l.numbers (chunks_exact_rest l.edge-iterator) l.rows

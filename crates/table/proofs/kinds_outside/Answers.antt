@@ -1,48 +1,50 @@
 -- `kinds_outside` meets its contract: the parts of the condition in their order. Assumes nothing.
-use mathlib.Core.Path.{◌≡◌, sym, ap}
-use mathlib.Core.Bool.{Bool, false, ◌||◌}
+use mathlib.Core.Path.{◌≡◌, sym, ap, ◌∙◌}
+use mathlib.Core.Logic.{◌⊎◌}
+use mathlib.Core.Bool.{true}
 use Prim.Native.Nat.{ℕ, ◌*◌, ◌≤◌, ◌<◌}
-use native.Mathlib.Nat.{mul-le-mul}
 use native.Mathlib.Omega.{arith}
-use lib.Dec.{eqb, ltb}
-use borrow.Author.Tests.{eq-eqb, ne_eqb, lt-ltb, le-ltb}
+use lib.Dec.{ltb}
+use borrow.Author.Tests.{ltb-true, ltb-false, eqb-false}
+use Rattle.std.proofs.lemmas.Bool.Decides.{nat_tests}
 use Rattle.plain.specs.Refusals.{bad_kinds}
-use Rattle.plain.proofs.Tests.{or_first}
 use Rattle.table.proofs.kinds_outside.Goals as goal
+use Rattle.table.proofs.kinds_outside.Goals.{then-kinds-eq0, else-kinds-eq0, then-kinds-gt-KINDS, else-kinds-gt-KINDS}
 
--- where the first part does not hold, the others decide
-next : (a b : Bool) {r : Bool} → a ≡ false → r ≡ b → r ≡ (a || b)
-next a b e h = rw e h
+module _ (k n m : ℕ) where
+  none : (k ≡ 0) ⊎ ((k ≡ 0 → ⊥) × (4 < k)) → bad_kinds k n m ≡ true
+  unfolding bad_kinds
+  none h = grind (arith, nat_tests)
 
-pub returns-then-kinds-eq0 : goal.returns-then-kinds-eq0
-unfolding bad_kinds
-returns-then-kinds-eq0 c = let k = c.args.kinds in sym (or_first (eqb k 0) _ (eq-eqb k 0 c.if-kinds-eq0.true))
+  large : (k ≡ 0 → ⊥) → k ≤ 4 → 512 < n * k → bad_kinds k n m ≡ true
+  unfolding bad_kinds
+  large some few h = grind (arith, nat_tests)
 
-pub returns-then-kinds-gt-KINDS : goal.returns-then-kinds-gt-KINDS
-unfolding bad_kinds
-returns-then-kinds-gt-KINDS c = let k = c.args.kinds in
-    next (eqb k 0) _ (ne_eqb k 0 c.if-kinds-eq0.false) (sym (or_first (ltb 4 k) _ (lt-ltb 4 k c.if-kinds-gt-KINDS.true)))
+  fine : (k ≡ 0 → ⊥) → k ≤ 4 → n * k ≤ 512 → bad_kinds k n m ≡ ltb 2048 (m * k)
+  unfolding bad_kinds
+  fine some few h = grind (arith, nat_tests)
 
 pub returns-then-times-gt-COPIES : goal.returns-then-times-gt-COPIES
-unfolding bad_kinds
-returns-then-times-gt-COPIES c = let t = c in
-    let e = t in
-    let a = e.args in
-    let k = a.kinds in
-    let large : 512 < a.size * k = omega (arith, t.times.ensures, c.if-times-gt-COPIES.true) in
-    next (eqb k 0) _ (ne_eqb k 0 e.if-kinds-eq0.false) (next (ltb 4 k) _ (le-ltb 4 k e.if-kinds-gt-KINDS.false) (sym (or_first (ltb 512 (a.size * k)) _ (lt-ltb 512 (a.size * k) large))))
+returns-then-times-gt-COPIES c = let t = c.if-times-gt-COPIES.true in
+    let a = c.args in
+    t ∙ sym (elim c.if-kinds-gt-KINDS.branch [
+      | then-kinds-gt-KINDS w ↦ none a.kinds a.size a.moves w.if-kinds-gt-KINDS.either
+      | else-kinds-gt-KINDS w ↦
+          let many : 512 < w.times.result = ltb-true _ _ (sym w.value-is ∙ t) in
+          large a.kinds a.size a.moves w.if-kinds-gt-KINDS.false.0 w.if-kinds-gt-KINDS.false.1 (omega (arith, w.times.ensures))
+    ])
 
-product : (m k : ℕ) → m ≤ 65535 → k ≤ 4 → m * k ≤ 262140
-product m k h j = omega (arith, mul-le-mul h j)
-
-pub overflow_mul-result : goal.overflow_mul-result
-overflow_mul-result c = omega (arith, c.wide.ensures, product c.args.moves c.wide.result (omega (arith, c.requires)) (omega (arith, c.wide.ensures, c.if-kinds-gt-KINDS.false)))
-
-pub returns : goal.returns
-unfolding bad_kinds
-returns c = let t = c in
-    let e = t in
-    let a = e.args in
-    let k = a.kinds in
-    let small : a.size * k ≤ 512 = omega (arith, t.times.ensures, c.if-times-gt-COPIES.false) in
-    next (eqb k 0) _ (ne_eqb k 0 e.if-kinds-eq0.false) (next (ltb 4 k) _ (le-ltb 4 k e.if-kinds-gt-KINDS.false) (next (ltb 512 (a.size * k)) _ (le-ltb 512 (a.size * k) small) (ap (λ (n : ℕ). ltb 2048 (a.moves * n)) c.wide.ensures.0)))
+pub returns-else-times-gt-COPIES : goal.returns-else-times-gt-COPIES
+returns-else-times-gt-COPIES c = let t = c.if-times-gt-COPIES.false in
+    let a = c.args in
+    elim c.if-kinds-gt-KINDS.branch [
+      | then-kinds-gt-KINDS w ↦ elim c.if-kinds-eq0.branch [
+        | then-kinds-eq0 v ↦ absurd (eqb-false _ _ (sym v.t-6-is ∙ sym w.value-is ∙ t) v.if-kinds-eq0.true)
+        | else-kinds-eq0 v ↦
+            let few : a.kinds ≤ 4 = ltb-false _ _ (sym v.t-6-is ∙ sym w.value-is ∙ t) in
+            absurd (omega (arith, w.if-kinds-gt-KINDS.either, v.if-kinds-eq0.false))
+      ]
+      | else-kinds-gt-KINDS w ↦
+          let few : w.times.result ≤ 512 = ltb-false _ _ (sym w.value-is ∙ t) in
+          ap (λ (n : ℕ). ltb 2048 (a.moves * n)) c.wide.ensures.0 ∙ sym (fine a.kinds a.size a.moves w.if-kinds-gt-KINDS.false.0 w.if-kinds-gt-KINDS.false.1 (omega (arith, w.times.ensures)))
+    ]

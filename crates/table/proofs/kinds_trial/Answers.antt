@@ -13,11 +13,10 @@ unfolding kinds_trial_in
 returns-then-size-eq0 c = stop 2 _ _ (eq-eqb _ 0 c.if-size-eq0.true)
 
 -- the moves are those that the rows count
-asked : (c : After-kinds_outside) → let a = c.args in bad_kinds a.new a.size (edge_count a.starts.now a.size) ≡ c.kinds_outside.result
+asked : (c : After-kinds_outside) → let a = c.args in bad_kinds a.new a.size (edge_count a.rows.now.starts a.size) ≡ c.kinds_outside.result
 asked c =
-    let w = c in
-    let a = w.args in
-    ap (bad_kinds a.new a.size) (sym (w.wide.ensures.0 ∙ w.edge_count.ensures)) ∙ sym c.kinds_outside.ensures
+    let a = c.args in
+    ap (bad_kinds a.new a.size) (sym (c.wide.ensures.0 ∙ c.edge_count.ensures)) ∙ sym c.kinds_outside.ensures
 
 pub returns-then-kinds_outside : goal.returns-then-kinds_outside
 unfolding kinds_trial_in
@@ -25,5 +24,4 @@ returns-then-kinds_outside c = skip _ 2 _ _ (ne_eqb _ 0 c.if-size-eq0.false) (st
 
 pub returns : goal.returns
 unfolding kinds_trial_in
-returns c = let e = c in
-    skip _ 2 _ _ (ne_eqb _ 0 e.if-size-eq0.false) (skip _ 16 _ _ (asked e.before.before ∙ e.if-kinds_outside.false) c.room_trial.ensures)
+returns c = skip _ 2 _ _ (ne_eqb _ 0 c.if-size-eq0.false) (skip _ 16 _ _ (asked c.before.before ∙ c.if-kinds_outside.false) c.room_trial.ensures)

@@ -17,10 +17,8 @@ returns-then-size-state c = skip (Refused 6) 4 _ _ (le-ltb _ _ c.if-kinds-kind.f
 
 pub returns-then-carries : goal.returns-then-carries
 unfolding mark_conditions beyond
-returns-then-carries c = let o = c in
-    skip (Refused 13) 4 _ _ (le-ltb _ _ o.if-kinds-kind.false) (skip (Refused 13) 6 _ _ (lt-leb _ _ o.if-size-state.false) (stop 13 _ _ (sym c.carries.ensures ∙ c.if-carries.true)))
+returns-then-carries c = skip (Refused 13) 4 _ _ (le-ltb _ _ c.if-kinds-kind.false) (skip (Refused 13) 6 _ _ (lt-leb _ _ c.if-size-state.false) (stop 13 _ _ (sym c.carries.ensures ∙ c.if-carries.true)))
 
 pub returns : goal.returns
 unfolding mark_conditions beyond
-returns c = let o = c in
-    skip Accepted 4 _ _ (le-ltb _ _ o.if-kinds-kind.false) (skip Accepted 6 _ _ (lt-leb _ _ o.if-size-state.false) (skip Accepted 13 _ _ (sym c.carries.ensures ∙ c.if-carries.false) none_held))
+returns c = skip Accepted 4 _ _ (le-ltb _ _ c.if-kinds-kind.false) (skip Accepted 6 _ _ (lt-leb _ _ c.if-size-state.false) (skip Accepted 13 _ _ (sym c.carries.ensures ∙ c.if-carries.false) none_held))

@@ -18,10 +18,8 @@ returns-then-size-state c = skip (Refused 6) 4 _ _ (le-ltb _ _ c.if-kinds-kind.f
 
 pub returns-then-not-carries : goal.returns-then-not-carries
 unfolding unmark_conditions beyond
-returns-then-not-carries c = let o = c in
-    skip (Refused 14) 4 _ _ (le-ltb _ _ o.if-kinds-kind.false) (skip (Refused 14) 6 _ _ (lt-leb _ _ o.if-size-state.false) (stop 14 _ _ (ap not (sym c.carries.ensures ∙ c.if-not-carries.true))))
+returns-then-not-carries c = skip (Refused 14) 4 _ _ (le-ltb _ _ c.if-kinds-kind.false) (skip (Refused 14) 6 _ _ (lt-leb _ _ c.if-size-state.false) (stop 14 _ _ (ap not (sym c.carries.ensures ∙ c.if-not-carries.true))))
 
 pub returns : goal.returns
 unfolding unmark_conditions beyond
-returns c = let o = c in
-    skip Accepted 4 _ _ (le-ltb _ _ o.if-kinds-kind.false) (skip Accepted 6 _ _ (lt-leb _ _ o.if-size-state.false) (skip Accepted 14 _ _ (ap not (sym c.carries.ensures ∙ c.if-not-carries.false)) none_held))
+returns c = skip Accepted 4 _ _ (le-ltb _ _ c.if-kinds-kind.false) (skip Accepted 6 _ _ (lt-leb _ _ c.if-size-state.false) (skip Accepted 14 _ _ (ap not (sym c.carries.ensures ∙ c.if-not-carries.false)) none_held))

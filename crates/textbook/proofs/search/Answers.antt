@@ -1,15 +1,12 @@
 -- `search` meets its contract: a refusal, or the table filed, its marks packed and the start state visited. Assumes nothing.
-use Rattle.std.proofs.Common.{refl, sym, ◌∙◌, ℕ, List, length}
+use Rattle.std.proofs.Common.{sym, ◌∙◌, ℕ, List, length}
 use Rattle.plain.specs.Table.{by_kind}
 use Rattle.plain.specs.Refusals.{Load, load_trial}
 use Rattle.table.proofs.Trying.{tried_refused, tried_accepted}
 use Rattle.verdict.proofs.Loads.{load_refused}
 use Rattle.table.proofs.Holding.{packs}
-use Rattle.textbook.proofs.Whole.{searched_right}
+use Rattle.textbook.proofs.Whole.{told_lengths, searched_right}
 use Rattle.textbook.proofs.search.Goals as goal
-
-pub load_trial-trial-requires : goal.load_trial-trial-requires
-load_trial-trial-requires c = record { no_targets = refl; no_starts = refl }
 
 -- the game that is searched
 abbrev game : (size start kinds : ℕ) → List ℕ → List ℕ → Load
@@ -28,17 +25,12 @@ pack-words-requires c =
     let l = game a.size a.start a.kinds a.marks a.numbers.now in
     packs l (length a.lent.now) (tried_accepted (load_trial l (length a.lent.now)) (sym c.load_trial-trial.ensures.trial_is ∙ c.in_default.is))
 
-pub visit_start-r-requires : goal.visit_start-r-requires
-visit_start-r-requires c = ((c.load_trial-trial.ensures.filed c.in_default.is).compressed.tabled, refl)
-
-pub tell-requires : goal.tell-requires
-tell-requires c = c.visit_start-r.ensures.visits.kept.walk_size
-
 -- the load is accepted
 pub returns : goal.returns
 returns c =
     let a = c.args in
     let l = game a.size a.start a.kinds a.marks a.numbers.now in
     let f = c.load_trial-trial.ensures in
-    searched_right l a.lent.now _ _ _ (tried_accepted (load_trial l (length a.lent.now)) (sym f.trial_is ∙ c.in_default.is)) (f.filed c.in_default.is) c.pack-words.ensures c.down-above.ensures c.visit_start-r.ensures
-    c.stem_of.ensures c.length_of.ensures c.tell.ensures
+    let told = told_lengths c.visit_start.result c.unwrap_or-walk.ensures in
+    searched_right l a.lent.now _ _ _ (tried_accepted (load_trial l (length a.lent.now)) (sym f.trial_is ∙ c.in_default.is)) (f.filed c.in_default.is) c.pack-words.ensures c.down-above.ensures c.visit_start.ensures
+    told.0 told.1 c.tell.ensures

@@ -1,13 +1,9 @@
--- `lower` meets its contract: the first i entries are lowered. Assumes nothing.
+-- `lower` meets its contract: the first entries are lowered. Assumes nothing.
 use mathlib.Core.Path.{◌≡◌}
-use Prim.Native.Nat.{◌-◌, ◌≤◌}
-use lib.ListN.{length}
-use Rattle.verdict.specs.Answers.{lowered}
-use Rattle.verdict.proofs.Writing.{over}
+use mathlib.Core.List.{◌++◌, map}
+use lib.ListN.{take, drop}
+use Rattle.plain.specs.Layers.{state_of}
 use Rattle.verdict.proofs.lower.Given as goal
 
-abbrev pub invariant-loop-i : goal.invariant-loop-i
-invariant-loop-i l = (l.i ≤ l.count) × (length l.list ≡ length l.initial.list) × (l.list ≡ over l.i (lowered l.size l.above l.initial.list) l.initial.list)
-
-abbrev pub decreases-loop-i : goal.decreases-loop-i
-decreases-loop-i l = l.count - l.i
+abbrev pub invariant-loop-state : goal.invariant-loop-state
+invariant-loop-state l = l.state-items ≡ map (state_of l.size l.above) (take l.state-index l.initial.state-items) ++ drop l.state-index l.initial.state-items

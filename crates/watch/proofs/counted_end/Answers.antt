@@ -1,35 +1,17 @@
--- `watch::counted_end`: what may count ends at i; no newline stands between i and the limit.
-use mathlib.Core.Path.{◌≡◌}
+-- `watch::counted_end`: all of it, or the whole lines within the limit.
+use mathlib.Core.Path.{sym}
 use native.Mathlib.Omega.{arith}
-use Rattle.watch.proofs.Counting.{counted_all_lem, counted_above, end_here, end_before, none_whole}
+use lib.Seq.{length-take-le}
+use Rattle.watch.proofs.Counting.{counted_all_lem, counted_above}
 use Rattle.watch.proofs.counted_end.Goals as goal
 
 pub returns-then-text-le-LIMIT : goal.returns-then-text-le-LIMIT
 returns-then-text-le-LIMIT c = (omega arith, counted_all_lem _ c.if-text-le-LIMIT.true)
 
-pub loop-i-init : goal.loop-i-init
-loop-i-init c = (omega arith, counted_above _ c.if-text-le-LIMIT.false)
+pub slice_bounds-whole_end-end : goal.slice_bounds-whole_end-end
+slice_bounds-whole_end-end c = sym (length-take-le 4294967295 c.args.text.now (omega arith))
 
-pub overflow_sub-last : goal.overflow_sub-last
-overflow_sub-last c = omega arith
-
-pub bounds-text-last : goal.bounds-text-last
-bounds-text-last c = omega arith
-
-pub returns-then-text-last-eq-NEWLINE : goal.returns-then-text-last-eq-NEWLINE
-returns-then-text-last-eq-NEWLINE c = let t = c in
-    let l = t in
-    (l.loop-i.invariant.0, end_here _ l.loop-i.i t.loop-i-test.true l.loop-i.invariant.0 c.if-text-last-eq-NEWLINE.true l.loop-i.invariant.1)
-
-pub loop-i-smaller : goal.loop-i-smaller
-loop-i-smaller c = omega arith
-
-pub loop-i-preserved : goal.loop-i-preserved
-loop-i-preserved c = let t = c in
-    let l = t in
-    (omega arith, end_before _ l.loop-i.i t.loop-i-test.true l.loop-i.invariant.0 c.if-text-last-eq-NEWLINE.false l.loop-i.invariant.1)
-
-pub returns : goal.returns
-returns c = let l = c in
-    let e : l.loop-i.i ≡ 0 = omega arith in
-    (omega arith, none_whole _ (rw e at l.loop-i.invariant.1))
+pub returns-else-text-le-LIMIT : goal.returns-else-text-le-LIMIT
+returns-else-text-le-LIMIT c =
+    let most = length-take-le 4294967295 c.args.text.now (omega arith) in
+    (omega (arith, most, c.whole_end.ensures.0), counted_above _ _ c.if-text-le-LIMIT.false (omega (arith, most, c.whole_end.ensures.0)) c.whole_end.ensures.1)

@@ -5,11 +5,8 @@ use Rattle.search.proofs.outer.finish.Goals as goal
 
 pub returns-then-accepts : goal.returns-then-accepts
 returns-then-accepts c = let a = c.args in
-    finish_nests a.parent.now a.index.now a.w (sym c.accepts.ensures ∙ c.if-accepts.true)
-
-pub leave-requires : goal.leave-requires
-leave-requires c = c.requires
+    finish_nests a.records.now.parent a.records.now.index a.w (sym c.accepts.ensures ∙ c.if-accepts.true)
 
 pub returns : goal.returns
 returns c = let a = c.args in
-    finish_leaves a.parent.now a.index.now a.w _ c.leave.ensures (sym c.accepts.ensures ∙ c.if-accepts.false)
+    finish_leaves a.records.now.parent a.records.now.index a.w _ c.leave.ensures (sym c.accepts.ensures ∙ c.if-accepts.false)
