@@ -236,11 +236,11 @@ def need(name, *packages):
     subprocess.run([ROOT / "tests" / "need", name, *packages], check=True)
 
 
-def compile_c(source, folder):
+def compile_c(source, folder, *options):
     """A C program of the tests with the archive, compiled."""
     need("gcc", "gcc", "libc6-dev")
     target = "%s/%s" % (folder, pathlib.Path(source).stem)
-    subprocess.run(["gcc", "-Wall", "-Wextra", "-Werror", "-O2", "-I", ROOT / "include", ROOT / source, ARCHIVE, "-o", target], check=True)
+    subprocess.run(["gcc", "-Wall", "-Wextra", "-Werror", "-O2", "-I", ROOT / "include", ROOT / source, ARCHIVE, *options, "-o", target], check=True)
     return target
 
 

@@ -48,7 +48,10 @@ fn write_part(walk: &[u16; 512], from: u16, count: u16, out: &mut [u16])
     let from = wide(from).min(walk.len());
     let part = &walk[from..];
     let count = wide(count).min(part.len()).min(out.len());
-    out[..count].copy_from_slice(&part[..count]);
+    // Kept: the C interface. With `copy_from_slice` the archive asks for `memmove` from outside.
+    for i in 0..count {
+        out[i] = part[i];
+    }
 }
 
 // Writes the walk: the stem, and the cycle into the part of the list behind the stem.
