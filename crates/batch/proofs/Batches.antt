@@ -131,14 +131,14 @@ few_none (a ∷ b ∷ c ∷ ns) h = absurd (omega arith)
 pub head_few : (ns : List ℕ) (at : ℕ) → length ns - at < 3 → head_line (drop at ns) ≡ line_for 0 0 0
 head_few ns at h = few_none (drop at ns) (omega (arith, length-drop at ns))
 
-pub numbers_length : (alone : Option BatchLine) (ns : List ℕ) → length (numbers_in alone ns) ≡ end_in alone ns
-numbers_length (Some only) ns = refl
-numbers_length None ns = refl
+pub numbers_length : (alone : Option BatchLine) (ns : List ℕ) (b : Bool) → b ≡ is_some alone → length (numbers_in alone ns) ≡ end_in b ns
+numbers_length (Some only) ns b e = rw e refl
+numbers_length None ns b e = rw e refl
 
 -- a change alone is one line
-pub end_alone : (alone : Option BatchLine) (ns : List ℕ) → is_some alone ≡ true → end_in alone ns ≡ 3
-end_alone (Some only) ns e = refl
-end_alone None ns e = absurd (true≢false (sym e))
+pub end_alone : (alone : Option BatchLine) (ns : List ℕ) (b : Bool) → b ≡ is_some alone → is_some alone ≡ true → end_in b ns ≡ 3
+end_alone (Some only) ns b e h = rw e refl
+end_alone None ns b e h = absurd (true≢false (sym h))
 
 -- a batch's are those of the lent list
 pub head_lent : (alone : Option BatchLine) (ns : List ℕ) (at : ℕ) → alone ≡ None → head_line (drop at (numbers_in alone ns)) ≡ head_line (drop at ns)

@@ -82,9 +82,9 @@ numbers_in (Some only) ns = only.what ∷ only.first ∷ only.second ∷ []
 numbers_in None ns = ns
 
 -- how many they are
-abbrev pub end_in : Option BatchLine → List ℕ → ℕ
-end_in (Some only) ns = 3
-end_in None ns = length ns
+abbrev pub end_in : Bool → List ℕ → ℕ
+end_in true ns = 3
+end_in false ns = length ns
 
 -- ---- trying them
 

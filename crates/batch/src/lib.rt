@@ -133,10 +133,10 @@ pub fn line_at(alone: Option<BatchLine>, lines: &[u16], at: usize) -> BatchLine
 }
 
 // Where the list of a call ends.
-pub fn lines_end(alone: Option<BatchLine>, lines: &[u16]) -> usize
+pub fn lines_end(alone: bool, lines: &[u16]) -> usize
     ensures { result ≡ end_in alone lines.now }
 {
-    if alone.is_some() { LINE } else { lines.len() }
+    if alone { LINE } else { lines.len() }
 }
 
 // Tries the line at a position, and makes its change in the arrays where it is accepted.
@@ -190,7 +190,7 @@ fn attempt_lines(
 ) -> Attempt
     ensures { AttemptedLines (is_some alone) (tried_in 1 (lines_in (numbers_in alone lines.now)) size kinds arrays.old room) result arrays.new }
 {
-    let end = lines_end(alone, lines);
+    let end = lines_end(alone.is_some(), lines);
     let mut at: usize = 0;
     let mut position: u16 = 1;
     // Kept: the place goes by three and the position by one, and `step_by` zipped with a count is no plainer.

@@ -80,7 +80,7 @@ fn join(firsts: &[u16; 512], groups: u16, x: u16) -> u16
 fn scan(rows: &Rows, board: &Board, groups: u16, v: u16, k: u16) -> Scanned
     ensures { result ≡ scanned board.now.number board.now.firsts (drop k (row_of rows.now.targets rows.now.starts v)) k groups }
 {
-    let row = look::row_of(rows, v);
+    let row = look::row_of(&rows.starts, v);
     let mut unused: u16 = 0;
     let mut n = groups;
     for at in row.from + wide(k)..row.stop {
@@ -132,7 +132,7 @@ fn carries_all(
 fn has_loop(rows: &Rows, v: u16) -> bool
     ensures { result ≡ elem v (row_of rows.now.targets rows.now.starts v) }
 {
-    let row = look::row_of(rows, v);
+    let row = look::row_of(&rows.starts, v);
     let mut unused: u16 = 0;
     for e in row.from..row.stop {
         if look::look(&rows.targets, &mut unused, e) % 512 == v {

@@ -9,7 +9,7 @@ ghost use Rattle.layers.specs.Layout.{layered};
 ghost use Rattle.layers.specs.Packed.{Packed, ClearedFrom};
 
 use look::{Layout, STATES, times};
-use rows::{Rows, wide};
+use rows::wide;
 
 // The copy of a state in a layer, which counts from 0.
 pub fn copy_of(size: u16, layer: u16, state: u16) -> usize
@@ -85,16 +85,16 @@ fn base_of(words: &[u64; 8], v: usize, at: usize, size: u16, left: u16) -> u16
 }
 
 // The rows of every copy, layer by layer.
-fn lay_copies(rows: &Rows, words: &[u64; 8], size: u16, above: u16, layout: &mut Layout)
-    requires { layout.old.begins ≡ rows.now.starts }
-    ensures { layout.new ≡ layered size above rows.now.starts words.now }
+fn lay_copies(starts: &[u16; 513], words: &[u64; 8], size: u16, above: u16, layout: &mut Layout)
+    requires { layout.old.begins ≡ starts.now }
+    ensures { layout.new ≡ layered size above starts.now words.now }
 {
     let mut s: usize = 0;
     let mut at: usize = 0;
     let mut left = above;
     for v in 0..STATES {
-        layout.begins[v] = rows.starts[s];
-        layout.ends[v] = rows.starts[s + 1];
+        layout.begins[v] = starts[s];
+        layout.ends[v] = starts[s + 1];
         layout.bases[v] = base_of(words, v, at, size, left);
         s += 1;
         if s == wide(size) {
@@ -108,17 +108,17 @@ fn lay_copies(rows: &Rows, words: &[u64; 8], size: u16, above: u16, layout: &mut
 }
 
 // Where the rows of the layers lie. Those of a game of one kind are its rows as they stand: they begin at the starts, and nothing is added.
-pub fn lay(rows: &Rows, words: &[u64; 8], size: u16, above: u16) -> Layout
-    ensures { result ≡ layered size above rows.now.starts words.now }
+pub fn lay(starts: &[u16; 513], words: &[u64; 8], size: u16, above: u16) -> Layout
+    ensures { result ≡ layered size above starts.now words.now }
 {
     let mut layout = Layout {
-        begins: rows.starts,
+        begins: *starts,
         ends: [0; 512],
         bases: [0; 512],
     };
-    look::lay_ends(&rows.starts, &mut layout.ends);
+    look::lay_ends(starts, &mut layout.ends);
     if above != 0 {
-        lay_copies(rows, words, size, above, &mut layout);
+        lay_copies(starts, words, size, above, &mut layout);
     }
     layout
 }

@@ -7,7 +7,7 @@ ghost use Rattle.rows.specs.Rows.{entries, place_of};
 ghost use Rattle.look.specs.Numbers.{up as upped, further as oneFurther, plus as added};
 ghost use Rattle.look.specs.Scan.{Spans, spanned, ends_of, Stretches, row_laid, Swept};
 
-use rows::{Rows, wide};
+use rows::wide;
 
 // The places of a row: those from one up to another.
 #[derive(Clone, Copy)]
@@ -181,13 +181,13 @@ pub fn look(targets: &[u16; 2048], spent: &mut u16, at: usize) -> u16
 
 // The places of the row of v. One that goes on past the array of targets, or that belongs to a state of 512 or more, counts as empty: no table
 // has such a row. So no turn of a scan has to test where the array ends.
-pub fn row_of(rows: &Rows, v: u16) -> Row
-    ensures { Spans rows.now.starts v result }
+pub fn row_of(starts: &[u16; 513], v: u16) -> Row
+    ensures { Spans starts.now v result }
 {
     let i = wide(v);
     if i < STATES {
-        let from = wide(rows.starts[i]);
-        let stop = wide(rows.starts[i + 1]);
+        let from = wide(starts[i]);
+        let stop = wide(starts[i + 1]);
         if stop <= TARGETS {
             return Row { from, stop };
         }

@@ -4,7 +4,7 @@
 ghost use Rattle.std.specs.Prelude.{◌≡◌};
 ghost use Rattle.question.specs.Replies.{ways_in, ShortIn};
 
-use table::Arrays;
+use rows::Rows;
 
 // What is asked about: the moves that leave and enter a state, or the shortest round.
 #[derive(Clone, Copy)]
@@ -38,14 +38,14 @@ pub enum Reply {
 }
 
 // How many moves leave and enter a state: the one count is between the ends of its row, the other is held.
-pub fn ways(size: u16, arrays: &Arrays, state: u16) -> Reply
-    ensures { result ≡ ways_in state size arrays.now.rows.starts arrays.now.indegree }
+pub fn ways(size: u16, starts: &[u16; 513], indegree: &[u16; 512], state: u16) -> Reply
+    ensures { result ≡ ways_in state size starts.now indegree.now }
 {
     if size <= state {
         return Reply::Refused(6);
     }
-    let leaving = arrays.rows.degree(state);
-    let entering = look::get(&arrays.indegree, state);
+    let leaving = rows::degree(starts, state);
+    let entering = look::get(indegree, state);
     Reply::Degrees {
         state,
         leaving,
@@ -54,8 +54,16 @@ pub fn ways(size: u16, arrays: &Arrays, state: u16) -> Reply
 }
 
 // The shortest round within a budget of looks, where the present one has so many moves, 0 if there is none. Where there is no game, nothing is said of its rounds.
-pub fn short(size: u16, kinds: u16, start: u16, present: u16, arrays: &Arrays, budget: u16) -> Reply
-    ensures { ShortIn budget size kinds start present arrays.now.rows.targets arrays.now.rows.starts arrays.now.words result }
+pub fn short(
+    size: u16,
+    kinds: u16,
+    start: u16,
+    present: u16,
+    rows: &Rows,
+    words: &[u64; 8],
+    budget: u16,
+) -> Reply
+    ensures { ShortIn budget size kinds start present rows.now.targets rows.now.starts words.now result }
 {
     if 1 < kinds {
         return Reply::Refused(17);
@@ -66,7 +74,7 @@ pub fn short(size: u16, kinds: u16, start: u16, present: u16, arrays: &Arrays, b
     if present == 0 {
         return Reply::NoRound;
     }
-    let n = shortest::shorten(&arrays.rows, &arrays.words, size, start, present, budget);
+    let n = shortest::shorten(rows, words, size, start, present, budget);
     Reply::Shortest {
         best: n.best,
         least: n.least,

@@ -8,7 +8,6 @@ ghost use Rattle.resumption.specs.Model.{unexplored_edge, copy_passed_over, pass
 
 use batch::BatchLine;
 use rows::Rows;
-use search::Records;
 use table::Subject;
 
 // The most states that a batch names.
@@ -22,20 +21,21 @@ fn is_unexplored(
     from: u16,
     to: u16,
     rows: &Rows,
-    records: &Records,
+    index: &[u16; 512],
+    walk: &[u16; 512],
     tip: u16,
 ) -> bool
-    ensures { result ≡ unexplored_edge on copy from to rows.now records.now.index records.now.walk tip }
+    ensures { result ≡ unexplored_edge on copy from to rows.now index.now walk.now tip }
 {
-    let i = look::find(&records.walk, tip, copy);
+    let i = look::find(walk, tip, copy);
     if tip <= i {
         return false;
     }
     if on {
         return true;
     }
-    let next = look::get(&records.walk, i + 1);
-    look::get(&records.index, next) < rows.place(from, to)
+    let next = look::get(walk, i + 1);
+    look::get(index, next) < rows.place(from, to)
 }
 
 // Had the search not come to what a line changes, in the layer of one copy: has it never met the copy, or not come to the edge there?
@@ -43,18 +43,20 @@ fn is_copy_passed_over(
     line: BatchLine,
     copy: u16,
     rows: &Rows,
-    records: &Records,
+    number: &[u16; 512],
+    index: &[u16; 512],
+    walk: &[u16; 512],
     height: u16,
 ) -> bool
-    ensures { result ≡ copy_passed_over (op_of (switch_in line)) copy rows.now records.now.number records.now.index records.now.walk height }
+    ensures { result ≡ copy_passed_over (op_of (switch_in line)) copy rows.now number.now index.now walk.now height }
 {
-    if look::get(&records.number, copy) == look::NO_NUMBER {
+    if look::get(number, copy) == look::NO_NUMBER {
         return true;
     }
     let switch = batch::switch_in(line);
     if let Subject::Edge { from, to } = switch.subject {
         let tip = look::down(height);
-        return is_unexplored(switch.on, copy, from, to, rows, records, tip);
+        return is_unexplored(switch.on, copy, from, to, rows, index, walk, tip);
     }
     false
 }
@@ -65,17 +67,19 @@ fn is_passed_over(
     size: u16,
     kinds: u16,
     rows: &Rows,
-    records: &Records,
+    number: &[u16; 512],
+    index: &[u16; 512],
+    walk: &[u16; 512],
     height: u16,
 ) -> bool
-    ensures { result ≡ passed_over_in (line_in line) size kinds rows.now records.now.number records.now.index records.now.walk height }
+    ensures { result ≡ passed_over_in (line_in line) size kinds rows.now number.now index.now walk.now height }
 {
     if !batch::is_change(line) {
         return true;
     }
     let mut copy = batch::named_by(line);
     for layer in 0..kinds {
-        if !is_copy_passed_over(line, copy, rows, records, height) {
+        if !is_copy_passed_over(line, copy, rows, number, index, walk, height) {
             return false;
         }
         copy = look::plus(copy, size);
@@ -90,17 +94,19 @@ fn all_passed_over(
     size: u16,
     kinds: u16,
     rows: &Rows,
-    records: &Records,
+    number: &[u16; 512],
+    index: &[u16; 512],
+    walk: &[u16; 512],
     height: u16,
 ) -> bool
-    ensures { result ≡ all_passed_over (lines_in (numbers_in alone lines.now)) size kinds rows.now records.now.number records.now.index records.now.walk height }
+    ensures { result ≡ all_passed_over (lines_in (numbers_in alone lines.now)) size kinds rows.now number.now index.now walk.now height }
 {
-    let end = batch::lines_end(alone, lines);
+    let end = batch::lines_end(alone.is_some(), lines);
     // Kept: over `step_by` the loop needs a measure too, and the library has no lemma on the places that it comes to.
     let mut at: usize = 0;
     while at < end {
         let line = batch::line_at(alone, lines, at);
-        if !is_passed_over(line, size, kinds, rows, records, height) {
+        if !is_passed_over(line, size, kinds, rows, number, index, walk, height) {
             return false;
         }
         at += batch::LINE;
@@ -113,7 +119,7 @@ fn name_states(alone: Option<BatchLine>, lines: &[u16], states: &mut [u16; NAMED
     requires { length states.old ≡ named_most }
     ensures { (result ≤ named_most) × (length states.new ≡ named_most) × (take result states.new ≡ take named_most (named_in (numbers_in alone lines.now))) }
 {
-    let end = batch::lines_end(alone, lines);
+    let end = batch::lines_end(alone.is_some(), lines);
     // Kept: over `step_by` the loop needs a measure too, and the library has no lemma on the places that it comes to.
     let mut at: usize = 0;
     let mut n: usize = 0;
@@ -170,21 +176,24 @@ fn earliest(states: &[u16], size: u16, kinds: u16, number: &[u16; 512]) -> Optio
 }
 
 // Where the search is taken up for a call: where the state was discovered that this gives, or nowhere, since it had not come to what the call alters.
+// Kept: three arrays and no `Records`, here and in what it calls: of the other three nothing is read, and who asks need not hold them.
 pub fn where_to_resume(
     alone: Option<BatchLine>,
     lines: &[u16],
     size: u16,
     kinds: u16,
     rows: &Rows,
-    records: &Records,
+    number: &[u16; 512],
+    index: &[u16; 512],
+    walk: &[u16; 512],
     height: u16,
 ) -> Option<u16>
-    ensures { result ≡ resumption_of size kinds (numbers_in alone lines.now) rows.now records.now.number records.now.index records.now.walk height }
+    ensures { result ≡ resumption_of size kinds (numbers_in alone lines.now) rows.now number.now index.now walk.now height }
 {
-    if all_passed_over(alone, lines, size, kinds, rows, records, height) {
+    if all_passed_over(alone, lines, size, kinds, rows, number, index, walk, height) {
         return None;
     }
     let mut states: [u16; NAMED] = [0; NAMED];
     let n = name_states(alone, lines, &mut states);
-    earliest(&states[..n], size, kinds, &records.number)
+    earliest(&states[..n], size, kinds, number)
 }

@@ -75,28 +75,50 @@ fn move_starts(starts: &mut [u16; STARTS], from: usize, last: usize, up: bool)
     }
 }
 
+// Where the row of v starts; 0 past the last.
+// Kept: functions of the starts, this and the next two, beside the methods of `Rows`: who asks need not hold the targets.
+pub fn start_of(starts: &[u16; STARTS], v: usize) -> u16
+    ensures { result ≡ get_or starts.now v 0 }
+{
+    if v < STARTS { starts[v] } else { 0 }
+}
+
+// The count of all edges: where the rows of the states below size end.
+pub fn edge_count(starts: &[u16; STARTS], size: u16) -> u16
+    ensures { result ≡ edge_count starts.now size }
+{
+    start_of(starts, wide(size))
+}
+
+// The count of edges that leave v.
+pub fn degree(starts: &[u16; STARTS], v: u16) -> u16
+    ensures { result ≡ degree_at starts.now v }
+{
+    let from = start_of(starts, wide(v));
+    let to = start_of(starts, wide(v) + 1);
+    to.saturating_sub(from)
+}
+
 impl Rows {
-    // Where the row of v starts; 0 past the last.
+    // Where the row of v starts, of these rows; 0 past the last.
     pub fn start_of(&self, v: usize) -> u16
         ensures { result ≡ get_or self.now.starts v 0 }
     {
-        if v < STARTS { self.starts[v] } else { 0 }
+        start_of(&self.starts, v)
     }
 
-    // The count of all edges: where the rows of the states below size end.
+    // The count of all edges, of these rows.
     pub fn edge_count(&self, size: u16) -> u16
         ensures { result ≡ edge_count self.now.starts size }
     {
-        self.start_of(wide(size))
+        edge_count(&self.starts, size)
     }
 
-    // The count of edges that leave v.
+    // The count of edges that leave v, of these rows.
     pub fn degree(&self, v: u16) -> u16
         ensures { result ≡ degree_at self.now.starts v }
     {
-        let from = self.start_of(wide(v));
-        let to = self.start_of(wide(v) + 1);
-        to.saturating_sub(from)
+        degree(&self.starts, v)
     }
 
     // The target of edge k of v; 0 where there is none.

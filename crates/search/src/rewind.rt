@@ -49,15 +49,21 @@ pub fn retrace(records: &mut Records, trail: &mut Trail, s: u16, height: u16)
     }
 }
 
-// The records of a search that has discovered only the start state, whatever they held; the walk stays as it is. `resume` at the start state makes that search.
-pub fn begin(records: &mut Records, start: u16)
-    ensures fresh { Fresh start records.new.number records.new.parent records.new.index records.new.probes records.new.stamp }
-    ensures walk_kept { records.new.walk ≡ records.old.walk }
+// The records of a search that has discovered only the start state, whatever they held. The walk is none of them: it is written before it is read. `resume` at the start state makes that search.
+pub fn begin(
+    number: &mut [u16; 512],
+    parent: &mut [u16; 512],
+    index: &mut [u16; 512],
+    probes: &mut [u16; 512],
+    stamp: &mut [u16; 512],
+    start: u16,
+)
+    ensures { Fresh start number.new parent.new index.new probes.new stamp.new }
 {
-    fill(&mut records.number, NO_NUMBER);
-    put(&mut records.number, start, 0);
-    fill(&mut records.parent, start);
-    fill(&mut records.index, 0);
-    fill(&mut records.probes, 0);
-    fill(&mut records.stamp, NO_NUMBER);
+    fill(number, NO_NUMBER);
+    put(number, start, 0);
+    fill(parent, start);
+    fill(index, 0);
+    fill(probes, 0);
+    fill(stamp, NO_NUMBER);
 }

@@ -101,7 +101,7 @@ fn seek(
     match from {
         None => old,
         Some(s) => {
-            let layout = layers::lay(&arrays.rows, &arrays.words, size, look::down(kinds));
+            let layout = layers::lay(&arrays.rows.starts, &arrays.words, size, look::down(kinds));
             let mut spent: u16 = 0;
             let game = look::Game {
                 targets: &arrays.rows.targets,
@@ -224,7 +224,14 @@ fn search_afresh(
 ) -> Settled
     ensures { SettlesAfresh size kinds (game_in size kinds arrays.now) start records.old.walk lent.old result records.new lent.new }
 {
-    search::begin(records, start);
+    search::begin(
+        &mut records.number,
+        &mut records.parent,
+        &mut records.index,
+        &mut records.probes,
+        &mut records.stamp,
+        start,
+    );
     settle(
         arrays,
         records,
@@ -300,7 +307,9 @@ fn update_in(
         size,
         kinds,
         &arrays.rows,
-        records,
+        &records.number,
+        &records.index,
+        &records.walk,
         old.height,
     );
     let room = lent.len();
@@ -333,7 +342,7 @@ fn set_kinds_in(
         new,
         size,
         kinds,
-        &arrays.rows,
+        &arrays.rows.starts,
         &mut arrays.words,
         lent.len(),
     );
@@ -436,20 +445,27 @@ pub fn update(s: Session, command: Command, lines: &[u16], lent: &mut [u16]) -> 
     out
 }
 
-// A question on a session. It changes nothing and lends no list.
+// A question on a session. It changes nothing and lends no list. Of the session's arrays those are taken out that its topic reads, so that the rest is not copied.
 pub fn ask(s: Session, question: Question) -> Reply
     ensures { Replies (question_of question) s result }
 {
     match question.topic {
-        Topic::Ways => question::ways(s.size, &s.arrays, question.number),
+        Topic::Ways => {
+            let starts = s.arrays.rows.starts;
+            let indegree = s.arrays.indegree;
+            question::ways(s.size, &starts, &indegree, question.number)
+        }
         Topic::Short => {
+            let rows = s.arrays.rows;
+            let words = s.arrays.words;
             let present = look::minus(s.length, s.stem);
             question::short(
                 s.size,
                 s.kinds,
                 s.start,
                 present,
-                &s.arrays,
+                &rows,
+                &words,
                 question.number,
             )
         }

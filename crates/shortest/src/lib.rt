@@ -67,7 +67,7 @@ fn note(board: &mut Board, tail: u16, t: u16) -> u16
 fn look_through(rows: &Rows, board: &mut Board, budget: u16, goal: u16, v: u16, begin: u16) -> Swept
     ensures { LooksThrough rows.now.targets rows.now.starts budget goal v board.old begin board.new result }
 {
-    let row = look::row_of(rows, v);
+    let row = look::row_of(&rows.starts, v);
     let mut tail = begin;
     for e in row.from..row.stop {
         if budget <= board.spent {

@@ -376,13 +376,13 @@ pub fn attempt_change(
 }
 
 // Refusals 16 and 11 of another count of kinds, and ahead of them that there is a game.
-fn kinds_trial(new: u16, size: u16, rows: &Rows, room: usize) -> Trial
-    ensures { result ≡ tried (kinds_trial_in new size rows.now.starts room) }
+fn kinds_trial(new: u16, size: u16, starts: &[u16; 513], room: usize) -> Trial
+    ensures { result ≡ tried (kinds_trial_in new size starts.now room) }
 {
     if size == 0 {
         return Trial::Refused(2);
     }
-    if kinds_outside(new, size, wide(rows.edge_count(size))) {
+    if kinds_outside(new, size, wide(rows::edge_count(starts, size))) {
         return Trial::Refused(16);
     }
     room_trial(size, new, room)
@@ -393,13 +393,13 @@ pub fn attempt_kinds(
     new: u16,
     size: u16,
     kinds: u16,
-    rows: &Rows,
+    starts: &[u16; 513],
     words: &mut [u64; 8],
     room: usize,
 ) -> Trial
-    ensures { AttemptedKinds new size kinds room rows.now.starts words.old result words.new }
+    ensures { AttemptedKinds new size kinds room starts.now words.old result words.new }
 {
-    let trial = kinds_trial(new, size, rows, room);
+    let trial = kinds_trial(new, size, starts, room);
     if let Trial::Refused(n) = trial {
         return Trial::Refused(n);
     }

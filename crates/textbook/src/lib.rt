@@ -135,7 +135,7 @@ fn visit_start(
 ) -> Option<Walk>
     ensures { Begun (ReadsAll rows.now.targets (layered size above rows.now.starts words.now) size words.now) start board.old.walk board.old.spent board.new.walk board.new.spent result }
 {
-    let layout = layers::lay(rows, words, size, above);
+    let layout = layers::lay(&rows.starts, words, size, above);
     board.met = [false; 512];
     board.marked = [false; 512];
     let game = Game {

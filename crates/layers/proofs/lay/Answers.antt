@@ -7,7 +7,7 @@ use Rattle.layers.proofs.lay.Goals as goal
 
 pub returns-else-above-ne0 : goal.returns-else-above-ne0
 returns-else-above-ne0 c = let a = c.args in
-    let starts_size : length a.rows.now.starts ≡ 513 = search rules in
-    (λ i. layout_of a.rows.now.starts (c.lay_ends.ensures i) (replicate 512 0))
-    ∙ laid_one a.size a.rows.now.starts a.words.now starts_size
-    ∙ ap (λ (m : ℕ). layered a.size m a.rows.now.starts a.words.now) (sym c.if-above-ne0.false)
+    let starts_size : length a.starts.now ≡ 513 = search rules in
+    (λ i. layout_of a.starts.now (c.lay_ends.ensures i) (replicate 512 0))
+    ∙ laid_one a.size a.starts.now a.words.now starts_size
+    ∙ ap (λ (m : ℕ). layered a.size m a.starts.now a.words.now) (sym c.if-above-ne0.false)

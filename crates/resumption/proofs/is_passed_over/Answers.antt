@@ -14,19 +14,19 @@ returns-then-not-is_change c = sym (passed_other c.args.line _ _ _ _ _ _ _ (sym 
 pub loop-layer-init : goal.loop-layer-init
 loop-layer-init c = let a = c.args in
     let e : a.kinds - 0 ≡ a.kinds = omega arith in
-    rw e (ap (λ (s : ℕ). all (at_copy a.line a.rows.now a.records.now a.height) (copies_up a.size a.kinds s)) c.named_by-copy.ensures
+    rw e (ap (λ (s : ℕ). all (at_copy a.line a.rows.now a.number.now a.index.now a.walk.now a.height) (copies_up a.size a.kinds s)) c.named_by-copy.ensures
     ∙ sym (passed_copies a.line _ _ _ _ _ _ _ (sym c.is_change.ensures ∙ c.if-not-is_change.false)))
 
 pub returns-then-not-is_copy_passed_over : goal.returns-then-not-is_copy_passed_over
 returns-then-not-is_copy_passed_over c = let l = c.loop-layer in
     let a = c.args in
-    sym (copies_stop (at_copy a.line a.rows.now a.records.now a.height) a.size l.copy (a.kinds - l.layer) (omega arith) (sym c.is_copy_passed_over.ensures ∙ c.if-not-is_copy_passed_over.true))
+    sym (copies_stop (at_copy a.line a.rows.now a.number.now a.index.now a.walk.now a.height) a.size l.copy (a.kinds - l.layer) (omega arith) (sym c.is_copy_passed_over.ensures ∙ c.if-not-is_copy_passed_over.true))
     ∙ l.invariant
 
 pub loop-layer-preserved : goal.loop-layer-preserved
 loop-layer-preserved c = let l = c.loop-layer in
     let a = c.args in
-    let f = at_copy a.line a.rows.now a.records.now a.height in
+    let f = at_copy a.line a.rows.now a.number.now a.index.now a.walk.now a.height in
     let e : a.kinds - (l.layer + 1) ≡ a.kinds - l.layer - 1 = omega arith in
     rw e (ap (λ (v : ℕ). all f (copies_up a.size (a.kinds - l.layer - 1) v)) c.plus-copy.ensures
     ∙ copies_on f a.size l.copy (a.kinds - l.layer) (omega arith) (sym c.is_copy_passed_over.ensures ∙ c.if-not-is_copy_passed_over.false) ∙ l.invariant)
@@ -34,4 +34,4 @@ loop-layer-preserved c = let l = c.loop-layer in
 pub returns : goal.returns
 returns c = let l = c.loop-layer in
     let a = c.args in
-    sym (copies_end (at_copy a.line a.rows.now a.records.now a.height) a.size l.copy (a.kinds - l.layer) (omega arith)) ∙ l.invariant
+    sym (copies_end (at_copy a.line a.rows.now a.number.now a.index.now a.walk.now a.height) a.size l.copy (a.kinds - l.layer) (omega arith)) ∙ l.invariant

@@ -15,21 +15,21 @@ use Rattle.resumption.proofs.is_unexplored.Goals as goal
 -- not below the tip
 pub returns-then-tip-i : goal.returns-then-tip-i
 returns-then-tip-i c = let a = c.args in
-    sym (edge_off a.copy a.from a.to a.rows.now a.records.now.index a.records.now.walk a.tip a.on
-    (le-ltb (place_of a.copy (entries a.tip 0 a.records.now.walk)) a.tip (omega (arith, c.find-i.ensures, c.if-tip-i.true))))
+    sym (edge_off a.copy a.from a.to a.rows.now a.index.now a.walk.now a.tip a.on
+    (le-ltb (place_of a.copy (entries a.tip 0 a.walk.now)) a.tip (omega (arith, c.find-i.ensures, c.if-tip-i.true))))
 
 -- an edge that comes
 pub returns-then-on : goal.returns-then-on
 returns-then-on c = let a = c.args in
-    sym (ap (λ (b : Bool). unexplored_edge b a.copy a.from a.to a.rows.now a.records.now.index a.records.now.walk a.tip) c.if-on.true
-    ∙ edge_comes a.copy a.from a.to a.rows.now a.records.now.index a.records.now.walk a.tip (lt-ltb (place_of a.copy (entries a.tip 0 a.records.now.walk)) a.tip (omega (arith, c.find-i.ensures, c.if-tip-i.false))))
+    sym (ap (λ (b : Bool). unexplored_edge b a.copy a.from a.to a.rows.now a.index.now a.walk.now a.tip) c.if-on.true
+    ∙ edge_comes a.copy a.from a.to a.rows.now a.index.now a.walk.now a.tip (lt-ltb (place_of a.copy (entries a.tip 0 a.walk.now)) a.tip (omega (arith, c.find-i.ensures, c.if-tip-i.false))))
 
 -- an edge that goes
 pub returns : goal.returns
 returns c = let a = c.args in
-    let i = place_of a.copy (entries a.tip 0 a.records.now.walk) in
-    let next : c.get-next.result ≡ get_or a.records.now.walk (suc i) 0 = c.get-next.ensures ∙ ap (λ (n : ℕ). get_or a.records.now.walk n 0) (add-one c.find-i.result ∙ ap suc c.find-i.ensures) in
-    let last : c.get.result ≡ get_or a.records.now.index (get_or a.records.now.walk (suc i) 0) 0 = c.get.ensures ∙ ap (λ (n : ℕ). get_or a.records.now.index n 0) next in
+    let i = place_of a.copy (entries a.tip 0 a.walk.now) in
+    let next : c.get-next.result ≡ get_or a.walk.now (suc i) 0 = c.get-next.ensures ∙ ap (λ (n : ℕ). get_or a.walk.now n 0) (add-one c.find-i.result ∙ ap suc c.find-i.ensures) in
+    let last : c.get.result ≡ get_or a.index.now (get_or a.walk.now (suc i) 0) 0 = c.get.ensures ∙ ap (λ (n : ℕ). get_or a.index.now n 0) next in
     (λ k. ltb (last k) (c.place.ensures k))
-    ∙ sym (ap (λ (x : Bool). unexplored_edge x a.copy a.from a.to a.rows.now a.records.now.index a.records.now.walk a.tip) c.if-on.false
-    ∙ edge_goes a.copy a.from a.to a.rows.now a.records.now.index a.records.now.walk a.tip (lt-ltb i a.tip (omega (arith, c.find-i.ensures, c.if-tip-i.false))))
+    ∙ sym (ap (λ (x : Bool). unexplored_edge x a.copy a.from a.to a.rows.now a.index.now a.walk.now a.tip) c.if-on.false
+    ∙ edge_goes a.copy a.from a.to a.rows.now a.index.now a.walk.now a.tip (lt-ltb i a.tip (omega (arith, c.find-i.ensures, c.if-tip-i.false))))

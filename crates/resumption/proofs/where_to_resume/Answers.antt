@@ -11,5 +11,5 @@ returns-then-all_passed_over c = sym (resumption_nowhere _ _ _ _ _ _ _ _ (sym c.
 
 pub returns : goal.returns
 returns c = let a = c.args in
-    c.earliest.ensures ∙ ap (λ (l : List ℕ). earliest_of (copies_up_all a.size a.kinds l) a.records.now.number) c.name_states-n.ensures.2
+    c.earliest.ensures ∙ ap (λ (l : List ℕ). earliest_of (copies_up_all a.size a.kinds l) a.number.now) c.name_states-n.ensures.2
     ∙ sym (resumption_earliest _ _ _ _ _ _ _ _ (sym c.all_passed_over.ensures ∙ c.if-all_passed_over.false))

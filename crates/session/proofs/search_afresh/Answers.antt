@@ -1,6 +1,7 @@
 -- `search_afresh` meets its contract: the search is begun, and settled from there. Assumes nothing.
+use mathlib.Core.Path.{refl}
 use Rattle.session.proofs.Afresh.{settles_fresh}
 use Rattle.session.proofs.search_afresh.Goals as goal
 
 pub returns : goal.returns
-returns c = settles_fresh c.begin.ensures.fresh c.begin.ensures.walk_kept c.no_verdict.ensures c.settle.ensures
+returns c = settles_fresh c.begin.ensures refl c.no_verdict.ensures c.settle.ensures

@@ -13,7 +13,7 @@ unfolding kinds_trial_in
 returns-then-size-eq0 c = stop 2 _ _ (eq-eqb _ 0 c.if-size-eq0.true)
 
 -- the moves are those that the rows count
-asked : (c : After-kinds_outside) → let a = c.args in bad_kinds a.new a.size (edge_count a.rows.now.starts a.size) ≡ c.kinds_outside.result
+asked : (c : After-kinds_outside) → let a = c.args in bad_kinds a.new a.size (edge_count a.starts.now a.size) ≡ c.kinds_outside.result
 asked c =
     let a = c.args in
     ap (bad_kinds a.new a.size) (sym (c.wide.ensures.0 ∙ c.edge_count.ensures)) ∙ sym c.kinds_outside.ensures
