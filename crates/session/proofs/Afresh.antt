@@ -28,12 +28,12 @@ use Rattle.verdict.specs.Answers.{WalkOf, Answered}
 use Rattle.session.proofs.Sought.{matches, states_are, starts_at, Reached, reached}
 
 -- what settling leaves, from fresh records
-pub settles_fresh : {size kinds : ℕ} {g : Game} {start : ℕ} {from : Option ℕ} {old : Verdict} {b : Records} {walk lent : List ℕ} {r : Settled} {a : Records} {lent' : List ℕ}
-    → Fresh start b.number b.parent b.index b.probes b.stamp → b.walk ≡ walk → old ≡ no_verdict
-    → Settles size kinds g start from old b lent r a lent' → Settles size kinds g start from no_verdict (fresh_from start walk) lent r a lent'
-settles_fresh {size = size} {kinds = kinds} {g = g} {start = start} {from = from} {lent = lent} {r = r} {a = a} {lent' = lent'} f kept e w =
+pub settles_fresh : {size kinds : ℕ} {g : Game} {start : ℕ} {from : Option ℕ} {old : Verdict} {b : Records} {lent : List ℕ} {r : Settled} {a : Records} {lent' : List ℕ}
+    → Fresh start b.number b.parent b.index b.probes b.stamp → old ≡ no_verdict
+    → Settles size kinds g start from old b lent r a lent' → Settles size kinds g start from no_verdict (fresh_from start b.walk) lent r a lent'
+settles_fresh {size = size} {kinds = kinds} {g = g} {start = start} {from = from} {b = b} {lent = lent} {r = r} {a = a} {lent' = lent'} f e w =
     subst (λ (x : Verdict × Records). Settles size kinds g start from x.0 x.1 lent r a lent')
-    (λ i. (e i, records_of (f.number_is i) (f.parent_is i) (f.index_is i) (f.probes_is i) (f.stamp_is i) (kept i))) w
+    (λ i. (e i, records_of (f.number_is i) (f.parent_is i) (f.index_is i) (f.probes_is i) (f.stamp_is i) b.walk)) w
 
 module _ (t : Table) (arises : Arises t) (b : Arrays) (stored : Stored t b) (walk lent lent' : List ℕ) (a : Records) (r : Settled) (walk_size : length walk ≡ 512)
     (roomy : t.size * t.kinds ≤ length lent) (settles : SettlesAfresh t.size t.kinds (game_in t.size t.kinds b) t.start walk lent r a lent') where

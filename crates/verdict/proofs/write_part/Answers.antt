@@ -1,8 +1,7 @@
 -- `write_part` meets its contract: the first i entries are written. Assumes nothing.
-use Rattle.std.proofs.Common.{rules, ◌≡◌, ◌∙◌, sym, ap, ◌+◌, ◌-◌, ◌≤◌, ◌<◌, suc, arith, length}
-use lib.ListN.{set, get_or}
+use Rattle.std.proofs.Common.{rules, ◌≡◌, ◌∙◌, ◌+◌, ◌-◌, suc, arith, length}
 use borrow.Rule.Slice.PartMut.{mid_of}
-use Rattle.verdict.proofs.Writing.{over, written_one, written_part}
+use Rattle.verdict.proofs.Writing.{written_one, written_part}
 use Rattle.verdict.proofs.write_part.Goals as goal
 
 pub loop-i-preserved : goal.loop-i-preserved
